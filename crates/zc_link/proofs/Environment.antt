@@ -4,12 +4,14 @@ use Rattle.std.specs.Option.{option_map_or}
 use Rattle.std.proofs.Common.{◌≡◌, ℕ, zero, suc, ◌+◌, ◌%◌, ◌^◌, ◌<◌, List, [], ◌∷◌, ◌++◌, length, map, min, take, drop, Option, Some, None, Ok, Bool, true, false, cond, refl, sym, ap, ◌∙◌, subst, inl, inr, arith, eqb}
 use Rattle.std.specs.Prelude.{◌||◌, ◌⊎◌}
 use Rattle.std.proofs.lemmas.Bool.{cond-true, eq-eqb, eqb-true, or_left, or_right}
+use Rattle.std.proofs.lemmas.Option.{same_Some}
 use Rattle.zc_base.specs.declared.place.Place.{Place}
 use Rattle.interrupt_plan.specs.Plan.{Interrupt}
 use Rattle.rv_decode.specs.declared.instr.Instr.TheVariants.{Ecall}
 use Rattle.rv_decode.specs.Memory.{extents_of, is_data, lies_in}
 use Rattle.rv_decode.specs.State.{Event, Exit, Read, Write, ZcCore, ZcState, reg_in}
 use Rattle.sym_machine.specs.declared.arguments.Arguments.{Arguments}
+use Rattle.sym_machine.specs.declared.why.Why.{Why}
 use Rattle.sym_machine.specs.declared.why.Why.TheVariants.{ArgumentUnknown, BadAddress, UnknownCall}
 use Rattle.sym_machine.specs.declared.word.SymByte.TheVariants.{Num}
 use Rattle.sym_machine.specs.Change.{Change, Does, Goes, Stops, arguments_of, call_does, exit_does, sets, is_buffer, is_output, numbers_at, continues, read_does, with_buffer, write_does}
@@ -38,6 +40,16 @@ use Rattle.zc_link.proofs.Ready.{ready_fed, ready_moved, ready_set}
 use Rattle.zc_link.proofs.Singles.{FromSound, below_top}
 use Rattle.zc_link.proofs.Words.{number_is, number_names, number_stands}
 use Rattle.zc_link.proofs.Writes.{ready_changed}
+
+-- what a step comes to
+goes_same : (a b : Change) → Goes a ≡ Goes b → a ≡ b
+goes_same a b h = cc
+
+stops_not : {why : Why} {c : Change} → Stops why ≡ Goes c → ⊥
+stops_not h = cc
+
+none_some : {X : Type 0} {x : X} → None ≡ Some x → ⊥
+none_some h = cc
 
 module _
     {p : Program} {Named : Place → Type 0} {e : Image} {r r' : PlainState} {cuts : ℕ → List Interrupt} {z : ZcState} (room : Room p e) (from : FromSound p Named e r r' cuts z)
@@ -85,9 +97,9 @@ module _
   wants_exit a0 a7 is = cond-true (eqb (reg_in w.now 17) 93) _ _ (eq-eqb (reg_in w.now 17) 93 a7) ∙ ap (λ n. Wants (call.Exit (n % 256))) (sym is)
 
   exit_comes : (o : Option ℕ) → number_of (reg_of r.core 10) ≡ o → reg_in w.now 17 ≡ 93 → exit_does o r.core.place ≡ Goes from.step.change → Comes p Named e cuts 1 z r'
-  exit_comes None is a7 h = absurd cc
+  exit_comes None is a7 h = absurd (stops_not h)
   exit_comes (Some a0) is a7 h =
-      let made : exit_change (a0 % 256) ≡ from.step.change = cc in
+      let made = goes_same (exit_change (a0 % 256)) from.step.change h in
       exit_over (a0 % 256) (wants_exit a0 a7 (holds 10 a0 (omega arith) is))
       (subst (λ c. Ended p.map (after_change c r.core) r'.core) (sym made) from.step.end)
       (from.step.events ∙ ap (λ (c : Change). r.events ++ c.events) (sym made))
@@ -130,18 +142,19 @@ module _
   are_held :
       (o0 o1 o2 : Option ℕ) (c : Arguments) → number_of (reg_of r.core 10) ≡ o0 → number_of (reg_of r.core 11) ≡ o1 → number_of (reg_of r.core 12) ≡ o2
       → arguments_of o0 o1 o2 ≡ Some c → AreHeld c
-  are_held None o1 o2 c is0 is1 is2 h = absurd cc
-  are_held (Some a0) o1 None c is0 is1 is2 h = absurd cc
+  are_held None o1 o2 c is0 is1 is2 h = absurd (none_some h)
+  are_held (Some a0) None None c is0 is1 is2 h = absurd (none_some h)
+  are_held (Some a0) (Some at) None c is0 is1 is2 h = absurd (none_some h)
   are_held (Some a0) (Some at) (Some len) c is0 is1 is2 h =
-      let same : record { a0 = a0; at = at; len = len } ≡ c = cc in
+      let same = same_Some (record { a0 = a0; at = at; len = len }) c h in
       subst AreHeld same (record { a0 = holds 10 a0 (omega arith) is0; len = holds 12 len (omega arith) is2; at = inr (holds 11 at (omega arith) is1) })
   are_held (Some a0) None (Some len) c is0 is1 is2 h = by (eqb len 0) refl h
     where
       by : (b : Bool) → eqb len 0 ≡ b → cond b (Some (record { a0 = a0; at = 0; len = 0 })) None ≡ Some c → AreHeld c
       by true none g =
-          let same : record { a0 = a0; at = 0; len = 0 } ≡ c = cc in
+          let same = same_Some (record { a0 = a0; at = 0; len = 0 }) c g in
           subst AreHeld same (record { a0 = holds 10 a0 (omega arith) is0; len = sym (eqb-true len 0 none) ∙ holds 12 len (omega arith) is2; at = inl refl })
-      by false some g = absurd cc
+      by false some g = absurd (none_some g)
 
   -- what is known of a call with a buffer that goes on
   record HasBuffer (known : ℕ → Bool) (go : Arguments → Does) : Type 0 where
@@ -167,13 +180,13 @@ module _
           (c : Arguments) (k b : Bool) → AreHeld c → known c.a0 ≡ k → is_buffer r.core c ≡ b
           → cond k (cond b (go c) (Stops BadAddress)) (Stops UnknownCall) ≡ Goes from.step.change → HasBuffer known go
       tested c true true held k b g = record { arguments = c; held = held; does = g; is_known = k; buffer = place_of c held b }
-      tested c true false held k b g = absurd cc
-      tested c false b held k lies g = absurd cc
+      tested c true false held k b g = absurd (stops_not g)
+      tested c false b held k lies g = absurd (stops_not g)
 
       by_arguments :
           (o : Option Arguments) → arguments_of (number_of (reg_of r.core 10)) (number_of (reg_of r.core 11)) (number_of (reg_of r.core 12)) ≡ o
           → option_map_or (λ c. cond (known c.a0) (cond (is_buffer r.core c) (go c) (Stops BadAddress)) (Stops UnknownCall)) o (Stops ArgumentUnknown) ≡ Goes from.step.change → HasBuffer known go
-      by_arguments None is g = absurd cc
+      by_arguments None is g = absurd (stops_not g)
       by_arguments (Some c) is g = tested c (known c.a0) (is_buffer r.core c) (are_held _ _ _ c refl refl refl is) refl refl g
 
   -- the machine finds the buffer too
@@ -204,7 +217,7 @@ module _
       let bytes = take n s.input in
       let t = taken_bytes a.len s.input z.input from.sound.input in
       let c : Change = record (continues (p.next s.place)) { writes = (10, number_word n) ∷ []; stores = (a.at, map Num bytes) ∷ []; taken = n; events = Read bytes ∷ [] } in
-      let made : c ≡ from.step.change = (let d = b.does in cc) in
+      let made = goes_same c from.step.change b.does in
       let core = has_read bytes w.now in
       let low : n < 2 ^ 32 = omega (arith, w.alike.core.words 12, b.held.len) in
       let number : WordStands (value_in p e.address) (number_word n) (length bytes) = subst (WordStands (value_in p e.address) (number_word n)) (sym t.count) (number_stands (value_in p e.address) n) in
@@ -228,11 +241,11 @@ module _
     where
       by : (a : Arguments) → AreHeld a → is_output a.a0 ≡ true → IsBuffer p a.at (reg_in w.now 11) a.len → (o : Option (List ℕ)) → numbers_at r.core.memory a.at a.len ≡ o
           → option_map_or (λ bytes. Goes (record (sets 10 (number_word a.len) (p.next r.core.place)) { events = Write a.a0 bytes ∷ [] })) o (Stops ArgumentUnknown) ≡ Goes from.step.change → Comes p Named e cuts 1 z r'
-      by a held known buffer None is g = absurd cc
+      by a held known buffer None is g = absurd (stops_not g)
       by a held known buffer (Some bytes) is g =
           let V = value_in p e.address in
           let c : Change = record (sets 10 (number_word a.len) (p.next r.core.place)) { events = Write a.a0 bytes ∷ [] } in
-          let made : c ≡ from.step.change = cc in
+          let made = goes_same c from.step.change g in
           let same : bytes ≡ bytes_at w.now (reg_in w.now 11) a.len = numbers_are room w.alike.ready a.at (reg_in w.now 11) a.len bytes buffer is in
           let number : WordStands V (number_word a.len) (reg_in w.now 12) = subst (λ n. WordStands V (number_word n) (reg_in w.now 12)) (sym held.len) (number_stands V (reg_in w.now 12)) in
           let ready = ready_moved (ready_set w.alike.ready 10 (reg_in w.now 12) (number_word a.len) (w.alike.core.words 12) number (number_names Named a.len)) (p.next r.core.place) _ _ in
@@ -253,8 +266,8 @@ module _
       by_number a7 true y v is exit read write g = exit_comes (number_of (reg_of r.core 10)) refl (sym is ∙ eqb-true a7 93 exit) g
       by_number a7 false true v is exit read write g = read_comes (sym is ∙ eqb-true a7 63 read) g
       by_number a7 false false true is exit read write g = write_comes (sym is ∙ eqb-true a7 64 write) g
-      by_number a7 false false false is exit read write g = absurd cc
+      by_number a7 false false false is exit read write g = absurd (stops_not g)
 
       known : (o : Option ℕ) → number_of (reg_of r.core 17) ≡ o → call_does o r.core (p.next r.core.place) ≡ Goes from.step.change → Comes p Named e cuts 1 z r'
-      known None is g = absurd cc
+      known None is g = absurd (stops_not g)
       known (Some a7) is g = by_number a7 (eqb a7 93) (eqb a7 63) (eqb a7 64) (holds 17 a7 (omega arith) is) refl refl refl g

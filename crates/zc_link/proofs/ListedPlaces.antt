@@ -1,5 +1,5 @@
 -- The list of places as a file holds it: it is short, it ascends, and its numbers have room.
-use Rattle.std.proofs.Common.{◌≡◌, ℕ, ◌+◌, ◌*◌, ◌<◌, ◌≤◌, List, [], ◌∷◌, ◌++◌, map, length, ◌⊎◌, inl, inr, Option, Bool, true, false, cond, nat_lt, refl, ap, ◌∙◌, arith, length-append, eqb}
+use Rattle.std.proofs.Common.{◌≡◌, ℕ, ◌+◌, ◌*◌, ◌<◌, ◌≤◌, List, [], ◌∷◌, ◌++◌, map, length, ◌⊎◌, inl, inr, Option, Bool, true, false, cond, nat_lt, refl, ap, arith, length-append, eqb}
 use Rattle.std.specs.Prelude.{All, Some, None}
 use Rattle.std.specs.List.{flat_map, list_any}
 use Rattle.std.specs.Option.{is_some, option_map, option_to_list}

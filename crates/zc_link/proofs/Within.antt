@@ -1,11 +1,12 @@
 -- Words of data lie among the bytes that files hold: sections with content stand in the classes that come first.
 use Rattle.std.proofs.Common.{◌≡◌, ℕ, ◌+◌, ◌≤◌, List, [], ◌∷◌, ◌++◌, map, filter, Option, Some, None, Bool, true, false, cond, eqb, ltb, refl, sym, ap, ◌∙◌, subst, arith}
-use Rattle.std.specs.Prelude.{All, ◌&&◌, ◌||◌, not, slice_get}
+use Rattle.std.specs.Prelude.{All, ℤ, ◌&&◌, ◌||◌, not, slice_get}
 use Rattle.std.specs.List.{flat_map, list_any}
 use Rattle.std.specs.Option.{option_and_then, option_map_or}
 use Rattle.std.proofs.lemmas.Bool.{ltb-false, or_left, or_parts, or_right}
 use Rattle.std.proofs.lemmas.List.{map-append}
 use Rattle.std.proofs.lemmas.List.Elements.{All-append, All-cons, All-head, All-nil, All-tail, filter-append}
+use Rattle.std.proofs.lemmas.Option.{same_Some}
 use Rattle.elf32_read.specs.Kept.{has_flags}
 use Rattle.elf32_read.specs.Parts.{ObjectParts, SectionParts, is_code_section, is_kept_section}
 use Rattle.elf32_read.specs.declared.reloc.Reloc.{Reloc}
@@ -13,24 +14,28 @@ use Rattle.psabi_reloc.specs.Kinds.{field_length, kind_of}
 use Rattle.psabi_reloc.specs.declared.kind.RelocKind.{RelocKind}
 use Rattle.psabi_reloc.specs.declared.kind.RelocKind.TheVariants as kind
 use Rattle.psabi_sym.specs.Blocks.{aligned_up, end_from}
-use Rattle.psabi_sym.specs.Data.{address_in, blocks_in, blocks_of, class_end, class_start, data_address, data_file_end, has_class, is_of_class, role_address, role_of, section_block}
+use Rattle.psabi_sym.specs.Classes.{same_class}
+use Rattle.psabi_sym.specs.Data.{address_in, blocks_in, blocks_of, class_end, class_of, class_start, data_address, data_file_end, has_class, is_of_class, role_address, role_of, section_block}
 use Rattle.psabi_sym.specs.Faults.{first_some}
 use Rattle.psabi_sym.specs.Inputs.{Inputs, ParsedInputs, parsed}
 use Rattle.psabi_sym.specs.Indexed.{IndexedSection, all_sections, section_at, sections_before}
 use Rattle.psabi_sym.specs.declared.block.Block.{Block}
 use Rattle.psabi_sym.specs.declared.data_class.DataClass.{DataClass}
-use Rattle.psabi_sym.specs.declared.data_class.DataClass.TheVariants.{ReadOnly, Data, SmallData, SmallZero, Zero}
+use Rattle.psabi_sym.specs.declared.data_class.DataClass.TheVariants.{ReadOnly, Data, SmallData, SmallZero, Zero, Common}
 use Rattle.psabi_sym.specs.declared.section_row.SectionRole.{SectionRole}
 use Rattle.psabi_sym.specs.declared.section_row.SectionRole.TheVariants.{Code, InClass, Dropped}
 use Rattle.psabi_sym.proofs.ContentLaws.{address_in-ge}
 use Rattle.psabi_sym.proofs.FaultLaws.{neither}
 use Rattle.block_cut.specs.DataWords.{data_word, data_words, words_in}
 use Rattle.block_cut.specs.Faults.{first_fault, reloc_fault}
-use Rattle.block_cut.specs.Relocs.{field_end, field_of, overlaps_another, is_ignored, is_placed, is_word}
+use Rattle.block_cut.specs.Relocs.{overlaps_another, is_ignored, is_placed, is_word}
 use Rattle.block_cut.specs.declared.data_word.DataWord.{DataWord}
 use Rattle.block_cut.proofs.ListedLaws.{cut_at, listed}
 use Rattle.zc_link.proofs.ListedLaws.{all_listed}
 use Rattle.zc_link.proofs.Faultless.{IsGood, good, section_none}
+
+none_some : {X : Type 0} {x : X} → None ≡ Some x → ⊥
+none_some h = cc
 
 -- ---- ends of blocks
 
@@ -41,6 +46,9 @@ up align at = omega arith
 ends_up : (at : ℕ) (bs : List Block) → at ≤ end_from at bs
 ends_up at [] = omega arith
 ends_up at (b ∷ bs) = omega (arith, up b.align at, ends_up (aligned_up b.align at + b.size) bs)
+
+later : {a b c : ℕ} → a ≤ b → b ≤ c → a ≤ c
+later first second = omega (arith, first, second)
 
 -- one of them ends before the last does
 block_ends : (at : ℕ) (xs ys : List Block) (b : Block) → aligned_up b.align (end_from at xs) + b.size ≤ end_from at (xs ++ b ∷ ys)
@@ -60,11 +68,14 @@ module _ (p : ParsedInputs) where
   small_after = refl
 
   data_first : class_end p Data ≤ class_end p SmallData
-  data_first = omega (arith, small_after, up 16 (class_end p Data), ends_up (aligned_up 16 (class_end p Data)) (blocks_of p.objects SmallData))
+  data_first =
+      subst (λ n. class_end p Data ≤ n) (sym small_after)
+      (later (up 16 (class_end p Data)) (ends_up (aligned_up 16 (class_end p Data)) (blocks_of p.objects SmallData)))
 
   read_only_first : class_end p ReadOnly ≤ class_end p SmallData
   read_only_first =
-      omega (arith, data_after, data_first, up 16 (class_end p ReadOnly), ends_up (aligned_up 16 (class_end p ReadOnly)) (blocks_of p.objects Data))
+      later (subst (λ n. class_end p ReadOnly ≤ n) (sym data_after)
+      (later (up 16 (class_end p ReadOnly)) (ends_up (aligned_up 16 (class_end p ReadOnly)) (blocks_of p.objects Data)))) data_first
 
   -- a section's content ends within its class
   in_class : (o i : ℕ) (s : SectionParts) (class : DataClass) → blocks_of p.objects class ≡ blocks_in class (all_sections p.objects) → section_at p.objects o i ≡ Some s → is_of_class class (listed o i s) ≡ true
@@ -89,49 +100,80 @@ data IsFirst (class : DataClass) : Type 0 where
   Second : class ≡ Data → IsFirst class
   Third : class ≡ SmallData → IsFirst class
 
+class_first : (s : SectionParts) → eqb s.kind 8 ≡ false → IsFirst (class_of s)
+class_first s content = by (eqb s.kind 8) _ (not (has_flags 1 s.flags)) _ content
+  where
+    by : (zeros small read_only own : Bool) → zeros ≡ false → IsFirst (cond zeros (cond small SmallZero Zero) (cond read_only ReadOnly (cond own SmallData Data)))
+    by true small read_only own none = absurd cc
+    by false small true own none = First refl
+    by false small false true none = Third refl
+    by false small false false none = Second refl
+
 content_class : (s : SectionParts) (class : DataClass) → eqb s.kind 8 ≡ false → role_of s ≡ InClass class → IsFirst class
 unfolding role_of
-content_class s class content is = by (is_code_section s) (is_kept_section s) (eqb s.kind 8) _ (not (has_flags 1 s.flags)) _ content is
+content_class s class content is = by (is_code_section s) (is_kept_section s) (class_of s) class (class_first s content) is
   where
-    by : (code kept zeros small read_only own : Bool) → zeros ≡ false
-        → cond code Code (cond kept (InClass (cond zeros (cond small SmallZero Zero) (cond read_only ReadOnly (cond own SmallData Data)))) Dropped) ≡ InClass class → IsFirst class
-    by true kept zeros small read_only own none is = absurd cc
-    by false false zeros small read_only own none is = absurd cc
-    by false true true small read_only own none is = absurd cc
-    by false true false small true own none is = First cc
-    by false true false small false true none is = Third cc
-    by false true false small false false none is = Second cc
+    by : (code kept : Bool) (own class : DataClass) → IsFirst own → cond code Code (cond kept (InClass own) Dropped) ≡ InClass class → IsFirst class
+    by true kept own class first is = absurd cc
+    by false false own class first is = absurd cc
+    by false true own class first is = let same : own ≡ class = cc in subst IsFirst same first
 
 module _ (p : ParsedInputs) where
-  -- so one that has content ends before the bytes that files hold do
+  -- the content of a section of such a class ends before the bytes that files hold do
+  class_within : (o i : ℕ) (s : SectionParts) (class : DataClass) → section_at p.objects o i ≡ Some s → is_of_class class (listed o i s) ≡ true → IsFirst class
+      → address_in p o i s class + s.size ≤ data_file_end p
+  class_within o i s class found own (First e) =
+      subst (λ c. is_of_class c (listed o i s) ≡ true → address_in p o i s c + s.size ≤ data_file_end p) (sym e)
+      (λ own. later (in_class p o i s ReadOnly refl found own) (read_only_first p)) own
+  class_within o i s class found own (Second e) =
+      subst (λ c. is_of_class c (listed o i s) ≡ true → address_in p o i s c + s.size ≤ data_file_end p) (sym e)
+      (λ own. later (in_class p o i s Data refl found own) (data_first p)) own
+  class_within o i s class found own (Third e) =
+      subst (λ c. is_of_class c (listed o i s) ≡ true → address_in p o i s c + s.size ≤ data_file_end p) (sym e)
+      (λ own. in_class p o i s SmallData refl found own) own
+
+  of_own : (class : DataClass) → same_class class class ≡ true
+  of_own ReadOnly = refl
+  of_own Data = refl
+  of_own SmallData = refl
+  of_own SmallZero = refl
+  of_own Zero = refl
+  of_own Common = refl
+
+  -- so one that has content ends before them
   pub content_within : (o i at : ℕ) (s : SectionParts) → section_at p.objects o i ≡ Some s → eqb s.kind 8 ≡ false → data_address p o i ≡ Some at → (p.map.data_low ≤ at) × (at + s.size ≤ data_file_end p)
   unfolding data_address
   content_within o i at s found content address =
       by (role_of s) refl (sym (ap (option_and_then (λ (t : SectionParts). role_address p o i t (role_of t))) found) ∙ address)
     where
-      placed : (class : DataClass) → role_of s ≡ InClass class → address_in p o i s class ≡ at → IsFirst class → (p.map.data_low ≤ at) × (at + s.size ≤ data_file_end p)
-      placed class is here (First e) =
-          let own : is_of_class ReadOnly (listed o i s) ≡ true = ap (has_class ReadOnly) (is ∙ ap InClass e) in
-          let end = in_class p o i s ReadOnly refl found own in
-          let same : address_in p o i s ReadOnly ≡ at = ap (address_in p o i s) (sym e) ∙ here in
-          (omega (arith, address_in-ge p o i s ReadOnly, same), omega (arith, end, same, read_only_first p))
-      placed class is here (Second e) =
-          let own : is_of_class Data (listed o i s) ≡ true = ap (has_class Data) (is ∙ ap InClass e) in
-          let end = in_class p o i s Data refl found own in
-          let same : address_in p o i s Data ≡ at = ap (address_in p o i s) (sym e) ∙ here in
-          (omega (arith, address_in-ge p o i s Data, same), omega (arith, end, same, data_first p))
-      placed class is here (Third e) =
-          let own : is_of_class SmallData (listed o i s) ≡ true = ap (has_class SmallData) (is ∙ ap InClass e) in
-          let end = in_class p o i s SmallData refl found own in
-          let same : address_in p o i s SmallData ≡ at = ap (address_in p o i s) (sym e) ∙ here in
-          (omega (arith, address_in-ge p o i s SmallData, same), omega (arith, end, same))
-
       by : (role : SectionRole) → role_of s ≡ role → role_address p o i s role ≡ Some at → (p.map.data_low ≤ at) × (at + s.size ≤ data_file_end p)
-      by Code is h = absurd cc
-      by Dropped is h = absurd cc
-      by (InClass class) is h = let here : address_in p o i s class ≡ at = cc in placed class is here (content_class s class content is)
+      by Code is h = absurd (none_some h)
+      by Dropped is h = absurd (none_some h)
+      by (InClass class) is h =
+          subst (λ n. (p.map.data_low ≤ n) × (n + s.size ≤ data_file_end p)) (same_Some (address_in p o i s class) at h)
+          (address_in-ge p o i s class, class_within o i s class found (ap (has_class class) is ∙ of_own class) (content_class s class content is))
 
 -- ---- words of data
+
+-- what holds of each element that is taken, if none of them has a fault, holds of all
+module _
+    {X Y Z : Type 0} (P : Y → Type 0) (fault : X → Option Z) (taken : X → Bool) (word : X → Y) (all : List X)
+    (each : (x : X) → taken x ≡ true → fault x ≡ None → ((test : X → Bool) → test x ≡ true → list_any test all ≡ true) → P (word x)) where
+  all_kept : (xs : List X) → first_some (map fault xs) ≡ None → ((test : X → Bool) → list_any test xs ≡ true → list_any test all ≡ true) → All P (map word (filter taken xs))
+  all_kept [] fine more = All-nil P
+  all_kept (x ∷ xs) fine more =
+      let parts = neither (fault x) (first_some (map fault xs)) fine in
+      by (taken x) refl parts.0 (all_kept xs parts.1 (λ test h. more test (or_right (test x) (list_any test xs) h)))
+    where
+      by : (b : Bool) → taken x ≡ b → fault x ≡ None → All P (map word (filter taken xs)) → All P (map word (cond b (x ∷ filter taken xs) (filter taken xs)))
+      by true is fine rest = All-cons P (word x) (map word (filter taken xs)) (each x is fine (λ test h. more test (or_left (test x) (list_any test xs) h))) rest
+      by false is fine rest = rest
+
+-- and what holds at each address holds if there is one
+all_placed : {Y : Type 0} (P : Y → Type 0) (zeros : Bool) (a : Option ℕ) (of : ℕ → List Y) → (zeros ≡ false → (at : ℕ) → a ≡ Some at → All P (of at)) → All P (cond zeros [] (option_map_or of a []))
+all_placed P true a of each = All-nil P
+all_placed P false None of each = All-nil P
+all_placed P false (Some at) of each = each refl at refl
 
 -- what holds of each word of data, by its section and its relocation, holds of all
 module _ (inputs : Inputs) (none : first_fault inputs ≡ None) (P : DataWord → Type 0) where
@@ -142,33 +184,12 @@ module _ (inputs : Inputs) (none : first_fault inputs ≡ None) (P : DataWord �
   Each = (o i at : ℕ) (s : SectionParts) (r : Reloc) → section_at p1.objects o i ≡ Some s → eqb s.kind 8 ≡ false → data_address p1 o i ≡ Some at → is_word (kind_of r.kind) ≡ true → IsGood p1 (listed o i s) r
       → ((test : Reloc → Bool) → test r ≡ true → list_any test s.relocs ≡ true) → P (data_word p1 (listed o i s) at r)
 
-  section_words : Each → (o i at : ℕ) (s : SectionParts) → section_at p1.objects o i ≡ Some s → eqb s.kind 8 ≡ false → data_address p1 o i ≡ Some at → (rs : List Reloc) → first_some (map (reloc_fault p1 (listed o i s)) rs) ≡ None
-      → ((test : Reloc → Bool) → list_any test rs ≡ true → list_any test s.relocs ≡ true) → All P (map (data_word p1 (listed o i s) at) (filter (λ r. is_word (kind_of r.kind)) rs))
-  section_words each o i at s found content address [] fine more = All-nil P
-  section_words each o i at s found content address (r ∷ rs) fine more =
-      let parts = neither (reloc_fault p1 (listed o i s) r) (first_some (map (reloc_fault p1 (listed o i s)) rs)) fine in
-      by (is_word (kind_of r.kind)) refl (section_words each o i at s found content address rs parts.1 (λ test h. more test (or_right (test r) (list_any test rs) h))) parts.0
-    where
-      word : Reloc → DataWord
-      word = data_word p1 (listed o i s) at
-
-      rest : List Reloc
-      rest = filter (λ t. is_word (kind_of t.kind)) rs
-
-      by : (b : Bool) → is_word (kind_of r.kind) ≡ b → All P (map word rest) → reloc_fault p1 (listed o i s) r ≡ None → All P (map word (cond b (r ∷ rest) rest))
-      by true is all fine = All-cons P (word r) (map word rest) (each o i at s r found content address is (good p1 (listed o i s) r fine) (λ test h. more test (or_left (test r) (list_any test rs) h))) all
-      by false is all fine = all
-
   listed_words : Each → (o i : ℕ) (s : SectionParts) → section_at p1.objects o i ≡ Some s → All P (words_in p1 (listed o i s))
-  listed_words each o i s found = by (eqb s.kind 8) refl
-    where
-      placed : eqb s.kind 8 ≡ false → (a : Option ℕ) → data_address p1 o i ≡ a → All P (option_map_or (λ at. map (data_word p1 (listed o i s) at) (filter (λ r. is_word (kind_of r.kind)) s.relocs)) a [])
-      placed content None is = All-nil P
-      placed content (Some at) is = section_words each o i at s found content is s.relocs (section_none inputs none o i s found) (λ test h. h)
-
-      by : (b : Bool) → eqb s.kind 8 ≡ b → All P (cond b [] (option_map_or (λ at. map (data_word p1 (listed o i s) at) (filter (λ r. is_word (kind_of r.kind)) s.relocs)) (data_address p1 o i) []))
-      by true is = All-nil P
-      by false is = placed is (data_address p1 o i) refl
+  listed_words each o i s found =
+      all_placed P (eqb s.kind 8) (data_address p1 o i) (λ at. map (data_word p1 (listed o i s) at) (filter (λ r. is_word (kind_of r.kind)) s.relocs))
+      (λ content at is.
+      all_kept P (reloc_fault p1 (listed o i s)) (λ r. is_word (kind_of r.kind)) (data_word p1 (listed o i s) at) s.relocs
+      (λ r word fine among. each o i at s r found content is word (good p1 (listed o i s) r fine) among) s.relocs (section_none inputs none o i s found) (λ test h. h))
 
   flat_all : (ls : List IndexedSection) → All (λ l. All P (words_in p1 l)) ls → All P (flat_map (words_in p1) ls)
   flat_all [] all = All-nil P
@@ -186,20 +207,18 @@ IsWithin p w = (p.map.data_low ≤ w.at) × (w.at + 4 ≤ data_file_end p)
 -- a word's relocation changes four bytes of its section
 pub word_field : (p : ParsedInputs) (l : IndexedSection) (r : Reloc) → is_word (kind_of r.kind) ≡ true → IsGood p l r → r.offset + 4 ≤ l.section.size
 word_field p l r word fine =
-    let s = l.section in
-    let k = word_kind (kind_of r.kind) word in
-    let size : field_of r ≡ 4 = ap (λ x. field_length x r.addend) k in
-    let placed : (ltb s.size (field_end r) || (not (is_placed s r) || overlaps_another s.relocs r)) ≡ false =
-    ap (λ x. not (is_ignored x) && (ltb s.size (field_end r) || (not (is_placed s r) || overlaps_another s.relocs r))) (sym k) ∙ fine.placed in
-    let one = or_parts (ltb s.size (field_end r)) (not (is_placed s r) || overlaps_another s.relocs r) placed in
-    omega (arith, size, ltb-false s.size (field_end r) one.0)
+    by l.section.size r.offset r.addend (not (is_placed l.section r) || overlaps_another l.section.relocs r) (kind_of r.kind) word fine.placed
   where
-    word_kind : (k : Option RelocKind) → is_word k ≡ true → k ≡ Some kind.Word
-    word_kind (Some kind.Word) h = refl
-    word_kind other h = absurd cc
+    by : (size offset : ℕ) (addend : ℤ) (other : Bool) (k : Option RelocKind) → is_word k ≡ true → (not (is_ignored k) && (ltb size (offset + field_length k addend) || other)) ≡ false
+        → offset + 4 ≤ size
+    by size offset addend other (Some kind.Word) word placed = omega (arith, ltb-false size (offset + 4) (or_parts (ltb size (offset + 4)) other placed).0)
+    by size offset addend other k word placed = absurd cc
+
+-- so it lies where its section does
+field_within : (low end at size offset : ℕ) → (low ≤ at) × (at + size ≤ end) → offset + 4 ≤ size → (low ≤ at + offset) × (at + offset + 4 ≤ end)
+field_within low end at size offset within field = (omega (arith, within.0), omega (arith, within.1, field))
 
 pub words_within : (inputs : Inputs) → first_fault inputs ≡ None → All (IsWithin (parsed inputs)) (data_words (parsed inputs))
 words_within inputs none = all_words inputs none (IsWithin (parsed inputs)) (λ o i at s r found content address word fine among.
-    let within = content_within (parsed inputs) o i at s found content address in
-    let field = word_field (parsed inputs) (listed o i s) r word fine in
-    (omega (arith, within.0), omega (arith, within.1, field)))
+    field_within inputs.map.data_low (data_file_end (parsed inputs)) at s.size r.offset (content_within (parsed inputs) o i at s found content address)
+    (word_field (parsed inputs) (listed o i s) r word fine))
