@@ -169,7 +169,7 @@ module _
       by true is fine rest = All-cons P (word x) (map word (filter taken xs)) (each x is fine (λ test h. more test (or_left (test x) (list_any test xs) h))) rest
       by false is fine rest = rest
 
--- and what holds at each address holds if there is one
+-- and what holds at each address holds of the list that is taken if there is one
 all_placed : {Y : Type 0} (P : Y → Type 0) (zeros : Bool) (a : Option ℕ) (of : ℕ → List Y) → (zeros ≡ false → (at : ℕ) → a ≡ Some at → All P (of at)) → All P (cond zeros [] (option_map_or of a []))
 all_placed P true a of each = All-nil P
 all_placed P false None of each = All-nil P

@@ -85,13 +85,24 @@ fn small_link(alloc: Global, first: Settled) -> Result<Linked, AllocError>
 {
     let table = pick_table(alloc, &first)?;
     let image = counted_image(alloc, first, &table.savings, &table.certificate)?;
-    Ok(Linked {
+    Ok(joined(image, table))
+}
+
+// What a link gives, of an image and its table.
+fn joined(image: Counted, table: Table) -> Linked
+    ensures elf { result.elf ≡ image.elf.items }
+    ensures savings { result.savings ≡ table.savings.items }
+    ensures certificate { result.certificate ≡ table.certificate }
+    ensures plain { result.plain ≡ image.plain }
+    ensures zc { result.zc ≡ image.zc }
+{
+    Linked {
         elf: image.elf,
         savings: table.savings,
         certificate: table.certificate,
         plain: image.plain,
         zc: image.zc,
-    })
+    }
 }
 
 // What a table could save, and the certificate of the one that is picked.

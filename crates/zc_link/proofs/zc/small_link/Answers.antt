@@ -6,7 +6,7 @@ use Rattle.pick_check.specs.declared.saving.Saving.{Saving}
 use Rattle.psabi_sym.specs.Inputs.{parsed}
 use Rattle.shrink_layout.specs.Savings.{savings_of}
 use Rattle.shrink_layout.specs.Settled.{settled_counts, settled_end}
-use Rattle.zc_link.specs.Links.{IsImageOf, IsShortest}
+use Rattle.zc_link.specs.Links.{IsImageOf, IsShortest, IsZcLink, Link}
 use Rattle.zc_link.specs.TextLayout.{zc_layout}
 use Rattle.zc_link.proofs.BestTable.{shortest}
 use Rattle.zc_link.proofs.zc.small_link.Goals as goal
@@ -22,6 +22,7 @@ returns-clause-link c =
     let known : IsAccepted (savings_of (parsed inputs)) certificate = subst (λ (s : List Saving). IsAccepted s certificate) savings accepted in
     let ready = c.in_ok-image.ensures.ready in
     let same = c.deref.ensures.value in
+    let parts : IsZcLink inputs (record { elf = elf; savings = own; certificate = certificate; plain = c.in_ok-image.image.plain; zc = c.in_ok-image.image.zc }) =
     record {
       table = record { savings = savings; is_picked = c.in_ok-table.ensures.is_picked; accepted = accepted; best = c.in_ok-table.ensures.best };
       layout = subst (λ (s : List Saving). IsShortest inputs (slot_places s certificate.slots) certificate.net) (sym savings)
@@ -30,4 +31,7 @@ returns-clause-link c =
           same c.in_ok-image.ensures.image;
       plain = c.in_ok-image.ensures.plain;
       zc = c.in_ok-image.ensures.zc ∙ ap (λ (s : List Saving). settled_counts (parsed inputs) (slot_places s certificate.slots)) same;
-    }
+    } in
+    let all = c.joined.ensures in
+    subst (λ (l : Link). IsZcLink inputs l)
+    (λ i. record { elf = sym all.elf i; savings = sym all.savings i; certificate = sym all.certificate i; plain = sym all.plain i; zc = sym all.zc i }) parts
