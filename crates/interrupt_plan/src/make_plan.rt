@@ -1,7 +1,8 @@
 // Plans that are made from a number.
 
-ghost use Rattle.std.specs.Prelude.{◌≡◌, ◌≤◌, IfOk, OnOk};
-ghost use Rattle.interrupt_plan.specs.Made.{after_dirt, dirt_from, done_of, made_plan};
+ghost use Rattle.std.specs.Prelude.{◌≡◌, ◌+◌, ◌<◌, ◌≤◌, ◌^◌, IfOk, OnOk};
+ghost use Rattle.interrupt_plan.specs.Made.{after_dirt, cut_after, dirt_from, done_of, made_plan};
+ghost use Rattle.zc_base.specs.Draws.{stepped};
 
 use crate::plan::{Plan, PlanCut};
 use std::alloc::{AllocError, Global};
@@ -17,13 +18,25 @@ pub fn make_plan(alloc: Global, number: u64, count: u32) -> Result<Plan, AllocEr
     let mut draws = Draws::new(number);
     let mut at = 0;
     for _i in 0..count {
-        at += u64::from(draws.next() % 64);
-        let bits = draws.next();
-        let done = done_of(alloc, bits)?;
-        let dirt = draw_dirt(alloc, 4, &mut draws)?;
-        cuts.push(PlanCut { at, done, dirt })?;
+        let cut = draw_cut(alloc, at, &mut draws)?;
+        at = cut.at;
+        cuts.push(cut)?;
     }
     Ok(Plan::new(cuts))
+}
+
+// Draws an interrupt, at most 63 commits after the one before it.
+fn draw_cut(alloc: Global, before: u64, draws: &mut Draws) -> Result<PlanCut, AllocError>
+    requires { before + 63 < 2 ^ 64 }
+    ensures cut { IfOk result (λ cut. cut ≡ cut_after before draws.old) }
+    ensures near { IfOk result (λ cut. cut.at ≤ before + 63) }
+    ensures after { OnOk result (draws.new ≡ after_dirt 4 (stepped (stepped draws.old))) }
+{
+    let at = before + u64::from(draws.next() % 64);
+    let bits = draws.next();
+    let done = done_of(alloc, bits)?;
+    let dirt = draw_dirt(alloc, 4, draws)?;
+    Ok(PlanCut { at, done, dirt })
 }
 
 // The accesses that a draw says are done.
