@@ -1,15 +1,18 @@
 -- Each halfword of the tables that is no hint is found again by what it spells, or one of an earlier row is. This is computed, 256
 -- halfwords at a time, for each group that has a row.
 use Rattle.std.proofs.Common.{◌≡◌, ℕ, zero, suc, ◌+◌, ◌*◌, ◌/◌, ◌%◌, ◌^◌, ◌<◌, Option, Some, None, Bool, true, false, refl, sym, ap, ◌∙◌, arith, eqb, ltb}
-use Rattle.std.specs.Prelude.{◌||◌}
+use Rattle.std.specs.Prelude.{◌==◌, ◌||◌, if◌then◌else◌}
 use Rattle.std.specs.Option.{option_flatten}
 use Rattle.std.proofs.lemmas.Bool.{agree_below, agree_below_at}
 use Rattle.rv_decode.specs.Decode.{row_of}
-use Rattle.zc_decode.specs.Fields.{group_of}
+use Rattle.rv_decode.specs.Bits.{field}
+use Rattle.rv_decode.proofs.RowLaws.{EachRow, row_found}
+use Rattle.zc_decode.specs.Fields.{addi4spn_of, c_rd_of, group_of, lui_of}
 use Rattle.zc_decode.specs.Halfwords.{spelled}
 use Rattle.zc_decode.specs.Hints.{is_hint, row_number}
-use Rattle.zc_decode.specs.Rows.{form_of, groups}
+use Rattle.zc_decode.specs.Rows.{form_of, groups, jump_row, operations, unless, zcb_memory, zcmp_rows}
 use Rattle.zc_decode.specs.declared.form.Form.{Form}
+use Rattle.zc_decode.specs.declared.form.Form.TheVariants.{CAddi, CAddi16sp, CAddi4spn, CBeqz, CBnez, CJ, CJal, CLi, CLui, CLw, CLwsp, CNop, CSlli, CSw, CSwsp}
 use Rattle.zc_decode.specs.declared.short.Short.{Short}
 use Rattle.zc_decode.specs.declared.short.Short.TheVariants.{Base}
 use Rattle.zc_encode.specs.Encoding.{normal_short}
@@ -51,34 +54,84 @@ half_at group high low = group / 4 * 8192 + (high * 256 + low) * 4 + group % 4
 page : ℕ → (ℕ → Option Form) → ℕ → Bool
 page group row high = agree_below (λ low. tried row (half_at group high low)) yes 256
 
--- the row of a halfword of a group
-row_in : ℕ → ℕ → Option Form
-row_in group half = option_flatten (row_of (groups half) group)
-
--- whether those of a group come back
-all_come_back : ℕ → Bool
-all_come_back group = agree_below (page group (row_in group)) yes 8
-
-in_groups : agree_below all_come_back yes 32 ≡ true
-unfolding form_of tried half_at page row_in all_come_back yes
-in_groups = refl
-
-pub each_comes_back : (half : ℕ) → half < 2 ^ 16 → comes_back half (form_of half) ≡ true
-unfolding form_of tried half_at page row_in all_come_back yes
-each_comes_back half small = same half ∙ sym (ap (tried row) whole) ∙ here
+-- if those of a group do, each does
+at_group : (group : ℕ) (row : ℕ → Option Form) → agree_below (page group row) yes 8 ≡ true → (half : ℕ) → half < 2 ^ 16 → group_of half ≡ group → comes_back half (row half) ≡ true
+unfolding tried half_at page yes
+at_group group row all half small in_group = same half ∙ sym (ap (tried row) whole) ∙ here
   where
-    row : ℕ → Option Form
-    row = row_in (group_of half)
-
-    whole : half_at (group_of half) (half / 1024 % 8) (half / 4 % 256) ≡ half
-    whole = omega arith
+    whole : half_at group (half / 1024 % 8) (half / 4 % 256) ≡ half
+    whole = omega (arith, small, in_group)
 
     same : (n : ℕ) → comes_back n (row n) ≡ tried row n
     same zero = refl
     same (suc n) = refl
 
-    on_page : page (group_of half) row (half / 1024 % 8) ≡ true
-    on_page = agree_below_at (page (group_of half) row) yes 8 (half / 1024 % 8) (agree_below_at all_come_back yes 32 (group_of half) in_groups (omega arith)) (omega arith)
+    here : tried row (half_at group (half / 1024 % 8) (half / 4 % 256)) ≡ true
+    here =
+        agree_below_at (λ low. tried row (half_at group (half / 1024 % 8) low)) yes 256 (half / 4 % 256)
+        (agree_below_at (page group row) yes 8 (half / 1024 % 8) all (omega arith)) (omega arith)
 
-    here : tried row (half_at (group_of half) (half / 1024 % 8) (half / 4 % 256)) ≡ true
-    here = agree_below_at (λ low. tried row (half_at (group_of half) (half / 1024 % 8) low)) yes 256 (half / 4 % 256) on_page (omega arith)
+-- the halfwords of each group: its row is given as a function, so that no halfword's group is looked up
+each_group : (half : ℕ) → half < 2 ^ 16 → EachRow (λ group row. group_of half ≡ group → comes_back half row ≡ true) (groups half)
+unfolding form_of tried half_at page yes
+each_group half small = (
+  at_group 0b000_00 (λ h. unless (addi4spn_of h == 0) CAddi4spn) refl half small,
+  (
+    at_group 0b010_00 (λ h. Some CLw) refl half small,
+    (
+      at_group 0b110_00 (λ h. Some CSw) refl half small,
+      (
+        at_group 0b100_00 (λ h. row_of zcb_memory (field h 10 3 * 2 + field h 6 1)) refl half small,
+        (
+          at_group 0b000_01 (λ h. Some (if c_rd_of h == 0 then CNop else CAddi)) refl half small,
+          (
+            at_group 0b001_01 (λ h. Some CJal) refl half small,
+            (
+              at_group 0b010_01 (λ h. Some CLi) refl half small,
+              (
+                at_group 0b011_01 (λ h. unless (lui_of h == 0) (if c_rd_of h == 2 then CAddi16sp else CLui)) refl half small,
+                (
+                  at_group 0b100_01 (λ h. option_flatten (row_of (operations h) (field h 10 2))) refl half small,
+                  (
+                    at_group 0b101_01 (λ h. Some CJ) refl half small,
+                    (
+                      at_group 0b110_01 (λ h. Some CBeqz) refl half small,
+                      (
+                        at_group 0b111_01 (λ h. Some CBnez) refl half small,
+                        (
+                          at_group 0b000_10 (λ h. unless (field h 12 1 == 1) CSlli) refl half small,
+                          (
+                            at_group 0b010_10 (λ h. unless (c_rd_of h == 0) CLwsp) refl half small,
+                            (
+                              at_group 0b100_10 jump_row refl half small,
+                              (
+                                at_group 0b101_10 (λ h. option_flatten (row_of (zcmp_rows h) (field h 10 3))) refl half small,
+                                (
+                                  at_group 0b110_10 (λ h. Some CSwsp) refl half small,
+                                  tt,
+                                ),
+                              ),
+                            ),
+                          ),
+                        ),
+                      ),
+                    ),
+                  ),
+                ),
+              ),
+            ),
+          ),
+        ),
+      ),
+    ),
+  ),
+)
+
+pub each_comes_back : (half : ℕ) → half < 2 ^ 16 → comes_back half (form_of half) ≡ true
+unfolding form_of
+each_comes_back half small = either (row_of (groups half) (group_of half)) refl
+  where
+    either : (o : Option (Option Form)) → row_of (groups half) (group_of half) ≡ o → comes_back half (option_flatten o) ≡ true
+    either None found = refl
+    either (Some row) found =
+        row_found (λ group row. group_of half ≡ group → comes_back half row ≡ true) (groups half) (group_of half) row (each_group half small) found refl
