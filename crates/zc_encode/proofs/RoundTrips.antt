@@ -74,58 +74,25 @@ at_group group row all half small in_group = same half ∙ sym (ap (tried row) w
 -- the halfwords of each group: its row is given as a function, so that no halfword's group is looked up
 each_group : (half : ℕ) → half < 2 ^ 16 → EachRow (λ group row. group_of half ≡ group → comes_back half row ≡ true) (groups half)
 unfolding form_of tried half_at page yes
-each_group half small = (
-  at_group 0b000_00 (λ h. unless (addi4spn_of h == 0) CAddi4spn) refl half small,
-  (
-    at_group 0b010_00 (λ h. Some CLw) refl half small,
-    (
-      at_group 0b110_00 (λ h. Some CSw) refl half small,
-      (
-        at_group 0b100_00 (λ h. row_of zcb_memory (field h 10 3 * 2 + field h 6 1)) refl half small,
-        (
-          at_group 0b000_01 (λ h. Some (if c_rd_of h == 0 then CNop else CAddi)) refl half small,
-          (
-            at_group 0b001_01 (λ h. Some CJal) refl half small,
-            (
-              at_group 0b010_01 (λ h. Some CLi) refl half small,
-              (
-                at_group 0b011_01 (λ h. unless (lui_of h == 0) (if c_rd_of h == 2 then CAddi16sp else CLui)) refl half small,
-                (
-                  at_group 0b100_01 (λ h. option_flatten (row_of (operations h) (field h 10 2))) refl half small,
-                  (
-                    at_group 0b101_01 (λ h. Some CJ) refl half small,
-                    (
-                      at_group 0b110_01 (λ h. Some CBeqz) refl half small,
-                      (
-                        at_group 0b111_01 (λ h. Some CBnez) refl half small,
-                        (
-                          at_group 0b000_10 (λ h. unless (field h 12 1 == 1) CSlli) refl half small,
-                          (
-                            at_group 0b010_10 (λ h. unless (c_rd_of h == 0) CLwsp) refl half small,
-                            (
-                              at_group 0b100_10 jump_row refl half small,
-                              (
-                                at_group 0b101_10 (λ h. option_flatten (row_of (zcmp_rows h) (field h 10 3))) refl half small,
-                                (
-                                  at_group 0b110_10 (λ h. Some CSwsp) refl half small,
-                                  tt,
-                                ),
-                              ),
-                            ),
-                          ),
-                        ),
-                      ),
-                    ),
-                  ),
-                ),
-              ),
-            ),
-          ),
-        ),
-      ),
-    ),
-  ),
-)
+each_group half small =
+    let addi4spn = at_group 0b000_00 (λ h. unless (addi4spn_of h == 0) CAddi4spn) refl half small in
+    let lw = at_group 0b010_00 (λ h. Some CLw) refl half small in
+    let sw = at_group 0b110_00 (λ h. Some CSw) refl half small in
+    let zcb = at_group 0b100_00 (λ h. row_of zcb_memory (field h 10 3 * 2 + field h 6 1)) refl half small in
+    let addi = at_group 0b000_01 (λ h. Some (if c_rd_of h == 0 then CNop else CAddi)) refl half small in
+    let jal = at_group 0b001_01 (λ h. Some CJal) refl half small in
+    let li = at_group 0b010_01 (λ h. Some CLi) refl half small in
+    let lui = at_group 0b011_01 (λ h. unless (lui_of h == 0) (if c_rd_of h == 2 then CAddi16sp else CLui)) refl half small in
+    let sums = at_group 0b100_01 (λ h. option_flatten (row_of (operations h) (field h 10 2))) refl half small in
+    let j = at_group 0b101_01 (λ h. Some CJ) refl half small in
+    let beqz = at_group 0b110_01 (λ h. Some CBeqz) refl half small in
+    let bnez = at_group 0b111_01 (λ h. Some CBnez) refl half small in
+    let slli = at_group 0b000_10 (λ h. unless (field h 12 1 == 1) CSlli) refl half small in
+    let lwsp = at_group 0b010_10 (λ h. unless (c_rd_of h == 0) CLwsp) refl half small in
+    let jumps = at_group 0b100_10 jump_row refl half small in
+    let zcmp = at_group 0b101_10 (λ h. option_flatten (row_of (zcmp_rows h) (field h 10 3))) refl half small in
+    let swsp = at_group 0b110_10 (λ h. Some CSwsp) refl half small in
+    (addi4spn, (lw, (sw, (zcb, (addi, (jal, (li, (lui, (sums, (j, (beqz, (bnez, (slli, (lwsp, (jumps, (zcmp, (swsp, tt)))))))))))))))))
 
 pub each_comes_back : (half : ℕ) → half < 2 ^ 16 → comes_back half (form_of half) ≡ true
 unfolding form_of
