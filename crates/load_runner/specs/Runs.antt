@@ -5,7 +5,7 @@ use Rattle.zc_base.specs.declared.place.Place.{Place}
 use Rattle.interrupt_plan.specs.Plan.{Entry}
 use Rattle.psabi_sym.specs.Inputs.{Inputs, inputs_in, parsed}
 use Rattle.rv_decode.specs.State as event
-use Rattle.rv_decode.specs.State.{Event, ZcState}
+use Rattle.rv_decode.specs.State.{Event, ZcCore, ZcState}
 use Rattle.sym_machine.specs.Objects.{program_of}
 use Rattle.sym_machine.specs.RunEnd.{plain_course}
 use Rattle.sym_machine.specs.State.{PlainState}
@@ -51,3 +51,9 @@ pub record EventuallyExits (elf : List ℕ) (plan : List Entry) : Type 0 where
   pub state : (image_run elf plan).after count ≡ Ok last
   pub status : ℕ
   pub exit : last.core.exit ≡ Some status
+
+-- a machine is in the first state of an image that exits under a plan
+pub record BeginsImage (z : ZcCore) (plan : List Entry) : Type 0 where
+  pub elf : List ℕ
+  pub first : z ≡ first_core_of elf standard_map
+  pub exits : EventuallyExits elf plan

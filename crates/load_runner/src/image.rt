@@ -1,10 +1,11 @@
 // The run of an image.
 
-ghost use Rattle.std.specs.Prelude.{◌≡◌, IfErr, IfOk, None};
+ghost use Rattle.std.specs.Prelude.{◌≡◌, ℕ, List, IfErr, IfOk, None};
 ghost use Rattle.elf32_read.specs.Image.{image_fault};
 ghost use Rattle.load_runner.specs.Cause.{ImageCause};
-ghost use Rattle.load_runner.specs.Runs.{EventuallyExits, image_run};
+ghost use Rattle.load_runner.specs.Runs.{BeginsImage, EventuallyExits, image_run};
 ghost use Rattle.zc_base.specs.MemMap.{standard_map};
+ghost use Rattle.zc_machine.specs.Load.{first_core_of};
 ghost use Rattle.zc_outside.specs.Course.{ExitsAt};
 
 use crate::ended::{Ended, exit_of};
@@ -32,8 +33,19 @@ pub fn run_image(alloc: Global, linked: &Linked, plan: &Plan) -> Result<Ended, L
         unreachable!();
     };
     let mut machine = Machine::load(alloc, &image)?;
+    run_machine(alloc, &mut machine, plan)
+}
+
+// Runs a machine from the first state of an image.
+fn run_machine(alloc: Global, machine: &mut Machine, plan: &Plan) -> Result<Ended, LoadEnd>
+    requires { BeginsImage machine.old plan.now }
+    ensures ok { IfOk result (λ ended. (elf : List ℕ) → machine.old ≡ first_core_of elf standard_map
+        → ExitsAt (image_run elf plan.now) ended.count ended.exit) }
+    ensures err { IfErr result (λ end. (elf : List ℕ) → machine.old ≡ first_core_of elf standard_map
+        → ImageCause elf plan.now end) }
+{
     let mut console = MemConsole::new(alloc, &[], &[])?;
-    match run(&mut machine, plan, &[], LOAD_STEPS, &mut console) {
+    match run(machine, plan, &[], LOAD_STEPS, &mut console) {
         RunEnd::Exit(status) => Ok(Ended {
             count: machine.commits(),
             exit: exit_of(alloc, &console, status)?,
