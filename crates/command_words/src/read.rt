@@ -1,13 +1,14 @@
 // The command that words spell.
 
 ghost use Rattle.std.specs.Prelude.{◌≡◌, IfOk, IfSome, [], codes, map, option_map, unwrap_or};
-ghost use Rattle.std.specs.Option.{option_copied};
+ghost use Rattle.std.specs.Option.{option_and_then, option_copied};
 ghost use Rattle.clap.specs.Matches.{found_of};
+ghost use Rattle.clap.specs.Simple.{subcommand_rows_of};
 ghost use Rattle.clap.specs.Walk.{all_of, first_of, rows_of};
-ghost use Rattle.command_words.specs.Command.{HasMap, check_of, command_of, found_in, make_of, meaning, meant, plain_of, run_of, steps_given, texts, trace_of, zc_of};
+ghost use Rattle.command_words.specs.Command.{HasMap, check_of, command_of, found_in, make_of, meaning, meant, plain_of, read_by_clap, run_of, steps_given, texts, trace_of, zc_of};
 ghost use Rattle.command_words.specs.MapWords.{address_given, map_given};
 ghost use Rattle.command_words.specs.PlainForm.{IsReadAsPlain};
-ghost use Rattle.command_words.specs.Table.{check_syntax, make_syntax, plain_syntax, run_syntax, trace_syntax, zc_syntax};
+ghost use Rattle.command_words.specs.Table.{check_syntax, make_syntax, plain_syntax, program_app, run_syntax, trace_syntax, zc_syntax};
 ghost use Rattle.zc_base.specs.MemMap.{IsMap};
 
 use crate::app::program_app;
@@ -29,15 +30,35 @@ pub fn read(alloc: Global, words: &[String]) -> Result<Option<CommandLine<'_>>, 
     ensures plain { IsReadAsPlain (texts words.now) }
     ensures maps { IfOk result (λ c. IfSome c HasMap) }
 {
-    let matches = match program_app(alloc)?.try_get_matches_from(words) {
-        Ok(matches) => matches,
-        Err(error) => {
-            return match error.kind() {
-                ErrorKind::OutOfMemory => Err(AllocError),
-                _ => Ok(None),
-            };
-        }
-    };
+    match matches_of(alloc, words)? {
+        Some(matches) => entered(alloc, &matches),
+        None => Ok(None),
+    }
+}
+
+// What `clap` finds in the words, if no step of its reading fails.
+fn matches_of<'a>(alloc: Global, words: &'a [String]) -> Result<Option<ArgMatches<'a>>, AllocError>
+    ensures { IfOk result (λ found.
+        option_and_then subcommand_rows_of found ≡ read_by_clap program_app (texts words.now)) }
+{
+    match program_app(alloc)?.try_get_matches_from(words) {
+        Ok(matches) => Ok(Some(matches)),
+        Err(error) => match error.kind() {
+            ErrorKind::OutOfMemory => Err(AllocError),
+            _ => Ok(None),
+        },
+    }
+}
+
+// The command of the subcommand that the words name.
+fn entered<'a>(
+    alloc: Global,
+    matches: &ArgMatches<'a>,
+) -> Result<Option<CommandLine<'a>>, AllocError>
+    ensures spells { IfOk result (λ c.
+        option_map meant c ≡ option_and_then (λ p. meaning p.0 p.1) (subcommand_rows_of matches.now)) }
+    ensures maps { IfOk result (λ c. IfSome c HasMap) }
+{
     match matches.subcommand() {
         Some((name, found)) => by_name(alloc, name, found),
         None => Ok(None),
