@@ -21,3 +21,12 @@ loop-i-preserved c =
     let at : c.args.a + c.loop-i.i ≡ c.from.result + c.from-in-loop-i.result = ap₂ (λ m n. m + n) (sym c.from.ensures) (sym c.from-in-loop-i.ensures) in
     numbers_more memory c.args.a c.loop-i.i c.loop-i.bytes.items c.in-Num.byte c.loop-i.invariant (ap (cell_at Undef memory) at ∙ sym c.byte.ensures ∙ c.in-Num.is)
     ∙ ap Some (sym c.in_ok-push-in-Num.ensures.items)
+
+pub loop-i-init : goal.loop-i-init
+loop-i-init c = ap Some (sym c.in_ok-bytes.ensures.items)
+
+pub byte-requires : goal.byte-requires
+byte-requires c = omega (arith, c.from.ensures, c.from-in-loop-i.ensures, c.loop-i-test.true, c.ranges.a.fits, c.ranges.n.fits)
+
+pub loop-i-smaller : goal.loop-i-smaller
+loop-i-smaller c = omega (arith, c.loop-i-test.true)

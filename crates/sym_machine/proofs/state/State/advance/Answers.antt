@@ -49,3 +49,15 @@ loop-made-preserved c =
       runs = RunsTo-made p s.map c.args.self.now.core s.core c.if-not-quick_item.self.core c.loop-made.made c.place-place.result next item
           step c.in-Some-item_here.ensures.item c.in-Some-item_here.ensures.next made so_far;
     }
+
+pub step-requires : goal.step-requires
+step-requires c = c.requires.of
+
+pub find-requires : goal.find-requires
+find-requires c = c.loop-made.invariant.cursor
+
+pub returns : goal.returns
+returns c = record {
+  within = c.loop-made.invariant.within;
+  advanced = record { last = c.loop-made.self.core; runs = c.loop-made.invariant.runs; makes = c.step-2.ensures };
+}
