@@ -3,63 +3,94 @@
 // In a row `|` stands for a line feed, `^` for a carriage return, `%` for a byte of zero, `_` for a line `slot 0`,
 // and `~` for eight of these.
 
-use crate::rows::expect;
+use crate::rows::{expect, same};
 use pick_check::accepts::accepts;
+use pick_check::certificate::Certificate;
 use pick_check::fault::CertFault;
 use pick_check::read_certificate::read_certificate;
+use pick_check::saving::Saving;
 use pick_check::write_certificate::write_certificate;
 use std::alloc::{AllocError, Global};
+use std::process::Abort;
 use std::test::Fail;
 
 const HOLES: &str = "slot 0\nslot 0\nslot 0\nslot 0\nslot 0\nslot 0\nslot 0\nslot 0\n";
 
-// The bytes that a row stands for.
-fn bytes_of(alloc: Global, row: &str) -> Result<Vec<u8>, AllocError> {
-    let mut bytes = Vec::new(alloc);
-    for byte in row.bytes() {
-        match byte {
-            b'|' => bytes.push(b'\n')?,
-            b'^' => bytes.push(b'\r')?,
-            b'%' => bytes.push(0)?,
-            b'_' => bytes.extend_from_slice(b"slot 0\n")?,
-            b'~' => bytes.extend_from_slice(HOLES.as_bytes())?,
-            _ => bytes.push(byte)?,
-        }
+// The byte that stands for itself or for another one.
+fn single(byte: u8) -> u8 {
+    match byte {
+        b'|' => b'\n',
+        b'^' => b'\r',
+        b'%' => 0,
+        _ => byte,
     }
-    Ok(bytes)
 }
 
-// What is said of a text: which line may not stand there, or the net, if the checker takes the certificate. What is
-// read is also written, and should give the text again.
-fn said_of(alloc: Global, bytes: &[u8]) -> Result<String, AllocError> {
-    let (savings, certificate) = match read_certificate(alloc, bytes) {
-        Ok(read) => read,
-        Err(CertFault::BadLine { number }) => return format!(in alloc; "line {number}"),
-        Err(fault) => return format!(in alloc; "{fault}"),
-    };
+// Adds what a byte of a row stands for.
+fn add_byte(bytes: &mut Vec<u8>, byte: u8) -> Result<(), AllocError> {
+    match byte {
+        b'_' => bytes.extend_from_slice(b"slot 0\n"),
+        b'~' => bytes.extend_from_slice(HOLES.as_bytes()),
+        _ => Ok(bytes.push(single(byte))?),
+    }
+}
+
+fn add_bytes(bytes: &mut Vec<u8>, row: &str) -> Result<(), AllocError> {
+    for byte in row.bytes() {
+        add_byte(bytes, byte)?;
+    }
+    Ok(())
+}
+
+// What is said of a certificate that is read. It is also written, and should give the text again.
+fn said_of_read(
+    alloc: Global,
+    bytes: &[u8],
+    savings: &[Saving],
+    certificate: &Certificate,
+) -> Result<String, AllocError> {
     if savings.len() > 160_000 || certificate.slots.len() > 256 {
         return String::from_str(alloc, "too many lines");
     }
-    let written = write_certificate(alloc, &savings, &certificate)?;
+    let written = write_certificate(alloc, savings, certificate)?;
     if written.as_slice() != bytes {
         return String::from_str(alloc, "written in another way");
     }
-    if accepts(&savings, &certificate) {
+    if accepts(savings, certificate) {
         format!(in alloc; "{}", certificate.net)
     } else {
         String::from_str(alloc, "rejected")
     }
 }
 
+// What is said of a text: which line may not stand there, or the net, if the checker takes the certificate.
+fn said_of(alloc: Global, bytes: &[u8]) -> Result<String, AllocError> {
+    match read_certificate(alloc, bytes) {
+        Ok((savings, certificate)) => {
+            said_of_read(alloc, bytes, savings.as_slice(), &certificate)
+        }
+        Err(CertFault::BadLine { number }) => format!(in alloc; "line {number}"),
+        Err(fault) => format!(in alloc; "{fault}"),
+    }
+}
+
+// What stands before and after a row.
+fn around(call: &str) -> (&'static str, &'static str) {
+    match call {
+        "lines" => ("zcld certificate 1|", "|end|"),
+        "line 2" => ("zcld certificate 1|", "|price 0 0 0|net 0|end|"),
+        _ => ("", ""),
+    }
+}
+
 /// What is said of a text, or of the lines between the first and the last of a certificate, or of line 2 of one.
-pub fn answer(alloc: Global, call: &str, row: &str) -> Result<String, Fail> {
-    let text = match call {
-        "lines" => format!(in alloc; "zcld certificate 1|{row}|end|")?,
-        "line 2" => format!(in alloc; "zcld certificate 1|{row}|price 0 0 0|net 0|end|")?,
-        _ => String::from_str(alloc, row)?,
-    };
-    let bytes = bytes_of(alloc, text.as_str())?;
-    Ok(said_of(alloc, bytes.as_slice())?)
+pub fn answer(alloc: Global, call: &str, row: &str) -> Result<String, AllocError> {
+    let (before, after) = around(call);
+    let mut bytes = Vec::new(alloc);
+    add_bytes(&mut bytes, before)?;
+    add_bytes(&mut bytes, row)?;
+    add_bytes(&mut bytes, after)?;
+    said_of(alloc, bytes.as_slice())
 }
 
 // Slots, prices and a net, by worked savings: the net that the checker takes, or that it takes none.
@@ -186,11 +217,15 @@ fn told_of(alloc: Global, length: usize) -> Result<String, Fail> {
     }
 }
 
+// What should be printed of so many line feeds.
+fn expect_feeds<R: Abort + AllocGlobal>(rt: &R, length: usize, want: &str) -> Result<(), Fail> {
+    let found = told_of(rt.alloc(), length)?;
+    same(rt, found.as_str(), want, "text", "of line feeds");
+    Ok(())
+}
+
 #[test]
 fn a_text_above_the_limit_is_too_large(rt: HostRuntime) -> Result<(), Fail> {
-    let within = told_of(rt.alloc(), 8_388_608)?;
-    let above = told_of(rt.alloc(), 8_388_609)?;
-    assert_eq!(rt; within.as_str(), "line 1 isn't one of a certificate");
-    assert_eq!(rt; above.as_str(), "the certificate is too large");
-    Ok(())
+    expect_feeds(&rt, 8_388_608, "line 1 isn't one of a certificate")?;
+    expect_feeds(&rt, 8_388_609, "the certificate is too large")
 }

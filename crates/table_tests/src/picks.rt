@@ -5,7 +5,7 @@ ghost use Rattle.std.specs.List.{list_all};
 ghost use Rattle.jumptable_pick.specs.Ranking.{is_small};
 ghost use Rattle.pick_check.specs.Certified.{IsAccepted};
 
-use crate::rows::expect;
+use crate::rows::{cut, expect, number};
 use jumptable_pick::picker::pick;
 use jumptable_pick::slots::slot_places;
 use pick_check::certificate::Certificate;
@@ -36,19 +36,18 @@ fn add(
     Ok(())
 }
 
+// Adds the savings of a group.
+fn add_group(savings: &mut Vec<Saving>, group: &str) -> Result<(), Fail> {
+    let (count, sites) = cut(group, ':')?;
+    let (jumps, calls) = cut(sites, ':')?;
+    add(savings, number(count)?, number(jumps)?, number(calls)?)
+}
+
 // The savings of groups: how many, and the jump sites and call sites of each.
 fn savings_of(alloc: Global, groups: &str) -> Result<Vec<Saving>, Fail> {
     let mut savings = Vec::new(alloc);
     for group in groups.split_whitespace() {
-        let (count, sites) = group.split_once(':').ok_or("no sites")?;
-        let (jumps, calls) = sites.split_once(':').ok_or("no calls")?;
-        let count = count.parse::<u32>()?;
-        add(
-            &mut savings,
-            count,
-            jumps.parse::<u32>()?,
-            calls.parse::<u32>()?,
-        )?;
+        add_group(&mut savings, group)?;
     }
     Ok(savings)
 }
@@ -81,10 +80,9 @@ fn picked(alloc: Global, savings: &[Saving]) -> Result<Certificate, Fail>
     }
 }
 
-// Slots in runs, each by its first slot and how many follow each other: `0*32` are 32 holes, and `1*32` are the slots
-// of the savings 1 to 32.
-fn runs(alloc: Global, slots: &[u32]) -> Result<String, Fail> {
-    let mut text = String::new(alloc);
+// Adds slots in runs, each by its first slot and how many follow each other: `0*32` are 32 holes, and `1*32` are the
+// slots of the savings 1 to 32.
+fn add_runs(text: &mut String, slots: &[u32]) -> Result<(), AllocError> {
     let mut first = 0_u32;
     let mut count = 0_u32;
     for slot in slots {
@@ -96,33 +94,40 @@ fn runs(alloc: Global, slots: &[u32]) -> Result<String, Fail> {
         if count > 0 && *slot == next {
             count = count.wrapping_add(1);
         } else {
-            text.push_str(run(alloc, first, count)?.as_str())?;
+            add_run(text, first, count)?;
             first = *slot;
             count = 1;
         }
     }
-    text.push_str(run(alloc, first, count)?.as_str())?;
-    Ok(text)
+    add_run(text, first, count)
 }
 
-fn run(alloc: Global, first: u32, count: u32) -> Result<String, AllocError> {
+fn add_run(text: &mut String, first: u32, count: u32) -> Result<(), AllocError> {
     if count == 0 {
-        Ok(String::new(alloc))
-    } else {
-        format!(in alloc; "{first}*{count} ")
+        return Ok(());
     }
+    write!(text, "{first}*{count} ")
+}
+
+fn add_certificate(text: &mut String, c: &Certificate) -> Result<(), AllocError> {
+    add_runs(text, c.slots.as_slice())?;
+    let [jump, low, high] = c.prices;
+    write!(text, "at {jump}")?;
+    write!(text, " {low}")?;
+    write!(text, " {high} net {}", c.net)
+}
+
+fn certificate_of(alloc: Global, savings: &[Saving]) -> Result<String, Fail> {
+    let c = picked(alloc, savings)?;
+    let mut text = String::new(alloc);
+    add_certificate(&mut text, &c)?;
+    Ok(text)
 }
 
 /// The slots, prices and net that are picked for groups of savings.
 pub fn certificate(alloc: Global, groups: &str) -> Result<String, Fail> {
     let savings = savings_of(alloc, groups)?;
-    let c = picked(alloc, &savings)?;
-    let [jump, low, high] = c.prices;
-    Ok(format!(in alloc;
-        "{}at {jump} {low} {high} net {}",
-        runs(alloc, &c.slots)?,
-        c.net
-    )?)
+    certificate_of(alloc, savings.as_slice())
 }
 
 // Savings with the same sites have slots in their order. The last two are a target with a slot in both parts, and none
@@ -142,19 +147,32 @@ fn tables_are_picked(rt: HostRuntime) -> Result<(), Fail> {
     expect(&rt, "pick", PICKED)
 }
 
+// The places that the picked slots lead to.
+fn targets_of(alloc: Global, savings: &[Saving]) -> Result<Vec<Option<Place>>, Fail> {
+    let c = picked(alloc, savings)?;
+    Ok(slot_places(alloc, savings, &c)?)
+}
+
+fn add_offset(text: &mut String, place: &Option<Place>) -> Result<(), AllocError> {
+    match place {
+        Some(place) => write!(text, " {}", place.offset),
+        None => text.push_str("-"),
+    }
+}
+
+fn offsets(alloc: Global, targets: &[Option<Place>]) -> Result<String, AllocError> {
+    let mut text = String::new(alloc);
+    for place in targets {
+        add_offset(&mut text, place)?;
+    }
+    Ok(text)
+}
+
 /// The offsets of the places that the slots picked for groups of savings lead to, with a dash for each hole.
 pub fn places(alloc: Global, groups: &str) -> Result<String, Fail> {
     let savings = savings_of(alloc, groups)?;
-    let c = picked(alloc, &savings)?;
-    let mut text = String::new(alloc);
-    let targets = slot_places(alloc, &savings, &c)?;
-    for place in &targets {
-        match place {
-            Some(place) => text.push_str(format!(in alloc; " {}", place.offset)?.as_str())?,
-            None => text.push_str("-")?,
-        }
-    }
-    Ok(text)
+    let targets = targets_of(alloc, savings.as_slice())?;
+    Ok(offsets(alloc, targets.as_slice())?)
 }
 
 const PLACES: &str = "1:0:50 =

@@ -1,6 +1,6 @@
 // The code that sets the base of a jump table.
 
-use crate::rows::expect;
+use crate::rows::{cut, expect};
 use entry_stub::stub::stub;
 use psabi_reloc::reaches::jal_reaches;
 use std::alloc::Global;
@@ -15,14 +15,20 @@ fn reached(text: u32, distance: i32) -> Option<[u8; 12]> {
     }
 }
 
-/// The bytes of the code, by the address of the text and the distance from the jump to the program's start.
-pub fn stub_bytes(alloc: Global, given: &str) -> Result<String, Fail> {
-    let (text, distance) = given.split_once(' ').ok_or("no distance")?;
+// The same by the address of the text and the distance from the jump to the program's start.
+fn code_of(given: &str) -> Result<[u8; 12], Fail> {
+    let (text, distance) = cut(given, ' ')?;
     let text = u32::from_str_radix(text, 16)?;
-    let bytes = reached(text, distance.parse::<i32>()?).ok_or("out of reach")?;
+    let distance = distance.parse::<i32>()?;
+    Ok(reached(text, distance).ok_or("out of reach")?)
+}
+
+/// The bytes of that code.
+pub fn stub_bytes(alloc: Global, given: &str) -> Result<String, Fail> {
+    let bytes = code_of(given)?;
     let mut line = String::new(alloc);
     for byte in bytes {
-        line.push_str(format!(in alloc; " {byte:02X}")?.as_str())?;
+        write!(line, " {byte:02X}")?;
     }
     Ok(line)
 }

@@ -3,7 +3,8 @@
 ghost use Rattle.std.specs.Prelude.{◌≡◌, ◌<◌, ◌^◌, IfOk, IsTrue};
 ghost use Rattle.std.specs.List.{sum};
 
-use crate::rows::expect;
+use crate::rows;
+use crate::rows::{cut, expect};
 use shrink_layout::sums::Sums;
 use std::alloc::{AllocError, Global};
 use std::test::Fail;
@@ -79,26 +80,42 @@ fn number(sums: &Sums, call: &str, i: usize) -> Option<u32> {
     }
 }
 
-// Takes a step, and adds to the line what it gives: `set 2 7` makes the size with index 2 a 7, `nodes 0 4` gives the
-// first four nodes, and `before 0 4` the sums of no sizes up to the first three.
-fn take(alloc: Global, sums: &mut Sums, step: &str, line: &mut String) -> Result<(), Fail> {
-    let (call, numbers) = step.trim().split_once(' ').ok_or("no numbers")?;
-    let (first, second) = numbers.split_once(' ').ok_or("no second number")?;
-    let first = first.parse::<usize>()?;
-    let second = second.parse::<u32>()?;
-    if call == "set" {
-        return set(alloc, sums, first, second);
-    }
-    for i in first..usize::try_from(second)? {
-        let number = number(sums, call, i).ok_or("no such number")?;
-        line.push_str(format!(in alloc; " {number}")?.as_str())?;
+// Adds a number to a line.
+fn add_number(line: &mut String, sums: &Sums, call: &str, i: usize) -> Result<(), Fail> {
+    let number = number(sums, call, i).ok_or("no such number")?;
+    Ok(write!(line, " {number}")?)
+}
+
+fn add_numbers(
+    line: &mut String,
+    sums: &Sums,
+    call: &str,
+    first: usize,
+    end: usize,
+) -> Result<(), Fail> {
+    for i in first..end {
+        add_number(line, sums, call, i)?;
     }
     Ok(())
 }
 
+// Takes a step, and adds to the line what it gives: `set 2 7` makes the size with index 2 a 7, `nodes 0 4` gives the
+// first four nodes, and `before 0 4` the sums of no sizes up to the first three.
+fn take(alloc: Global, sums: &mut Sums, step: &str, line: &mut String) -> Result<(), Fail> {
+    let (call, numbers) = cut(step.trim(), ' ')?;
+    let (first, second) = cut(numbers, ' ')?;
+    let first = rows::number(first)? as usize;
+    let second = rows::number(second)?;
+    if call == "set" {
+        set(alloc, sums, first, second)
+    } else {
+        add_numbers(line, sums, call, first, second as usize)
+    }
+}
+
 /// What the steps give, taken in turn from the tree of these sizes on.
 pub fn steps(alloc: Global, given: &str) -> Result<String, Fail> {
-    let (sizes, steps) = given.split_once(';').ok_or("no steps")?;
+    let (sizes, steps) = cut(given, ';')?;
     let mut sums = tree(alloc, sizes)?;
     let mut line = String::new(alloc);
     for step in steps.split(',') {
