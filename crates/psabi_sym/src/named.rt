@@ -56,10 +56,10 @@ fn strong_definitions(
 ) -> Result<Vec<Option<SymbolRow>>, LinkFault>
     requires { All (λ r. row_defines 1 r ≡ true → r.name < count) rows.now }
     ensures strong { IfOk result (λ strong. strong.items ≡ map (first_row 1 rows.now) (range_with_len 0 count)) }
-    ensures once { (names : List (List ℕ)) (objects : List ObjectParts) → IsNumbered names (all_symbols objects) rows.now
-        → IfOk result (λ _. duplicate_fault objects ≡ None) }
-    ensures err { (names : List (List ℕ)) (objects : List ObjectParts) → IsNumbered names (all_symbols objects) rows.now
-        → IfErr result (IsRefusal (duplicate_fault objects)) }
+    ensures once { (names : List (List ℕ)) (objects : List ObjectParts)
+        → IsNumbered names (all_symbols objects) rows.now → IfOk result (λ _. duplicate_fault objects ≡ None) }
+    ensures err { (names : List (List ℕ)) (objects : List ObjectParts)
+        → IsNumbered names (all_symbols objects) rows.now → IfErr result (IsRefusal (duplicate_fault objects)) }
 {
     let strong = first_definitions(alloc, rows, count, GLOBAL)?;
     if let Some((index, symbol)) = first_duplicate(rows, &strong) {
