@@ -1,6 +1,6 @@
-use Rattle.std.proofs.Common.{◌≡◌, ◌+◌, [], ◌∷◌, ◌++◌, length, map, take, ap, sym, ◌∙◌, arith}
+use Rattle.std.proofs.Common.{◌≡◌, ◌≤◌, ◌+◌, [], ◌∷◌, ◌++◌, length, map, take, ap, sym, ◌∙◌, arith}
 use Rattle.std.specs.List.{range_with_len}
-use Rattle.std.proofs.lemmas.List.{length-map, map-append}
+use Rattle.std.proofs.lemmas.List.{length-map, map-append, take_all}
 use Rattle.std.proofs.lemmas.List.FromFn.{map-range_with_len_more}
 use Rattle.elf32_read.specs.Parts.{object_parts}
 use Rattle.psabi_sym.specs.Indexed.{all_sections, sections_in}
@@ -49,3 +49,10 @@ returns-clause-starts c =
     ∙ ap (λ k. map (section_starts all) (range_with_len 0 i) ++ k ∷ []) (omega (arith, c.len-2.ensures, rows.ok.0, count))
     ∙ sym (map-range_with_len_more (section_starts all) 0 i i (omega arith))
     ∙ ap (λ k. map (section_starts all) (range_with_len 0 (k + 1))) end
+
+pub returns-clause-rows : goal.returns-clause-rows
+returns-clause-rows c =
+    let files = c.args.objects.now in
+    let all = map object_parts files in
+    let end : length all ≤ c.loop-i.i = omega (arith, length-map files object_parts) in
+    c.loop-i.invariant.rows ∙ ap (λ l. map section_row (all_sections l)) (take_all c.loop-i.i all end)

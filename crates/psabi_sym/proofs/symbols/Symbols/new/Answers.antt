@@ -1,6 +1,6 @@
-use Rattle.std.proofs.Common.{◌≡◌, ◌+◌, ◌<◌, true, [], ◌∷◌, ◌++◌, length, map, take, ap, sym, subst, ◌∙◌, arith}
+use Rattle.std.proofs.Common.{◌≡◌, ◌≤◌, ◌+◌, ◌<◌, true, [], ◌∷◌, ◌++◌, length, map, take, ap, sym, subst, ◌∙◌, arith}
 use Rattle.std.specs.List.{range_with_len}
-use Rattle.std.proofs.lemmas.List.{length-map}
+use Rattle.std.proofs.lemmas.List.{length-map, take_all}
 use Rattle.std.proofs.lemmas.List.Elements.{All-nil}
 use Rattle.std.proofs.lemmas.List.FromFn.{map-range_with_len_more}
 use Rattle.elf32_read.specs.Parts.{object_parts}
@@ -64,3 +64,10 @@ returns-clause-starts c =
     ∙ ap (λ k. map (symbol_starts all) (range_with_len 0 i) ++ k ∷ []) (omega (arith, c.len-2.ensures, rows.ok.0, count))
     ∙ sym (map-range_with_len_more (symbol_starts all) 0 i i (omega arith))
     ∙ ap (λ k. map (symbol_starts all) (range_with_len 0 (k + 1))) end
+
+pub returns-clause-rows : goal.returns-clause-rows
+returns-clause-rows c =
+    let files = c.args.objects.now in
+    let all = map object_parts files in
+    let end : length all ≤ c.loop-i.i = omega (arith, length-map files object_parts) in
+    subst (λ l. IsNumbered (names_of c.loop-i.names) (all_symbols l) c.loop-i.rows.items) (take_all c.loop-i.i all end) c.loop-i.invariant.rows
