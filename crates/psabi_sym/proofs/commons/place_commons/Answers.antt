@@ -1,5 +1,6 @@
-use Rattle.std.proofs.Common.{rules, ◌≡◌, ◌<◌, refl, sym, ap, ◌∙◌, [], None, arith, length, get_or, map, ◌+◌, set, Some}
+use Rattle.std.proofs.Common.{rules, ◌≡◌, ◌<◌, ◌≤◌, refl, sym, ap, ◌∙◌, [], None, arith, length, get_or, map, ◌+◌, set, Some}
 use Rattle.std.specs.List.{range_with_len}
+use Rattle.std.proofs.lemmas.List.{take_all}
 use Rattle.psabi_sym.specs.declared.symbol_row.SymbolRow.{SymbolRow}
 use Rattle.psabi_sym.specs.Blocks.{aligned_up, end_from, placed_from}
 use Rattle.psabi_sym.specs.Invariants.Rows.{placed_rows, row_address_of, row_common_block, row_room}
@@ -72,3 +73,17 @@ loop-row-preserved c =
             addresses = ap (λ v. v.items) w.addresses-is ∙ c.loop-row.invariant.addresses ∙ ap (λ l. map (row_address_of (placed_from (row_room rows) start l)) (range_with_len 0 n)) same;
           }
     ]
+
+pub returns-clause-end : goal.returns-clause-end
+returns-clause-end c =
+    let rows = c.args.rows.now in
+    let end : length rows ≤ c.loop-row.row-index = omega arith in
+    c.loop-row.invariant.end ∙ ap (λ l. end_from (aligned_up 16 c.args.from) (map (row_room rows) (placed_rows rows l))) (take_all c.loop-row.row-index rows end)
+
+pub returns-clause-addresses : goal.returns-clause-addresses
+returns-clause-addresses c =
+    let rows = c.args.rows.now in
+    let n = length c.args.strong.now in
+    let end : length rows ≤ c.loop-row.row-index = omega arith in
+    c.loop-row.invariant.addresses
+    ∙ ap (λ l. map (row_address_of (placed_from (row_room rows) (aligned_up 16 c.args.from) (placed_rows rows l))) (range_with_len 0 n)) (take_all c.loop-row.row-index rows end)

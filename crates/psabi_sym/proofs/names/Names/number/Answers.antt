@@ -21,3 +21,6 @@ returns-clause-added c = record {
 
 pub returns-clause-number : goal.returns-clause-number
 returns-clause-number c = (added c).number_is ∙ ap (name_number (lent c.number.new.self.texts.items)) c.name_with_key.ensures.name
+
+pub returns-clause-within : goal.returns-clause-within
+returns-clause-within c = (added c).within
