@@ -1,5 +1,5 @@
 -- Why no load of objects is known.
-use Rattle.std.specs.Prelude.{ℕ, [], List, ⊤}
+use Rattle.std.specs.Prelude.{◌⊎◌, ℕ, [], List, ⊤}
 use Rattle.interrupt_plan.specs.Made.{made_plan}
 use Rattle.interrupt_plan.specs.Plan.{Entry}
 use Rattle.psabi_sym.specs.Inputs.{Inputs}
@@ -23,6 +23,12 @@ abbrev pub ImageCause : List ℕ → List Entry → LoadEnd → Type 0
 ImageCause elf plan (Stuck place why) = ⊥
 ImageCause elf plan Spent = IsSpent (image_run elf plan)
 ImageCause elf plan OutOfMemory = ⊤
+
+-- one of two runs of an image does: that without interrupts, or, once that exits, that under a plan
+abbrev pub BothCause : List ℕ → List Entry → LoadEnd → Type 0
+BothCause elf plan (Stuck place why) = ⊥
+BothCause elf plan Spent = IsSpent (image_run elf []) ⊎ (Exits (image_run elf []) × IsSpent (image_run elf plan))
+BothCause elf plan OutOfMemory = ⊤
 
 -- ---- all runs
 

@@ -1,10 +1,10 @@
 -- What a load says of objects.
-use Rattle.std.specs.Prelude.{◌≡◌, ℕ, []}
+use Rattle.std.specs.Prelude.{◌≡◌, ℕ, List, []}
 use Rattle.interrupt_plan.specs.Made.{made_plan}
 use Rattle.psabi_sym.specs.Inputs.{Inputs}
 use Rattle.zc_link.specs.Links.{IsPlainLink, IsZcLink, Link}
 use Rattle.zc_outside.specs.Course.{ExitsAt}
-use Rattle.load_runner.specs.Runs.{ExitsWith, image_run, trace_run}
+use Rattle.load_runner.specs.Runs.{ExitsWith, image_run, standard_inputs, trace_run}
 use Rattle.load_runner.specs.declared.load.Load.{Load}
 use Rattle.load_runner.specs.declared.run_load.TheConstants.{LOAD_CUTS}
 
@@ -12,6 +12,13 @@ use Rattle.load_runner.specs.declared.run_load.TheConstants.{LOAD_CUTS}
 pub record BothLinks (inputs : Inputs) : Type 0 where
   pub plain : Link
   pub zc : Link
+  pub is_plain : IsPlainLink inputs plain
+  pub is_zc : IsZcLink inputs zc
+
+-- these are the two links of the objects in some files
+pub record AreLinks (inputs : Inputs) (plain zc : Link) : Type 0 where
+  pub files : List (List ℕ)
+  pub are : inputs ≡ standard_inputs files
   pub is_plain : IsPlainLink inputs plain
   pub is_zc : IsZcLink inputs zc
 

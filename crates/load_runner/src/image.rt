@@ -1,8 +1,8 @@
 // The run of an image.
 
-ghost use Rattle.std.specs.Prelude.{◌≡◌, ℕ, List, IfErr, IfOk, None};
+ghost use Rattle.std.specs.Prelude.{◌≡◌, ℕ, [], List, IfErr, IfOk, None};
 ghost use Rattle.elf32_read.specs.Image.{image_fault};
-ghost use Rattle.load_runner.specs.Cause.{ImageCause};
+ghost use Rattle.load_runner.specs.Cause.{BothCause, ImageCause};
 ghost use Rattle.load_runner.specs.Runs.{BeginsImage, EventuallyExits, image_run};
 ghost use Rattle.zc_base.specs.MemMap.{standard_map};
 ghost use Rattle.zc_machine.specs.Load.{first_core_of};
@@ -12,7 +12,7 @@ use crate::ended::{Ended, exit_of};
 use crate::load_end::LoadEnd;
 use crate::run_load::LOAD_STEPS;
 use elf32_read::image::Image;
-use interrupt_plan::plan::Plan;
+use interrupt_plan::plan::{Plan, empty_plan};
 use std::alloc::Global;
 use zc_base::mem_map::MemMap;
 use zc_link::linked::Linked;
@@ -21,9 +21,34 @@ use zc_machine::run::{RunEnd, run};
 use zc_outside::console::ConsoleFault;
 use zc_outside::mem_console::MemConsole;
 
+/// Runs the image of a link over no input twice, first without interrupts and then under a plan, each up to its exit.
+pub fn run_both(alloc: Global, linked: &Linked, plan: &Plan) -> Result<(Ended, Ended), LoadEnd>
+    requires faultless { image_fault linked.now.elf standard_map ≡ None }
+    requires uncut_exits { EventuallyExits linked.now.elf [] }
+    requires exits { EventuallyExits linked.now.elf plan.now }
+    ensures uncut { IfOk result (λ ends. ExitsAt (image_run linked.now.elf []) ends.0.count ends.0.exit) }
+    ensures cut { IfOk result (λ ends. ExitsAt (image_run linked.now.elf plan.now) ends.1.count ends.1.exit) }
+    ensures err { IfErr result (BothCause linked.now.elf plan.now) }
+{
+    let uncut = run_uncut(alloc, linked)?;
+    let cut = run_image(alloc, linked, plan)?;
+    Ok((uncut, cut))
+}
+
+/// Runs the image of a link over no input without interrupts, up to its exit.
+pub fn run_uncut(alloc: Global, linked: &Linked) -> Result<Ended, LoadEnd>
+    requires faultless { image_fault linked.now.elf standard_map ≡ None }
+    requires exits { EventuallyExits linked.now.elf [] }
+    ensures ok { IfOk result (λ ended. ExitsAt (image_run linked.now.elf []) ended.count ended.exit) }
+    ensures err { IfErr result (ImageCause linked.now.elf []) }
+{
+    let no_cuts = empty_plan(alloc);
+    run_image(alloc, linked, &no_cuts)
+}
+
 /// Runs the image of a link over no input under a plan, up to its exit. An image that has one is never stopped before
 /// it.
-pub fn run_image(alloc: Global, linked: &Linked, plan: &Plan) -> Result<Ended, LoadEnd>
+fn run_image(alloc: Global, linked: &Linked, plan: &Plan) -> Result<Ended, LoadEnd>
     requires faultless { image_fault linked.now.elf standard_map ≡ None }
     requires exits { EventuallyExits linked.now.elf plan.now }
     ensures ok { IfOk result (λ ended. ExitsAt (image_run linked.now.elf plan.now) ended.count ended.exit) }
