@@ -1,8 +1,11 @@
 // The run of the objects' program.
 
-ghost use Rattle.std.specs.Prelude.{IfErr, IfOk};
+ghost use Rattle.std.specs.Prelude.{◌≡◌, [], IfErr, IfOk};
 ghost use Rattle.load_runner.specs.Cause.{TraceCause};
 ghost use Rattle.load_runner.specs.Runs.{IsTraced};
+ghost use Rattle.psabi_sym.specs.Inputs.{parsed};
+ghost use Rattle.sym_machine.specs.Objects.{program_of};
+ghost use Rattle.sym_machine.specs.State.{first_plain};
 
 use crate::ended::{Ended, exit_of};
 use crate::load_end::LoadEnd;
@@ -20,8 +23,17 @@ pub fn trace(alloc: Global, cut: &Cut) -> Result<Ended, LoadEnd>
     ensures err { IfErr result (TraceCause cut.now) }
 {
     let mut sym = Sym::start(alloc, cut, &[])?;
+    trace_start(alloc, cut, &mut sym)
+}
+
+// Traces it from its start.
+fn trace_start(alloc: Global, cut: &Cut, sym: &mut Sym) -> Result<Ended, LoadEnd>
+    requires { sym.old ≡ first_plain (program_of (parsed cut.now)) [] }
+    ensures ok { IfOk result (λ ended. IsTraced cut.now ended.count ended.exit) }
+    ensures err { IfErr result (TraceCause cut.now) }
+{
     let mut console = MemConsole::new(alloc, &[], &[])?;
-    let (end, count) = run_counted(&mut sym, cut, LOAD_STEPS, &mut console);
+    let (end, count) = run_counted(sym, cut, LOAD_STEPS, &mut console);
     match end {
         TraceEnd::Exited(status) => Ok(Ended {
             count,
