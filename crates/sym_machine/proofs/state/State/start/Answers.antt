@@ -1,4 +1,4 @@
-use Rattle.std.proofs.Common.{◌≡◌, ◌-◌, ◌∷◌, [], None, ap, ◌∙◌}
+use Rattle.std.proofs.Common.{◌≡◌, ◌-◌, ◌∷◌, [], None, ap, ◌∙◌, arith}
 use Rattle.psabi_sym.specs.Inputs.{Inputs, parsed}
 use Rattle.rv_decode.specs.Memory.{Data, Stack, blank}
 use Rattle.rv_decode.specs.State.{start_regs}
@@ -26,3 +26,9 @@ returns c =
       input = c.in_ok-input.ensures.items j;
       exit = None;
     }
+
+pub new-requires-clause-stack : goal.new-requires-clause-stack
+new-requires-clause-stack c = omega (arith, c.map-map.ensures.is_map.stack)
+
+pub new-requires-clause-apart : goal.new-requires-clause-apart
+new-requires-clause-apart c = omega (arith, c.map-map.ensures.is_map.data_room, c.map-map.ensures.is_map.stack, c.in_ok-data.ensures.most)
