@@ -3,7 +3,8 @@
 # make example  links a monitor of several C files as it is and makes it smaller, shows the start of its code and its sizes, and
 #               gives its commands to both images and to the objects; and makes examples/exit3.o smaller, shows that, and runs it
 # make check    runs the gate: every proof, must-fail edit, test and program, and then the program that this built over real
-#               files, looks up the documents' names, and counts what the headline stands on
+#               files, looks at the lines of further planted bugs, looks up the documents' names, and counts what the
+#               headline stands on
 # make install  installs the program below $(DESTDIR)$(PREFIX)/bin
 # make clean    removes what these made
 
@@ -54,6 +55,7 @@ example: build/zcld
 check:
 	RT_JOBS=$$(scripts/gate_jobs) $(RT) ci
 	python3 scripts/check_program crates/zcld_program/out/zcld_program
+	python3 scripts/try_planted --lines
 	python3 scripts/check_documents
 	python3 scripts/count_definitions --check
 
