@@ -4,6 +4,8 @@ pub mod PageLaws
 pub mod MemoryLaws
 mod NumberLaws
 pub mod StateLaws
+pub mod FrameLaws
+pub mod PushPopLaws
 pub mod RunLaws
 pub mod WordLaws
 pub mod SpanLaws

@@ -5,6 +5,7 @@ use Rattle.std.proofs.lemmas.List.Concat.{flat_map-append}
 use Rattle.zc_base.specs.declared.mem_map.MemMap.{MemMap}
 use Rattle.zc_base.specs.declared.place.Place.{Place}
 use Rattle.block_cut.specs.declared.item.Item.{Item}
+use Rattle.rv_decode.specs.declared.instr.Instr.{Instr}
 use Rattle.rv_decode.specs.Memory.{extents_of}
 use Rattle.rv_decode.specs.Run.{iterate, ◌>>=◌}
 use Rattle.rv_decode.specs.State.{Event, Exit, Read, Write}
@@ -24,8 +25,9 @@ use Rattle.sym_machine.specs.Program.{Program}
 use Rattle.sym_machine.specs.Run.{plain_turn, program_after, recorded}
 use Rattle.sym_machine.specs.RunEnd.{IsCounted, Traced, plain_course}
 use Rattle.sym_machine.specs.State.{PlainCore, PlainState, first_plain}
-use Rattle.sym_machine.specs.Step.{PlainStep, Went, Stuck, after_change, ends, applied, plain_step}
-use Rattle.sym_machine.proofs.StepLaws.{Ended, ended, extents-step, step_past_exit, step_running}
+use Rattle.sym_machine.specs.Expansions.{item_expansion}
+use Rattle.sym_machine.specs.Step.{PlainStep, Went, Stuck, after_change, ends, applied, in_turn, item_step, plain_step}
+use Rattle.sym_machine.proofs.StepLaws.{Ended, ended, extents-step, step_past_exit, step_expansion, step_single}
 
 -- ---- a turn, taken apart
 
@@ -45,9 +47,9 @@ pub record Stepped (p : Program) (r r' : PlainState) : Type 0 where
   pub end : Ended p.map (after_change change r.core) r'.core
   pub events : r'.events ≡ r.events ++ change.events
 
-pub stepped : (p : Program) (r r' : PlainState) → r.core.exit ≡ None → plain_turn p r ≡ Ok r' → Stepped p r r'
+pub stepped : (p : Program) (r r' : PlainState) → r.core.exit ≡ None → item_expansion (p.item r.core.place) ≡ None → plain_turn p r ≡ Ok r' → Stepped p r r'
 unfolding plain_turn
-stepped p r r' running h = by_item (does r) refl (ap (λ t. recorded t r) (sym (step_running p r.core running)) ∙ h)
+stepped p r r' running single h = by_item (does r) refl (ap (λ t. recorded t r) (sym (step_single p r.core running single)) ∙ h)
   where
     does : PlainState → Does
     does r = item_does p (p.item r.core.place) r.core (p.next r.core.place)
@@ -62,6 +64,24 @@ stepped p r r' running h = by_item (does r) refl (ap (λ t. recorded t r) (sym (
     by_item : (d : Does) → does r ≡ d → recorded (applied p.map r.core d) r ≡ Ok r' → Stepped p r r'
     by_item (Stops why) is g = recorded_stuck why r r' g
     by_item (Goes c) is g = by_end c (ends p.map (after_change c r.core) c.events) is refl g
+
+-- what stands at the place is several instructions, which go on one after another, and these events are added
+pub record SteppedExpansion (p : Program) (is : List Instr) (r r' : PlainState) : Type 0 where
+  pub made : List Event
+  pub went : in_turn p.map is (p.next r.core.place) r.core ≡ Went r'.core made
+  pub events : r'.events ≡ r.events ++ made
+
+pub stepped_expansion :
+    (p : Program) (is : List Instr) (r r' : PlainState) → r.core.exit ≡ None → item_expansion (p.item r.core.place) ≡ Some is → plain_turn p r ≡ Ok r' → SteppedExpansion p is r r'
+unfolding plain_turn
+stepped_expansion p is r r' running are h =
+    by (in_turn p.map is (p.next r.core.place) r.core) refl (ap (λ t. recorded t r) (sym (step_expansion p r.core is running are)) ∙ h)
+  where
+    by : (t : PlainStep) → in_turn p.map is (p.next r.core.place) r.core ≡ t → recorded t r ≡ Ok r' → SteppedExpansion p is r r'
+    by (Went s events) went g =
+        let left = recorded_went s events r r' g in
+        record { made = events; went = went ∙ ap (λ t. Went t events) left.0; events = left.1 }
+    by (Stuck why) went g = recorded_stuck why r r' g
 
 -- after the exit the state stays
 pub stays : (p : Program) (r r' : PlainState) (status : ℕ) → r.core.exit ≡ Some status → plain_turn p r ≡ Ok r' → (r'.core ≡ r.core) × (r'.events ≡ r.events)
@@ -179,10 +199,10 @@ RunsTo-more p s last s2 k so_far exit went = record {
 -- and by one that is made by what stands at the place
 pub RunsTo-made :
     (p : Program) (map : MemMap) (s last s2 : PlainCore) (k : ℕ) (q next : Place) (item : Item)
-    → plain_step p last ≡ applied map last (item_does p (p.item q) last (p.next q)) → p.item q ≡ Some item → p.next q ≡ next
-    → RunsOn (applied map last (item_does p (Some item) last next)) [] last s2 → RunsTo p s last k → RunsTo p s s2 (k + 1)
+    → plain_step p last ≡ item_step map p (p.item q) last (p.next q) → p.item q ≡ Some item → p.next q ≡ next
+    → RunsOn (item_step map p (Some item) last next) [] last s2 → RunsTo p s last k → RunsTo p s s2 (k + 1)
 RunsTo-made p map s last s2 k q next item step here after made so_far =
-    RunsTo-more p s last s2 k so_far (made.1 ∙ sym made.0) (step ∙ (λ j. applied map last (item_does p (here j) last (after j))) ∙ made.2)
+    RunsTo-more p s last s2 k so_far (made.1 ∙ sym made.0) (step ∙ (λ j. item_step map p (here j) last (after j)) ∙ made.2)
 
 -- a run that has come to a state comes to where that comes by them, and has written no more
 pub Came-on :

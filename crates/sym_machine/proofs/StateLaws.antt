@@ -17,16 +17,16 @@ use Rattle.sym_machine.specs.declared.word.SymByte.{SymByte}
 use Rattle.sym_machine.specs.declared.word.SymByte.TheVariants.{Num, Undef}
 use Rattle.sym_machine.specs.declared.word.SymWord.{SymWord}
 use Rattle.sym_machine.specs.Answer.{StepAnswers}
-use Rattle.sym_machine.specs.Change.{Change, Goes, Stops, call_to, exit_does, sets, continues, item_does, puts, read_does}
+use Rattle.sym_machine.specs.Change.{Change, Goes, Stops, call_to, exit_does, sets, continues, puts, read_does}
 use Rattle.sym_machine.specs.Kept.{IsChanged, IsKept, IsWorking, Kept, above_only, kept_from, regions_of, word_of, words_of}
 use Rattle.sym_machine.specs.Program.{Program, start_memory}
 use Rattle.sym_machine.specs.State.{PlainCore, reg_of}
-use Rattle.sym_machine.specs.Step.{Stuck, Went, after_change, ends, applied, plain_step, undefined_below}
+use Rattle.sym_machine.specs.Step.{Stuck, Went, after_change, ends, applied, item_step, plain_step, undefined_below}
 use Rattle.sym_machine.specs.Words.{code_word, number_of, number_word, undef_word}
 use Rattle.rv_decode.proofs.MemoryLaws.{length_blank}
 use Rattle.rv_decode.proofs.RegisterLaws.{length-set_reg}
 use Rattle.sym_machine.proofs.MemoryLaws.{changed-after, settled_stays}
-use Rattle.sym_machine.proofs.StepLaws.{ends_outside, ends_unknown, ends_within, made_by, step_running}
+use Rattle.sym_machine.proofs.StepLaws.{ends_outside, ends_unknown, ends_within, item_by, step_running}
 
 -- ---- registers
 
@@ -258,5 +258,5 @@ module _ (k : Kept) (is : IsKept k) (p : Program) (of : extents_of (regions_of k
       omega (arith, is.stack, low_is, sizes)
 
   -- so a step is the program's
-  pub step_of : (s : PlainCore) → s.exit ≡ None → plain_step p s ≡ applied k.map s (item_does p (p.item s.place) s (p.next s.place))
-  step_of s running = step_running p s running ∙ made_by p.map k.map s (item_does p (p.item s.place) s (p.next s.place)) (sym low_is) (sym high_is)
+  pub step_of : (s : PlainCore) → s.exit ≡ None → plain_step p s ≡ item_step k.map p (p.item s.place) s (p.next s.place)
+  step_of s running = step_running p s running ∙ item_by p.map k.map p (p.item s.place) s (p.next s.place) (sym low_is) (sym high_is)

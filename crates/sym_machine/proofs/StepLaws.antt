@@ -7,6 +7,9 @@ use Rattle.std.specs.Prelude.{◌&&◌}
 use Rattle.std.specs.declared.alloc.AllocError.{AllocError}
 use Rattle.std.proofs.lemmas.Bool.{and_from, and_parts, cond-true, cond-false, le-leb, leb-true}
 use Rattle.zc_base.specs.declared.mem_map.MemMap.{MemMap}
+use Rattle.zc_base.specs.declared.place.Place.{Place}
+use Rattle.block_cut.specs.declared.item.Item.{Item}
+use Rattle.rv_decode.specs.declared.instr.Instr.{Instr}
 use Rattle.rv_decode.specs.Memory.{Region, changed, extents_of, written}
 use Rattle.rv_decode.specs.State.{Event}
 use Rattle.rv_decode.proofs.MemoryLaws.{extents-changed}
@@ -16,11 +19,12 @@ use Rattle.sym_machine.specs.declared.why.Why.TheVariants.{StackPointer}
 use Rattle.sym_machine.specs.declared.word.SymByte.{SymByte}
 use Rattle.sym_machine.specs.declared.word.SymByte.TheVariants.{Undef}
 use Rattle.sym_machine.specs.Answer.{Makes}
-use Rattle.sym_machine.specs.Change.{Does, Goes, Stops, item_does}
+use Rattle.sym_machine.specs.Change.{Does, Goes, Stops, item_does, op_does}
 use Rattle.sym_machine.specs.Kept.{IsOf}
 use Rattle.sym_machine.specs.Program.{Program}
+use Rattle.sym_machine.specs.Expansions.{item_expansion}
 use Rattle.sym_machine.specs.State.{PlainCore, reg_of}
-use Rattle.sym_machine.specs.Step.{PlainStep, Went, Stuck, after_change, ends, applied, plain_step, undefined_below}
+use Rattle.sym_machine.specs.Step.{PlainStep, Went, Stuck, after_change, and_then, ends, applied, in_turn, item_step, plain_step, undefined_below}
 use Rattle.sym_machine.specs.Words.{number_of}
 
 -- ---- the beginning
@@ -28,12 +32,26 @@ use Rattle.sym_machine.specs.Words.{number_of}
 -- after the exit the state stays
 pub step_past_exit : (p : Program) (s : PlainCore) (status : ℕ) → s.exit ≡ Some status → plain_step p s ≡ Went s []
 unfolding plain_step
-step_past_exit p s status exited = ap (λ e. option_map_or (λ _. Went s []) e (applied p.map s (item_does p (p.item s.place) s (p.next s.place)))) exited
+step_past_exit p s status exited = ap (λ e. option_map_or (λ _. Went s []) e (item_step p.map p (p.item s.place) s (p.next s.place))) exited
 
 -- before it, a step makes what stands at the place
-pub step_running : (p : Program) (s : PlainCore) → s.exit ≡ None → plain_step p s ≡ applied p.map s (item_does p (p.item s.place) s (p.next s.place))
+pub step_running : (p : Program) (s : PlainCore) → s.exit ≡ None → plain_step p s ≡ item_step p.map p (p.item s.place) s (p.next s.place)
 unfolding plain_step
-step_running p s running = ap (λ e. option_map_or (λ _. Went s []) e (applied p.map s (item_does p (p.item s.place) s (p.next s.place)))) running
+step_running p s running = ap (λ e. option_map_or (λ _. Went s []) e (item_step p.map p (p.item s.place) s (p.next s.place))) running
+
+-- if that isn't several instructions, what the item does
+pub step_single :
+    (p : Program) (s : PlainCore) → s.exit ≡ None → item_expansion (p.item s.place) ≡ None → plain_step p s ≡ applied p.map s (item_does p (p.item s.place) s (p.next s.place))
+step_single p s running single =
+    step_running p s running
+    ∙ ap (λ o. option_map_or (λ is. in_turn p.map is (p.next s.place) s) o (applied p.map s (item_does p (p.item s.place) s (p.next s.place)))) single
+
+-- and if it is, these one after another
+pub step_expansion :
+    (p : Program) (s : PlainCore) (is : List Instr) → s.exit ≡ None → item_expansion (p.item s.place) ≡ Some is → plain_step p s ≡ in_turn p.map is (p.next s.place) s
+step_expansion p s is running are =
+    step_running p s running
+    ∙ ap (λ o. option_map_or (λ is. in_turn p.map is (p.next s.place) s) o (applied p.map s (item_does p (p.item s.place) s (p.next s.place)))) are
 
 -- ---- the end
 
@@ -103,6 +121,29 @@ made_by m n s (Goes c) low high = by (number_of (reg_of (after_change c s) 2))
         (Went (record (after_change c s) { memory = changed (λ a old. cond (leb (low j) a && ltb a sp) Undef old) (after_change c s).memory }) c.events)
         (Stuck StackPointer)
 
+-- and so it is for instructions one after another
+pub in_turn_by :
+    (m n : MemMap) (is : List Instr) (next : Place) (s : PlainCore) → m.stack_low ≡ n.stack_low → m.stack_high ≡ n.stack_high → in_turn m is next s ≡ in_turn n is next s
+in_turn_by m n [] next s low high = refl
+in_turn_by m n (i ∷ is) next s low high =
+    ap (λ t. and_then t (in_turn m is next)) (made_by m n s (op_does i s next) low high)
+    ∙ by (applied n s (op_does i s next)) (λ s'. in_turn_by m n is next s' low high)
+  where
+    by : (t : PlainStep) → ((s' : PlainCore) → in_turn m is next s' ≡ in_turn n is next s') → and_then t (in_turn m is next) ≡ and_then t (in_turn n is next)
+    by (Went s' events) again = again s'
+    by (Stuck why) again = refl
+
+pub item_by :
+    (m n : MemMap) (p : Program) (item : Option Item) (s : PlainCore) (next : Place) → m.stack_low ≡ n.stack_low → m.stack_high ≡ n.stack_high
+    → item_step m p item s next ≡ item_step n p item s next
+item_by m n p item s next low high = by (item_expansion item)
+  where
+    by :
+        (o : Option (List Instr))
+        → option_map_or (λ is. in_turn m is next s) o (applied m s (item_does p item s next)) ≡ option_map_or (λ is. in_turn n is next s) o (applied n s (item_does p item s next))
+    by None = made_by m n s (item_does p item s next) low high
+    by (Some is) = in_turn_by m n is next s low high
+
 -- ---- where memory lies
 
 -- bytes go to memory, one list after another
@@ -115,7 +156,7 @@ extents-with_stores (w ∷ ws) memory =
     let f = written w.0 (length w.1) (λ i. slice_index_or w.1 i Undef) in
     extents-with_stores ws (changed f memory) ∙ extents-changed f memory
 
-extents-made : (map : MemMap) (s s' : PlainCore) (d : Does) (events : List Event) → applied map s d ≡ Went s' events → extents_of s'.memory ≡ extents_of s.memory
+pub extents-made : (map : MemMap) (s s' : PlainCore) (d : Does) (events : List Event) → applied map s d ≡ Went s' events → extents_of s'.memory ≡ extents_of s.memory
 extents-made map s s' (Stops why) events h = absurd cc
 extents-made map s s' (Goes c) events h =
     let end = (ended map (after_change c s) s' c.events events h).0 in
@@ -123,12 +164,33 @@ extents-made map s s' (Goes c) events h =
     ∙ extents-changed (undefined_below map end.sp) (with_stores c.stores s.memory)
     ∙ extents-with_stores c.stores s.memory
 
+extents-in_turn : (map : MemMap) (is : List Instr) (next : Place) (s s' : PlainCore) (events : List Event) → in_turn map is next s ≡ Went s' events → extents_of s'.memory ≡ extents_of s.memory
+extents-in_turn map [] next s s' events h = ap (λ (t : PlainCore). extents_of t.memory) (let e : s' ≡ s = cc in e)
+extents-in_turn map (i ∷ is) next s s' events h = by (applied map s (op_does i s next)) refl h (λ m g. extents-in_turn map is next m s' events g)
+  where
+    by :
+        (t : PlainStep) → applied map s (op_does i s next) ≡ t → and_then t (in_turn map is next) ≡ Went s' events
+        → ((m : PlainCore) → in_turn map is next m ≡ Went s' events → extents_of s'.memory ≡ extents_of m.memory) → extents_of s'.memory ≡ extents_of s.memory
+    by (Went m none) first g again = again m g ∙ extents-made map s m (op_does i s next) none first
+    by (Stuck why) first g again = absurd cc
+
+extents-item :
+    (map : MemMap) (p : Program) (item : Option Item) (s s' : PlainCore) (next : Place) (events : List Event) → item_step map p item s next ≡ Went s' events
+    → extents_of s'.memory ≡ extents_of s.memory
+extents-item map p item s s' next events h = by (item_expansion item) h
+  where
+    by :
+        (o : Option (List Instr)) → option_map_or (λ is. in_turn map is next s) o (applied map s (item_does p item s next)) ≡ Went s' events
+        → extents_of s'.memory ≡ extents_of s.memory
+    by None g = extents-made map s s' (item_does p item s next) events g
+    by (Some is) g = extents-in_turn map is next s s' events g
+
 -- a step moves no memory
 pub extents-step : (p : Program) (s s' : PlainCore) (events : List Event) → plain_step p s ≡ Went s' events → extents_of s'.memory ≡ extents_of s.memory
 extents-step p s s' events h = by s.exit refl
   where
     by : (e : Option ℕ) → s.exit ≡ e → extents_of s'.memory ≡ extents_of s.memory
-    by None is = extents-made p.map s s' (item_does p (p.item s.place) s (p.next s.place)) events (sym (step_running p s is) ∙ h)
+    by None is = extents-item p.map p (p.item s.place) s s' (p.next s.place) events (sym (step_running p s is) ∙ h)
     by (Some status) is =
         let same : Went s [] ≡ Went s' events = sym (step_past_exit p s status is) ∙ h in
         ap (λ (t : PlainCore). extents_of t.memory) (let e : s' ≡ s = cc in e)

@@ -6,7 +6,9 @@ pub mod Objects
 pub mod State
 pub mod Conditions
 pub mod Change
+pub mod Expansions
 pub mod Step
+pub mod Invariants
 pub mod Run
 pub mod RunEnd
 pub mod Answer

@@ -1,8 +1,11 @@
 -- One step of the symbolic machine.
-use Rattle.std.specs.Prelude.{ℕ, ◌&&◌, nat_le, nat_lt, if◌then◌else◌, List, [], length, drop, slice_index_or}
+use Rattle.std.specs.Prelude.{ℕ, ◌&&◌, nat_le, nat_lt, if◌then◌else◌, List, [], ◌∷◌, length, drop, Option, slice_index_or}
 use Rattle.std.specs.List.{fold}
 use Rattle.std.specs.Option.{option_map_or}
 use Rattle.zc_base.specs.declared.mem_map.MemMap.{MemMap}
+use Rattle.zc_base.specs.declared.place.Place.{Place}
+use Rattle.block_cut.specs.declared.item.Item.{Item}
+use Rattle.rv_decode.specs.declared.instr.Instr.{Instr}
 use Rattle.rv_decode.specs.Memory.{changed, written}
 use Rattle.rv_decode.specs.State.{Event, set_reg}
 use Rattle.sym_machine.specs.declared.why.Why.{Why}
@@ -12,7 +15,8 @@ use Rattle.sym_machine.specs.declared.word.SymByte.TheVariants.{Undef}
 use Rattle.sym_machine.specs.Words.{number_of}
 use Rattle.sym_machine.specs.Program.{Program}
 use Rattle.sym_machine.specs.State.{PlainCore, reg_of}
-use Rattle.sym_machine.specs.Change.{Change, Does, Goes, Stops, item_does}
+use Rattle.sym_machine.specs.Change.{Change, Does, Goes, Stops, item_does, op_does}
+use Rattle.sym_machine.specs.Expansions.{item_expansion}
 
 -- what a step comes to: it goes on with these events, or it is stuck and changes nothing
 pub data PlainStep : Type 0 where
@@ -52,6 +56,21 @@ abbrev pub applied : MemMap → PlainCore → Does → PlainStep
 applied map s (Goes c) = ends map (after_change c s) c.events
 applied map s (Stops why) = Stuck why
 
+-- a step after another one, neither of which has an event
+abbrev pub and_then : PlainStep → (PlainCore → PlainStep) → PlainStep
+and_then (Went s events) go = go s
+and_then (Stuck why) go = Stuck why
+
+-- instructions without relocation that have no event, one after another, and then a place
+abbrev pub in_turn : MemMap → List Instr → Place → PlainCore → PlainStep
+in_turn map [] next s = Went s []
+in_turn map (i ∷ is) next s = and_then (applied map s (op_does i s next)) (in_turn map is next)
+
+-- what stands at a place: several instructions in one step, or else what the item does
+abbrev pub item_step : MemMap → Program → Option Item → PlainCore → Place → PlainStep
+item_step map p item s next =
+    option_map_or (λ is. in_turn map is next s) (item_expansion item) (applied map s (item_does p item s next))
+
 -- one step; after the exit the state stays
 unfoldable pub plain_step : Program → PlainCore → PlainStep
-plain_step p s = option_map_or (λ status. Went s []) s.exit (applied p.map s (item_does p (p.item s.place) s (p.next s.place)))
+plain_step p s = option_map_or (λ status. Went s []) s.exit (item_step p.map p (p.item s.place) s (p.next s.place))

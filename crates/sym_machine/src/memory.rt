@@ -75,6 +75,13 @@ impl SymMemory {
         self.map.stack_low <= sp && sp <= self.map.stack_high
     }
 
+    /// The lowest address of the stack whose byte is kept.
+    pub fn kept_from(&self) -> u32
+        ensures { result ≡ kept_from self.now }
+    {
+        self.from
+    }
+
     /// The byte at an address.
     pub fn byte(&self, a: u64) -> SymByte
         requires { a < 2 ^ 33 }

@@ -4,21 +4,23 @@ ghost use Rattle.std.specs.Prelude.{◌≡◌, ◌<◌, IfOk, IfSome, MatchOptio
 ghost use Rattle.psabi_sym.specs.Inputs.{parsed};
 ghost use Rattle.rv_decode.specs.Effect.{load_width};
 ghost use Rattle.sym_machine.specs.Answer.{Makes};
-ghost use Rattle.sym_machine.specs.Change.{in_memory, item_does, load_word, numbers_at};
+ghost use Rattle.sym_machine.specs.Change.{in_memory, load_word, numbers_at};
 ghost use Rattle.sym_machine.specs.Kept.{IsOf, word_of};
 ghost use Rattle.sym_machine.specs.Objects.{program_of};
 ghost use Rattle.sym_machine.specs.Program.{Program};
 ghost use Rattle.sym_machine.specs.State.{first_plain, reg_of};
-ghost use Rattle.sym_machine.specs.Step.{applied, plain_step};
+ghost use Rattle.sym_machine.specs.Step.{item_step, plain_step};
 ghost use Rattle.sym_machine.specs.Words.{code_word, number_of, number_word, undef_word};
 
 mod accesses;
 mod advance;
 mod calls;
 mod ends;
+mod frames;
 mod items;
 mod jumps;
 mod quick;
+mod shorts;
 mod sums;
 mod uppers;
 
@@ -98,7 +100,7 @@ impl State {
         ensures value { result ≡ self.now.core.place }
         ensures step { (p : Program) → IsOf p self.now.core → self.now.core.exit ≡ None
             → plain_step p self.now.core
-            ≡ applied self.now.map self.now.core (item_does p (p.item result) self.now.core (p.next result)) }
+            ≡ item_step self.now.map p (p.item result) self.now.core (p.next result) }
     {
         self.place
     }

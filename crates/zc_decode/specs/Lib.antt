@@ -5,3 +5,4 @@ pub mod Hints
 pub mod Halfwords
 pub mod Accesses
 pub mod Effect
+pub mod Operands

@@ -1,7 +1,8 @@
 // What a halfword spells.
 
-ghost use Rattle.std.specs.Prelude.{◌≡◌};
+ghost use Rattle.std.specs.Prelude.{◌≡◌, IfSome};
 ghost use Rattle.zc_decode.specs.Halfwords.{decoded16};
+ghost use Rattle.zc_decode.specs.Operands.{HasOperands};
 
 use crate::rows::form_at;
 use crate::short::Short;
@@ -10,7 +11,8 @@ use crate::spell::spell;
 /// What a halfword spells, or none if the tables have no row for it.
 #[tactic(auto, unfolding(crate::specs::Halfwords::decoded16))]
 pub fn decode16(half: u16) -> Option<Short>
-    ensures { result ≡ decoded16 half }
+    ensures value { result ≡ decoded16 half }
+    ensures operands { IfSome result HasOperands }
 {
     let half = u32::from(half);
     Some(spell(form_at(half)?, half))

@@ -1,11 +1,13 @@
 -- Interrupts and cells of data lie apart. An interrupt writes in the stack, and makes accesses of a push or pop there; a cell lies in
 -- data, and the stack begins at or after data's end: so an interrupt does the same whatever data hold. And so do the commits of a group,
 -- of another stretch of several instructions, and of the stub.
-use Rattle.std.proofs.Common.{◌≡◌, ℕ, suc, ◌<◌, refl, sym, ap, ◌∙◌, arith}
+use Rattle.std.proofs.Common.{◌≡◌, ℕ, suc, ◌<◌, List, Option, Some, None, refl, sym, ap, ◌∙◌, arith}
 use Rattle.std.specs.Prelude.{◌⊎◌}
 use Rattle.zc_base.specs.declared.place.Place.{Place}
+use Rattle.rv_decode.specs.declared.instr.Instr.{Instr}
 use Rattle.rv_decode.specs.State.{ZcState}
 use Rattle.sym_machine.specs.Program.{Program}
+use Rattle.sym_machine.specs.Expansions.{item_expansion}
 use Rattle.sym_machine.specs.State.{PlainState}
 use Rattle.zc_link.specs.Image.{Image}
 use Rattle.zc_link.specs.Laid.{Laid}
@@ -15,7 +17,7 @@ use Rattle.zc_link.proofs.Bare.{bare_apart, bares_no_access}
 use Rattle.zc_link.proofs.Cuts.{stack_within}
 use Rattle.zc_link.proofs.GroupWay.{group_commits_apart, group_cuts_apart}
 use Rattle.zc_link.proofs.NoAccess.{NoAccess, cut_writes}
-use Rattle.zc_link.proofs.OnWay.{IsNoGroup, pair_bare, pair_group, pair_no_access}
+use Rattle.zc_link.proofs.OnWay.{IsNoGroup, pair_bare, pair_group, pair_no_access, pair_short}
 use Rattle.zc_link.proofs.Start.{lead_bare}
 use Rattle.zc_link.proofs.WithByte.{all_dirtied_with, with_byte}
 
@@ -45,8 +47,12 @@ module _ {p : Program} {Named : Place → Type 0} {e : Image} {stretch : Place �
 
   pub cuts_apart : (r : PlainState) → CutsApart p (FromPair p Named e (pace_of p stretch) r)
   cuts_apart r = either_kind (CutsApart p (FromPair p Named e (pace_of p stretch) r)) (stretch r.core.place)
-      (λ other. cuts_apart_from (pair_no_access laid r other))
+      (λ other. by_item other (item_expansion (p.item r.core.place)) refl)
       (λ items commits is. group_cuts_apart laid.room (pair_group laid r items commits is))
+    where
+      by_item : IsNoGroup (stretch r.core.place) → (o : Option (List Instr)) → item_expansion (p.item r.core.place) ≡ o → CutsApart p (FromPair p Named e (pace_of p stretch) r)
+      by_item other None one = cuts_apart_from (pair_no_access laid r other one)
+      by_item other (Some is) are = group_cuts_apart laid.room (pair_short laid r other is are)
 
   pub lead_cuts_apart : CutsApart p (FromLoad p e)
   lead_cuts_apart = cuts_apart_from (bares_no_access laid.room (lead_bare laid))

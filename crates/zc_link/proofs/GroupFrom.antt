@@ -47,13 +47,13 @@ use Rattle.zc_link.proofs.Zeroed.{final_sp, without_zero}
 -- ---- cells of data that are written in both
 
 -- the program with cells written, beside a machine with the same cells written
-record Poked (p : Program) (Named : Place → Type 0) (e : Image) (r' : PlainState) (z : ZcCore) : Type 0 where
-  y : ZcCore
-  alike : Alike p Named e r'.core y
-  regs : y.regs ≡ z.regs
+pub record Poked (p : Program) (Named : Place → Type 0) (e : Image) (r' : PlainState) (z : ZcCore) : Type 0 where
+  pub y : ZcCore
+  pub alike : Alike p Named e r'.core y
+  pub regs : y.regs ≡ z.regs
 
 -- they stay where they are
-poked_place : (cells : List (ℕ × ℕ)) (r : PlainState) → (all_poked cells r).core.place ≡ r.core.place
+pub poked_place : (cells : List (ℕ × ℕ)) (r : PlainState) → (all_poked cells r).core.place ≡ r.core.place
 poked_place [] r = refl
 poked_place (c ∷ cs) r = poked_place cs (poked_plain c r)
 
@@ -75,7 +75,7 @@ module _ {p : Program} {Named : Place → Type 0} {e : Image} (room : Room p e) 
         cell-changed_default (written c.0 1 (λ _. Num c.1)) s.memory x Undef (stays Undef) ∙ stays (cell_of s x) ∙ al.below x low lt;
   }
 
-  all_poked_alike :
+  pub all_poked_alike :
       (cells : List (ℕ × ℕ)) (r : PlainState) (z : ZcCore) → All (λ c. IsCell p c.0 × (c.1 < 256)) cells → Alike p Named e r.core z → Poked p Named e (all_poked cells r) z
   all_poked_alike [] r z are al = record { y = z; alike = al; regs = refl }
   all_poked_alike (c ∷ cs) r z are al =
@@ -87,7 +87,7 @@ module _ {p : Program} {Named : Place → Type 0} {e : Image} (room : Room p e) 
 
 module _ {p : Program} {e : Image} (room : Room p e) where
   -- one instruction is left
-  one_left : (s : Short) (sp pc : ℕ) → OneAt e pc s → StandsBy p sp s → Left room 1 sp pc
+  pub one_left : (s : Short) (sp pc : ℕ) → OneAt e pc s → StandsBy p sp s → Left room 1 sp pc
   one_left s sp pc at st = (s, at, st, λ more. absurd (omega (arith, more)))
 
   -- the same instruction stands at an address that is equal

@@ -25,6 +25,7 @@ pub mod Effects
 pub mod Frames
 pub mod FrameCuts
 pub mod Straight
+pub mod InTurn
 pub mod Unknown
 pub mod GroupEnds
 pub mod Pushes
@@ -45,6 +46,9 @@ pub mod TableJumps
 pub mod Stretches
 pub mod NoAccess
 pub mod Bare
+pub mod ShortKinds
+pub mod ShortsCome
+pub mod ShortsFrom
 pub mod OnWay
 pub mod Apart
 pub mod Stub
@@ -85,6 +89,7 @@ pub mod ItemRegisters
 pub mod SizedPieces
 pub mod TablesLaid
 pub mod HalfNormals
+pub mod ShortItems
 pub mod StretchesLaid
 pub mod Within
 pub mod ImageData

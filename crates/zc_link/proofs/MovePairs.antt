@@ -22,13 +22,14 @@ use Rattle.zc_link.specs.Groups.{A0First, A1First, IsSaved, MoveOrder, move_ops,
 use Rattle.zc_link.specs.Image.{Image}
 use Rattle.zc_link.specs.IsSimulation.{Comes}
 use Rattle.zc_link.specs.Room.{Room}
+use Rattle.zc_link.specs.Sound.{Alike}
 use Rattle.zc_link.specs.Stretches.{AreOps, HalfAt, place_on}
 use Rattle.zc_link.proofs.Commits.{zc_turns-one}
 use Rattle.zc_link.proofs.Effects.{Effects, KeepsRest, keeps_both, keeps_same, sum_is}
 use Rattle.zc_link.proofs.FrameCuts.{LooksLike, alike_ready, looks_alike, spoiled_alike}
 use Rattle.zc_link.proofs.GroupEnds.{FromPlace, arrives, behind_one, turn_commits}
 use Rattle.zc_link.proofs.Singles.{below_top}
-use Rattle.zc_link.proofs.Straight.{AreStraight, all_follow, on_way}
+use Rattle.zc_link.proofs.Straight.{AreStraight, CameTo, Follow, all_follow, on_way}
 
 -- ---- the machine alone
 
@@ -102,18 +103,17 @@ moves_straight A0First a b low_a low_b = (low_a, (low_b, tt))
 moves_straight A1First a b low_a low_b = (low_b, (low_a, tt))
 
 module _ {p : Program} {Named : Place → Type 0} {e : Image} (room : Room p e) {r r' : PlainState} {cuts : ℕ → List Interrupt} {z : ZcState} (from : FromPlace p Named e r cuts z) where
-  moves_come :
-      {end : ℕ} (order : MoveOrder) (a b : ℕ × ℕ) (short : Short) → MovesApart a b → a.1 < 32 → b.1 < 32 → ((sp : ℕ) → accesses_of short sp ≡ [])
-      → ((size : ℕ) (x : ZcCore) → short_effect short size x ≡ Commits (onward x size (moved a b x))) → HalfAt e z.core.pc short end → AreOps p r.core.place (move_ops order a b)
-      → e.address (place_on p r.core.place (length (move_ops order a b))) ≡ Some end → iterate (plain_turn p) (length (move_ops order a b)) r ≡ Ok r' → Comes p Named e cuts 1 z r'
-  moves_come {end} order a b short apart low_a low_b none does at ops next h =
-      let is = move_ops order a b in
-      let straight = moves_straight order a b low_a low_b in
+  -- the program came to a place by both, whichever way
+  moves_end :
+      {end : ℕ} (order : MoveOrder) (a b : ℕ × ℕ) (short : Short) → MovesApart a b → ((sp : ℕ) → accesses_of short sp ≡ [])
+      → ((size : ℕ) (x : ZcCore) → short_effect short size x ≡ Commits (onward x size (moved a b x))) → HalfAt e z.core.pc short end
+      → ((y : ZcCore) → Alike p Named e r.core y → Follow p Named e (move_ops order a b) r' y) → (q : Place) → CameTo q r r' → e.address q ≡ Some end → Comes p Named e cuts 1 z r'
+  moves_end {end} order a b short apart none does at follow q came next =
       let size = at.half.size in
       let bh = behind_one room short (cuts 0) none (from.are 0) z (alike_ready room from.sound.alike) at.half in
       let y = bh.now in
       let al = spoiled_alike room bh.spoiled from.sound.alike in
-      let f = all_follow room is r r' y ops straight h al in
+      let f = follow y al in
       let m = moves_are order a b y f.after al.core.words apart f.effects in
       let y' : ZcCore = onward y size (moved a b y) in
       let like : LooksLike p.map.stack_low 0 f.after y' = record {
@@ -127,28 +127,61 @@ module _ {p : Program} {Named : Place → Type 0} {e : Image} (room : Room p e) 
       } in
       let alike = looks_alike room 0 (omega arith) (λ a l lt. absurd (omega (arith, lt))) like f.alike in
       let pc : z.core.pc + size ≡ y'.pc = below_top z.core.pc y.pc size (ap (λ x. x.pc) bh.spoiled.rest) at.half.small in
-      arrives from 1 (place_on p r.core.place (length is)) r' y' (on_way p is (length is) r r' (omega arith) ops straight from.sound.alike.running h)
-      (next ∙ ap Some (at.ends ∙ pc)) alike
+      arrives from 1 q r' y' came (next ∙ ap Some (at.ends ∙ pc)) alike
       (zc_turns-one cuts z (record z { core = y' }) (turn_commits (cuts 0) z y y' short size bh.turn (does size y)))
+
+  pub to_saved_end :
+      {end : ℕ} (order : MoveOrder) (first second : ℕ) → IsSaved first → IsSaved second → second ≢ first → HalfAt e z.core.pc (MoveSa first second) end
+      → ((y : ZcCore) → Alike p Named e r.core y → Follow p Named e (move_ops order (first, 10) (second, 11)) r' y) → (q : Place) → CameTo q r r' → e.address q ≡ Some end
+      → Comes p Named e cuts 1 z r'
+  to_saved_end order first second is_first is_second other at follow q came next =
+      let f = saved_facts first is_first in
+      let s = saved_facts second is_second in
+      moves_end order (first, 10) (second, 11) (MoveSa first second)
+      (record { first = f.some; second = s.some; source_b = λ is. f.no_a1 (sym is); source_a = λ is. s.no_a0 (sym is); targets = other })
+      (λ sp. refl) (λ size x. refl) at follow q came next
+
+  pub from_saved_end :
+      {end : ℕ} (order : MoveOrder) (first second : ℕ) → IsSaved first → IsSaved second → HalfAt e z.core.pc (MoveAs first second) end
+      → ((y : ZcCore) → Alike p Named e r.core y → Follow p Named e (move_ops order (10, first) (11, second)) r' y) → (q : Place) → CameTo q r r' → e.address q ≡ Some end
+      → Comes p Named e cuts 1 z r'
+  from_saved_end order first second is_first is_second at follow q came next =
+      let f = saved_facts first is_first in
+      let s = saved_facts second is_second in
+      moves_end order (10, first) (11, second) (MoveAs first second)
+      (record { first = omega arith; second = omega arith; source_b = s.no_a0; source_a = f.no_a1; targets = λ (is : 11 ≡ 10). omega (arith, is) })
+      (λ sp. refl) (λ size x. refl) at follow q came next
+
+  -- ---- by two items
+
+  module _ (order : MoveOrder) (a b : ℕ × ℕ) (low_a : a.1 < 32) (low_b : b.1 < 32) (ops : AreOps p r.core.place (move_ops order a b))
+      (h : iterate (plain_turn p) (length (move_ops order a b)) r ≡ Ok r') where
+    items_follow : (y : ZcCore) → Alike p Named e r.core y → Follow p Named e (move_ops order a b) r' y
+    items_follow y al = all_follow room (move_ops order a b) r r' y ops (moves_straight order a b low_a low_b) h al
+
+    items_came : CameTo (place_on p r.core.place (length (move_ops order a b))) r r'
+    items_came =
+        let is = move_ops order a b in
+        on_way p is (length is) r r' (omega arith) ops (moves_straight order a b low_a low_b) from.sound.alike.running h
 
   pub to_saved_comes :
       {end : ℕ} (order : MoveOrder) (first second : ℕ) → IsSaved first → IsSaved second → second ≢ first → HalfAt e z.core.pc (MoveSa first second) end
       → AreOps p r.core.place (move_ops order (first, 10) (second, 11)) → e.address (place_on p r.core.place (length (move_ops order (first, 10) (second, 11)))) ≡ Some end
       → iterate (plain_turn p) (length (move_ops order (first, 10) (second, 11))) r ≡ Ok r' → Comes p Named e cuts 1 z r'
   to_saved_comes order first second is_first is_second other at ops next h =
-      let f = saved_facts first is_first in
-      let s = saved_facts second is_second in
-      moves_come order (first, 10) (second, 11) (MoveSa first second)
-      (record { first = f.some; second = s.some; source_b = λ is. f.no_a1 (sym is); source_a = λ is. s.no_a0 (sym is); targets = other })
-      (omega arith) (omega arith) (λ sp. refl) (λ size x. refl) at ops next h
+      let low_a : 10 < 32 = omega arith in
+      let low_b : 11 < 32 = omega arith in
+      let is = move_ops order (first, 10) (second, 11) in
+      to_saved_end order first second is_first is_second other at (items_follow order (first, 10) (second, 11) low_a low_b ops h)
+      (place_on p r.core.place (length is)) (items_came order (first, 10) (second, 11) low_a low_b ops h) next
 
   pub from_saved_comes :
       {end : ℕ} (order : MoveOrder) (first second : ℕ) → IsSaved first → IsSaved second → HalfAt e z.core.pc (MoveAs first second) end
       → AreOps p r.core.place (move_ops order (10, first) (11, second)) → e.address (place_on p r.core.place (length (move_ops order (10, first) (11, second)))) ≡ Some end
       → iterate (plain_turn p) (length (move_ops order (10, first) (11, second))) r ≡ Ok r' → Comes p Named e cuts 1 z r'
   from_saved_comes order first second is_first is_second at ops next h =
-      let f = saved_facts first is_first in
-      let s = saved_facts second is_second in
-      moves_come order (10, first) (11, second) (MoveAs first second)
-      (record { first = omega arith; second = omega arith; source_b = s.no_a0; source_a = f.no_a1; targets = λ (is : 11 ≡ 10). omega (arith, is) })
-      f.low s.low (λ sp. refl) (λ size x. refl) at ops next h
+      let low_a = (saved_facts first is_first).low in
+      let low_b = (saved_facts second is_second).low in
+      let is = move_ops order (10, first) (11, second) in
+      from_saved_end order first second is_first is_second at (items_follow order (10, first) (11, second) low_a low_b ops h)
+      (place_on p r.core.place (length is)) (items_came order (10, first) (11, second) low_a low_b ops h) next

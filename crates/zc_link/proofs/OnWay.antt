@@ -4,8 +4,10 @@
 use Rattle.std.proofs.Common.{◌≡◌, ℕ, zero, suc, ◌<◌, List, [], ◌∷◌, Option, Some, None, Ok, refl, sym, ap, ◌∙◌, subst, inr, ⊎_elim, arith}
 use Rattle.std.specs.Prelude.{◌⊎◌}
 use Rattle.std.proofs.lemmas.Bool.{cases_lt}
+use Rattle.std.proofs.lemmas.Option.{none-some}
 use Rattle.zc_base.specs.declared.place.Place.{Place}
 use Rattle.rv_decode.specs.declared.instr.BranchOp.{BranchOp}
+use Rattle.rv_decode.specs.declared.instr.Instr.{Instr}
 use Rattle.rv_decode.specs.declared.instr.Instr.TheVariants as instr
 use Rattle.rv_decode.specs.declared.instr.Instr.TheVariants.{Jal, Jalr, Upper}
 use Rattle.rv_decode.specs.declared.instr.UpperOp.TheVariants.{Auipc}
@@ -17,13 +19,14 @@ use Rattle.block_cut.specs.declared.item.Item.TheVariants.{Op, Hi, Lo, PcHi, PcL
 use Rattle.sym_machine.specs.Change.{Change, Goes, item_does}
 use Rattle.sym_machine.specs.Program.{Program}
 use Rattle.sym_machine.specs.Run.{plain_turn}
+use Rattle.sym_machine.specs.Expansions.{item_expansion}
 use Rattle.sym_machine.specs.State.{PlainCore, PlainState}
-use Rattle.sym_machine.proofs.RunLaws.{stepped}
+use Rattle.sym_machine.proofs.RunLaws.{stepped, stepped_expansion}
 use Rattle.zc_decode.specs.declared.short.Short.TheVariants.{TableJump}
 use Rattle.zc_link.specs.Image.{Image}
 use Rattle.zc_link.specs.Laid.{Laid}
 use Rattle.zc_link.specs.Pace.{AlignOf, Alone, CallOf, GroupOf, LongOf, Stretch, TableOf, commits_of, pace_of, span_of}
-use Rattle.zc_link.specs.Stretches.{ItemLaid, LongLaid, StretchLaid}
+use Rattle.zc_link.specs.Stretches.{ByCall, ByJump, GoesTo, ItemLaid, LongLaid, StretchLaid}
 use Rattle.zc_link.specs.DataApart.{FromPair, OnWay, all_poked, poked_plain}
 use Rattle.zc_link.specs.Sound.{Alike}
 use Rattle.zc_link.proofs.Bare.{Bares, OnBare, bares_no_access, nops_bare, two_bare}
@@ -31,6 +34,8 @@ use Rattle.zc_link.proofs.GroupFrom.{group_from}
 use Rattle.zc_link.proofs.GroupWay.{OnGroup}
 use Rattle.zc_link.proofs.Longs.{goes_over, known_taken}
 use Rattle.zc_link.proofs.NoAccess.{NoAccess, NoAccessAt, base_at, one_no_access}
+use Rattle.zc_link.proofs.ShortsCome.{one_turn, short_known}
+use Rattle.zc_link.proofs.ShortsFrom.{short_from}
 
 -- ---- what the program goes on from
 
@@ -110,8 +115,8 @@ module _ {p : Program} {Named : Place → Type 0} {e : Image} {stretch : Place �
           (stretch_bare r.core z.core (stretch r.core.place) other from.sound.alike (laid.each r.core.place z.core.pc from.sound.place) more);
     }
 
-    first_at : IsNoGroup (stretch r.core.place) → (k : ℕ) (z : ZcState) → From k z → 0 < k → NoAccessAt e z.core.pc
-    first_at other k z from some =
+    first_at : IsNoGroup (stretch r.core.place) → item_expansion (p.item r.core.place) ≡ None → (k : ℕ) (z : ZcState) → From k z → 0 < k → NoAccessAt e z.core.pc
+    first_at other one k z from some =
         by (stretch r.core.place) other (laid.each r.core.place z.core.pc from.sound.place) from.steps (let same = from.commits in omega (arith, same, some))
       where
         by :
@@ -120,7 +125,7 @@ module _ {p : Program} {Named : Place → Type 0} {e : Image} {stretch : Place �
         by Alone single item steps more =
             let r1 = all_poked from.cells r in
             let first = bind_ok (plain_turn p r1) (iterate (plain_turn p) 0) from.after steps in
-            let step = stepped p r1 first.0 (poked_exit from.cells r ∙ from.sound.alike.running) first.1 in
+            let step = stepped p r1 first.0 (poked_exit from.cells r ∙ from.sound.alike.running) (ap (λ q. item_expansion (p.item q)) (poked_place from.cells r) ∙ one) first.1 in
             item_alone p r.core.place (p.next r1.core.place) r1.core (p.item r.core.place) item
             (ap (λ q. item_does p (p.item q) r1.core (p.next r1.core.place)) (sym (poked_place from.cells r)) ∙ step.does)
         by (AlignOf zero) single align steps more = absurd (omega (arith, more))
@@ -130,14 +135,43 @@ module _ {p : Program} {Named : Place → Type 0} {e : Image} {stretch : Place �
         by (GroupOf items commits) single group steps more = absurd single
         by (TableOf slot) single table steps more = record { short = TableJump slot; none = λ sp. refl; at = table.at }
 
-    pub pair_no_access : IsNoGroup (stretch r.core.place) → (k : ℕ) (z : ZcState) → OnWay p From (suc k) z → NoAccess e z.core
-    pair_no_access other = ⊎_elim
+    pub pair_no_access : IsNoGroup (stretch r.core.place) → item_expansion (p.item r.core.place) ≡ None → (k : ℕ) (z : ZcState) → OnWay p From (suc k) z → NoAccess e z.core
+    pair_no_access other one = ⊎_elim
         (λ more. bares_no_access laid.room (pair_bare other (inr more)))
         (λ few. one_no_access laid.room (λ k z from. (
           (let same = from.commits in omega (arith, same, few)),
-          λ some. record { text = record { extents = from.sound.alike.extents; text = from.sound.alike.text }; here = first_at other k z from some },
+          λ some. record { text = record { extents = from.sound.alike.extents; text = from.sound.alike.text }; here = first_at other one k z from some },
         )))
         (cases_lt 1 (commits_of p r.core (stretch r.core.place)))
+
+    -- a push, a pop or two moves that the objects have as one halfword stands there, with its accesses in the stack
+    pub pair_short :
+        IsNoGroup (stretch r.core.place) → (is : List Instr) → item_expansion (p.item r.core.place) ≡ Some is → (k : ℕ) (z : ZcState) → From k z → 0 < k → OnGroup laid.room k z.core
+    pair_short other is are k z from some =
+        by (stretch r.core.place) other (laid.each r.core.place z.core.pc from.sound.place) from.steps from.commits
+      where
+        no : {A : Type 0} (item : Item) → p.item r.core.place ≡ Some item → item_expansion (Some item) ≡ None → A
+        no item at none = absurd (none-some is (sym none ∙ ap item_expansion (sym at) ∙ are))
+
+        site : {A : Type 0} {rd : ℕ} {to : Place} → GoesTo p r.core.place rd to → A
+        site (ByJump item) = no _ item refl
+        site (ByCall temp item) = no _ item refl
+
+        by :
+            (x : Stretch) → IsNoGroup x → StretchLaid p e r.core.place z.core.pc x → iterate (plain_turn p) (span_of x) (all_poked from.cells r) ≡ Ok from.after → k ≡ commits_of p r.core x
+            → OnGroup laid.room k z.core
+        by Alone single item steps one =
+            let r1 = all_poked from.cells r in
+            let known = short_known p r.core.place (p.item r.core.place) is item are in
+            let turn = one_turn p r1 from.after steps in
+            subst (λ n. OnGroup laid.room n z.core) (sym one)
+            (short_from laid.room r from.after z from.cells from.sound from.are known.short is known.kind known.laid
+            (stepped_expansion p is r1 from.after (poked_exit from.cells r ∙ from.sound.alike.running) (ap (λ q. item_expansion (p.item q)) (poked_place from.cells r) ∙ are) turn))
+        by (AlignOf count) single align steps one = no _ align.item refl
+        by CallOf single call steps one = no _ call.item refl
+        by (LongOf op first second) single long steps one = no _ long.item refl
+        by (GroupOf items commits) single group steps one = absurd single
+        by (TableOf slot) single table steps one = site table.goes
 
     -- a group's instructions stand there, with their accesses in the stack
     pub pair_group : (items commits : ℕ) → stretch r.core.place ≡ GroupOf items commits → (k : ℕ) (z : ZcState) → From k z → 0 < k → OnGroup laid.room k z.core

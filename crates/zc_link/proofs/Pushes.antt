@@ -33,7 +33,7 @@ use Rattle.zc_link.proofs.Frames.{push_made}
 use Rattle.zc_link.proofs.GroupEnds.{FromPlace, arrives, behind_one, one_commit, turn_commits, two_commits}
 use Rattle.zc_link.proofs.Singles.{below_top}
 use Rattle.zc_link.proofs.Slots.{FrameFacts, IsOneOf}
-use Rattle.zc_link.proofs.Straight.{AreStraight, all_follow, on_way}
+use Rattle.zc_link.proofs.Straight.{AreStraight, Follow, all_follow, on_way}
 use Rattle.zc_link.proofs.Unknown.{push_keeps}
 
 pub two_some : ◌≢◌ {A = ℕ} 2 0
@@ -89,15 +89,13 @@ pub record Pushed (p : Program) (Named : Place → Type 0) (e : Image) (list fra
 module _ {p : Program} {Named : Place → Type 0} {e : Image} (room : Room p e) {list frame : ℕ} {order : List Slot} (facts : FrameFacts list frame order) where
   pub pushed :
       (r r' : PlainState) (cuts : List Interrupt) → All IsInterrupt cuts → (z : ZcState) → (half : OneAt e z.core.pc (Push list (adjust_of list frame)))
-      → AreOps p r.core.place (push_ops frame order) → Alike p Named e r.core z.core → iterate (plain_turn p) (length (push_ops frame order)) r ≡ Ok r'
+      → ((y : ZcCore) → Alike p Named e r.core y → Follow p Named e (push_ops frame order) r' y) → Alike p Named e r.core z.core
       → Pushed p Named e list frame half.size r' cuts z
-  pushed r r' cuts are z half ops al h =
-      let is = push_ops frame order in
+  pushed r r' cuts are z half follow al =
       let n = reg_in z.core 2 in
       let adjust = adjust_of list frame in
       let size = half.size in
-      let low = push_straight facts in
-      let f0 = all_follow room is r r' z.core ops low h al in
+      let f0 = follow z.core al in
       let deep = push_deep p.map.stack_low p.map.stack_high frame order z.core f0.after room.deep room.top facts.some facts.most al.core.count al.low al.high f0.alike.low f0.alike.high f0.effects in
       let words = al.core.words 2 in
       let ready = alike_ready room al in
@@ -105,7 +103,7 @@ module _ {p : Program} {Named : Place → Type 0} {e : Image} (room : Room p e) 
       (push_kept p.map.stack_low [] (λ d m. absurd m) z.core (λ a st. (stack_within room z.core al.extents a st).0) facts adjust size deep words) in
       let y = bh.now in
       let al1 = spoiled_alike room bh.spoiled al in
-      let f1 = all_follow room is r r' y ops low h al1 in
+      let f1 = follow y al1 in
       let sp : reg_in y 2 ≡ n = bh.spoiled.registers 2 (λ d m. absurd m) in
       let mk = push_made facts size y f1.after al1.core.count (omega (arith, sp, deep)) (al1.core.words 2) f1.effects in
       let y' : ZcCore = onward (record y { memory = mk.memory }) size (set_reg y.regs 2 (reg_in y 2 - adjust)) in
@@ -128,6 +126,24 @@ module _ {p : Program} {Named : Place → Type 0} {e : Image} (room : Room p e) 
 
   -- ---- whole
 
+  -- a push without a rest leaves what its items leave one after another
+  pub whole_alike :
+      {size : ℕ} {r' : PlainState} {cuts : List Interrupt} {z : ZcState} → rest_of list frame ≡ 0 → (ps : Pushed p Named e list frame size r' cuts z) → Alike p Named e r'.core ps.after
+  whole_alike {z = z} none ps =
+      let sum = facts.sum in
+      let all : adjust_of list frame ≡ frame = omega (arith, none, sum) in
+      let regs : ps.after.regs ≡ ps.zf.regs = ps.regs ∙ ap (λ a. set_reg ps.before 2 (reg_in z.core 2 - a)) all ∙ sym ps.regs_f in
+      let like : LooksLike p.map.stack_low 0 ps.zf ps.after = record {
+        exit = ps.exit;
+        jvt = ps.jvt;
+        long = ap length regs;
+        registers = λ x. ap (λ l. reads 0 0 l x) regs;
+        extents = ps.extents;
+        bytes = λ x _. ps.bytes x;
+        are_bytes = λ x. rw (ps.bytes x) (ps.alike.core.bytes x);
+      } in
+      looks_alike room 0 (omega arith) (λ a l lt. absurd (omega (arith, lt))) like ps.alike
+
   module _
       {r r' : PlainState} {cuts : ℕ → List Interrupt} {z : ZcState} (from : FromPlace p Named e r cuts z) (half : OneAt e z.core.pc (Push list (adjust_of list frame)))
       (ops : AreOps p r.core.place (push_ops frame order)) (h : iterate (plain_turn p) (length (push_ops frame order)) r ≡ Ok r') where
@@ -135,7 +151,7 @@ module _ {p : Program} {Named : Place → Type 0} {e : Image} (room : Room p e) 
     behind_ops = place_on p r.core.place (length (push_ops frame order))
 
     abbrev first : Pushed p Named e list frame half.size r' (cuts 0) z
-    first = pushed r r' (cuts 0) (from.are 0) z half ops from.sound.alike h
+    first = pushed r r' (cuts 0) (from.are 0) z half (λ y al. all_follow room (push_ops frame order) r r' y ops (push_straight facts) h al) from.sound.alike
 
     first_pc : first.after.pc ≡ z.core.pc + half.size
     first_pc = let small = half.small in first.pc ∙ omega (arith, small)
@@ -143,19 +159,7 @@ module _ {p : Program} {Named : Place → Type 0} {e : Image} (room : Room p e) 
     whole_comes : rest_of list frame ≡ 0 → e.address behind_ops ≡ Some (z.core.pc + half.size) → Comes p Named e cuts 1 z r'
     whole_comes none next =
         let ps = first in
-        let sum = facts.sum in
-        let all : adjust_of list frame ≡ frame = omega (arith, none, sum) in
-        let regs : ps.after.regs ≡ ps.zf.regs = ps.regs ∙ ap (λ a. set_reg ps.before 2 (reg_in z.core 2 - a)) all ∙ sym ps.regs_f in
-        let like : LooksLike p.map.stack_low 0 ps.zf ps.after = record {
-          exit = ps.exit;
-          jvt = ps.jvt;
-          long = ap length regs;
-          registers = λ x. ap (λ l. reads 0 0 l x) regs;
-          extents = ps.extents;
-          bytes = λ x _. ps.bytes x;
-          are_bytes = λ x. rw (ps.bytes x) (ps.alike.core.bytes x);
-        } in
-        let alike = looks_alike room 0 (omega arith) (λ a l lt. absurd (omega (arith, lt))) like ps.alike in
+        let alike = whole_alike none ps in
         arrives from 1 behind_ops r' ps.after (on_way p (push_ops frame order) (length (push_ops frame order)) r r' (omega arith) ops (push_straight facts) from.sound.alike.running h)
         (next ∙ ap Some (sym first_pc)) alike (zc_turns-one cuts z (record z { core = ps.after }) ps.turn)
 

@@ -12,10 +12,12 @@ use Rattle.block_cut.specs.declared.item.Item.TheVariants.{Op}
 use Rattle.sym_machine.specs.Change.{Change, Goes, item_does, jump_does, sets}
 use Rattle.sym_machine.specs.Program.{Program}
 use Rattle.sym_machine.specs.Run.{plain_turn}
+use Rattle.sym_machine.specs.Expansions.{item_expansion}
 use Rattle.sym_machine.specs.State.{PlainState, reg_of}
 use Rattle.sym_machine.specs.Step.{after_change}
 use Rattle.sym_machine.specs.Words.{code_of, code_word}
-use Rattle.sym_machine.proofs.RunLaws.{Stepped, stepped}
+use Rattle.sym_machine.proofs.RunLaws.{stepped}
+use Rattle.sym_machine.proofs.StepLaws.{Ended}
 use Rattle.zc_machine.specs.Fetch.{fetched_at}
 use Rattle.rv_decode.specs.declared.instr.Instr.{Instr}
 use Rattle.zc_link.specs.Groups.{Ending, GoesOn, Returns, Slot, ZeroBeforeRaise, ZeroBeforeReturn, ZeroFirst, adjust_of, frame_commits, loads_of, ops_before_return, pop_kind, pop_ops, raise_sp, return_ops, return_to_ra, zero_a0}
@@ -65,36 +67,29 @@ came_both a b = record { place = b.place; events = b.events ∙ a.events; input 
 -- ---- the return
 
 -- the program came to the place whose address is in ra
-record Lands (p : Program) (Named : Place → Type 0) (e : Image) (m r' : PlainState) (y : ZcCore) : Type 0 where
-  to : Place
-  came : CameTo to m r'
-  address : e.address to ≡ Some (reg_in y 1)
-  alike : (commits : ℕ) → Alike p Named e r'.core (record y { pc = reg_in y 1 / 2 * 2; commits = commits })
+pub record Lands (p : Program) (Named : Place → Type 0) (e : Image) (m r' : PlainState) (y : ZcCore) : Type 0 where
+  pub to : Place
+  pub came : CameTo to m r'
+  pub address : e.address to ≡ Some (reg_in y 1)
+  pub alike : (commits : ℕ) → Alike p Named e r'.core (record y { pc = reg_in y 1 / 2 * 2; commits = commits })
 
 module _ {p : Program} {Named : Place → Type 0} {e : Image} (room : Room p e) where
-  return_lands : (m r' : PlainState) (y : ZcCore) → Alike p Named e m.core y → p.item m.core.place ≡ Some (Op return_to_ra) → plain_turn p m ≡ Ok r' → Lands p Named e m r' y
-  return_lands m r' y al item h = known (code_of (reg_of m.core 1)) refl does
+  -- by the change of its step
+  pub jump_lands :
+      (m r' : PlainState) (y : ZcCore) (next : Place) (change : Change) → Alike p Named e m.core y → jump_does (code_of (reg_of m.core 1)) 0 next ≡ Goes change
+      → Ended p.map (after_change change m.core) r'.core → r'.events ≡ m.events ++ change.events → Lands p Named e m r' y
+  jump_lands m r' y next change al does end events = known (code_of (reg_of m.core 1)) refl does
     where
-      step : Stepped p m r'
-      step = stepped p m r' al.running h
-
-      next : Place
-      next = p.next m.core.place
-
-      does : jump_does (code_of (reg_of m.core 1)) 0 next ≡ Goes step.change
-      does = ap (λ o. item_does p o m.core next) (sym item) ∙ step.does
-
-      known : (o : Option Place) → code_of (reg_of m.core 1) ≡ o → jump_does o 0 next ≡ Goes step.change → Lands p Named e m r' y
+      known : (o : Option Place) → code_of (reg_of m.core 1) ≡ o → jump_does o 0 next ≡ Goes change → Lands p Named e m r' y
       known None is g = absurd cc
       known (Some q) is g =
           let c : Change = sets 0 (code_word next) q in
-          let same : c ≡ step.change = cc in
-          let end = step.end in
+          let same : c ≡ change = cc in
           record {
             to = q;
             came = record {
               place = ap (λ s. s.place) end.state ∙ ap (λ (x : Change). x.place) (sym same);
-              events = step.events ∙ ap (λ (x : Change). m.events ++ x.events) (sym same) ∙ append-nil m.events;
+              events = events ∙ ap (λ (x : Change). m.events ++ x.events) (sym same) ∙ append-nil m.events;
               input = ap (λ s. s.input) end.state ∙ ap (λ (x : Change). drop x.taken m.core.input) (sym same);
               running = ap (λ s. s.exit) end.state ∙ ap (λ (x : Change). x.exit) (sym same);
             };
@@ -105,13 +100,19 @@ module _ {p : Program} {Named : Place → Type 0} {e : Image} (room : Room p e) 
                 (ready_moved al.ready q (reg_in y 1 / 2 * 2) commits));
           }
 
+  return_lands : (m r' : PlainState) (y : ZcCore) → Alike p Named e m.core y → p.item m.core.place ≡ Some (Op return_to_ra) → plain_turn p m ≡ Ok r' → Lands p Named e m r' y
+  return_lands m r' y al item h =
+      let step = stepped p m r' al.running (ap item_expansion item) h in
+      let next = p.next m.core.place in
+      jump_lands m r' y next step.change al (ap (λ o. item_does p o m.core next) (sym item) ∙ step.does) step.end step.events
+
   -- ---- the end of the group
 
   module _
       {list frame k pc : ℕ} {q : Place} {r r' : PlainState} {cuts : ℕ → List Interrupt} {z : ZcState} (from : FromPlace p Named e r cuts z) (ending : Ending) (half : OneAt e pc (pop_kind ending list (adjust_of list frame)))
       {m : PlainState} (came : CameTo q r m) (b : Before p Named e ending list frame half.size k pc m.core cuts z) where
     -- a pop that goes on
-    goes_ends :
+    pub goes_ends :
         ended ending (onward b.now half.size b.done.regs) ≡ onward b.now half.size b.done.regs → final_regs ending b.done.regs ≡ b.done.regs → m ≡ r'
         → e.address q ≡ Some (pc + half.size) → Comes p Named e cuts k z r'
     goes_ends end regs same next =
@@ -123,19 +124,26 @@ module _ {p : Program} {Named : Place → Type 0} {e : Image} (room : Room p e) 
         arrives from k q r' y came1 (next ∙ ap Some pc1) al1 (b.runs y (b.done.does ∙ ap Commits end))
 
     -- one that returns
+    pub lands_ends :
+        (let y = record b.now { regs = final_regs ending b.done.regs } in
+        ended ending (onward b.now half.size b.done.regs) ≡ record y { pc = reg_in y 1 / 2 * 2; commits = b.now.commits + 1 })
+        → Lands p Named e m r' (record b.now { regs = final_regs ending b.done.regs }) → Comes p Named e cuts k z r'
+    lands_ends end lands =
+        let y : ZcCore = record b.now { regs = final_regs ending b.done.regs } in
+        let y' : ZcCore = record y { pc = reg_in y 1 / 2 * 2; commits = b.now.commits + 1 } in
+        let even = (room.even lands.to (reg_in y 1) lands.address).0 in
+        let is : reg_in y 1 ≡ reg_in y 1 / 2 * 2 = omega (arith, even) in
+        arrives from k lands.to r' y' (came_both came lands.came) (lands.address ∙ ap Some is) (lands.alike (b.now.commits + 1)) (b.runs y' (b.done.does ∙ ap Commits end))
+
     return_ends :
         (let y = record b.now { regs = final_regs ending b.done.regs } in
         ended ending (onward b.now half.size b.done.regs) ≡ record y { pc = reg_in y 1 / 2 * 2; commits = b.now.commits + 1 })
         → p.item q ≡ Some (Op return_to_ra) → iterate (plain_turn p) 1 m ≡ Ok r' → Comes p Named e cuts k z r'
     return_ends end item h =
         let y : ZcCore = record b.now { regs = final_regs ending b.done.regs } in
-        let y' : ZcCore = record y { pc = reg_in y 1 / 2 * 2; commits = b.now.commits + 1 } in
         let first = bind_ok (plain_turn p m) (iterate (plain_turn p) 0) r' h in
         let last : first.0 ≡ r' = (let g = first.2 in cc) in
-        let lands = return_lands m r' y b.done.alike (ap p.item came.place ∙ item) (first.1 ∙ ap Ok last) in
-        let even = (room.even lands.to (reg_in y 1) lands.address).0 in
-        let is : reg_in y 1 ≡ reg_in y 1 / 2 * 2 = omega (arith, even) in
-        arrives from k lands.to r' y' (came_both came lands.came) (lands.address ∙ ap Some is) (lands.alike (b.now.commits + 1)) (b.runs y' (b.done.does ∙ ap Commits end))
+        lands_ends end (return_lands m r' y b.done.alike (ap p.item came.place ∙ item) (first.1 ∙ ap Ok last))
 
 -- ---- all ends
 

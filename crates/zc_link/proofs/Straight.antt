@@ -15,6 +15,7 @@ use Rattle.sym_machine.specs.declared.why.Why.TheVariants.{BadAddress, Misaligne
 use Rattle.sym_machine.specs.Change.{Change, Does, Goes, Stops, accessing, in_memory, item_does, load_word, op_does, puts, sets, stored_bytes}
 use Rattle.sym_machine.specs.Program.{Program}
 use Rattle.sym_machine.specs.Run.{plain_turn}
+use Rattle.sym_machine.specs.Expansions.{item_expansion}
 use Rattle.sym_machine.specs.State.{PlainCore, PlainState, reg_of}
 use Rattle.sym_machine.specs.Words.{number_of, sum_word}
 use Rattle.sym_machine.proofs.RunLaws.{Stepped, stepped}
@@ -120,7 +121,7 @@ pub record StepOf (p : Program) (i : Instr) (r r1 : PlainState) : Type 0 where
 
 pub step_of : (p : Program) (i : Instr) (r r1 : PlainState) → IsStraight i → p.item r.core.place ≡ Some (Op i) → r.core.exit ≡ None → plain_turn p r ≡ Ok r1 → StepOf p i r r1
 step_of p i r r1 low item running h =
-    let step = stepped p r r1 running h in
+    let step = stepped p r r1 running (ap item_expansion item) h in
     let next = p.next r.core.place in
     let does : op_does i r.core next ≡ Goes step.change = ap (λ o. item_does p o r.core next) (sym item) ∙ step.does in
     let silent = straight_silent i r.core next step.change low does in
@@ -175,7 +176,7 @@ module _ {p : Program} {Named : Place → Type 0} {e : Image} (room : Room p e) 
       → WordStands (value_in p e.address) (sum_word (reg_of s base) imm) (add32 (reg_in y base) imm)
   base_sum {s} {y} base imm ready low = sum_stands (value_in p e.address) (reg_of s base) imm (reg_in y base) (ready.core.words base) (ready.registers base low)
 
-  straight_goes :
+  pub straight_goes :
       {s : PlainCore} {y : ZcCore} (i : Instr) (c : Change) (next : Place) → IsStraight i → Ready p Named e s y → op_does i s next ≡ Goes c
       → GoesOn p Named e i 0 c s next y
   straight_goes (Upper op rd imm) c next low ready h = absurd low

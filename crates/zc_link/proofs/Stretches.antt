@@ -1,36 +1,31 @@
 -- A stretch's law is its step: from a sound pair the steps of its items are its commits, whatever interrupts come before them.
-use Rattle.std.proofs.Common.{◌≡◌, ℕ, ◌<◌, List, None, Ok, refl, ap, ◌∙◌, arith}
+use Rattle.std.proofs.Common.{◌≡◌, ℕ, ◌<◌, List, Option, Some, None, Ok, refl, ap, ◌∙◌, arith}
 use Rattle.zc_base.specs.declared.place.Place.{Place}
 use Rattle.interrupt_plan.specs.Plan.{AreInterrupts, Interrupt}
+use Rattle.rv_decode.specs.declared.instr.Instr.{Instr}
 use Rattle.rv_decode.specs.Run.{iterate}
 use Rattle.rv_decode.specs.State.{ZcState}
-use Rattle.rv_decode.proofs.RunLaws.{bind_ok}
 use Rattle.block_cut.specs.declared.item.Item.TheVariants.{Call}
 use Rattle.sym_machine.specs.Program.{Program}
 use Rattle.sym_machine.specs.Run.{plain_turn}
+use Rattle.sym_machine.specs.Expansions.{item_expansion}
 use Rattle.sym_machine.specs.State.{PlainState}
 use Rattle.zc_link.specs.Image.{Image}
 use Rattle.zc_link.specs.Leads.{Leads}
 use Rattle.zc_link.specs.Pace.{AlignOf, Alone, CallOf, GroupOf, LongOf, Stretch, TableOf, commits_of, span_of}
-use Rattle.zc_link.specs.Stretches.{StretchLaid}
+use Rattle.zc_link.specs.Stretches.{ByCall, ByJump, GoesTo, ItemLaid, StretchLaid}
 use Rattle.zc_link.specs.Room.{Room}
 use Rattle.zc_link.specs.IsSimulation.{Comes, IsInside}
 use Rattle.zc_link.specs.Sound.{Sound}
-use Rattle.sym_machine.proofs.RunLaws.{stepped}
+use Rattle.sym_machine.proofs.RunLaws.{stepped, stepped_expansion}
 use Rattle.zc_link.proofs.Calls.{call_comes}
 use Rattle.zc_link.proofs.GroupsCome.{group_comes, group_inside}
 use Rattle.zc_link.proofs.Items.{item_comes}
 use Rattle.zc_link.proofs.Longs.{long_comes}
 use Rattle.zc_link.proofs.Padding.{align_comes}
+use Rattle.zc_link.proofs.ShortsCome.{one_turn, short_comes, short_known}
 use Rattle.zc_link.proofs.Singles.{FromSound}
 use Rattle.zc_link.proofs.TableJumps.{table_comes}
-
--- the step of an item alone
-one_turn : (p : Program) (r r' : PlainState) → iterate (plain_turn p) 1 r ≡ Ok r' → plain_turn p r ≡ Ok r'
-one_turn p r r' h =
-    let first = bind_ok (plain_turn p r) (iterate (plain_turn p) 0) r' h in
-    let last : first.0 ≡ r' = (let rest = first.2 in cc) in
-    first.1 ∙ ap Ok last
 
 pub stretch_comes :
     {p : Program} {Named : Place → Type 0} {e : Image} {r r' : PlainState} {z : ZcState} (x : Stretch) → Room p e → Leads p Named → (cuts : ℕ → List Interrupt) → AreInterrupts cuts → Sound p Named e r.core z
@@ -38,16 +33,28 @@ pub stretch_comes :
     → Comes p Named e cuts (commits_of p r.core x) z r'
 stretch_comes {p} {Named} {e} {r} {r'} {z} x room leads cuts are so same laid h = by x laid h
   where
-    from : iterate (plain_turn p) 1 r ≡ Ok r' → FromSound p Named e r r' cuts z
-    from g = record { sound = so; same = same; are = are; step = stepped p r r' so.alike.running (one_turn p r r' g) }
+    from : item_expansion (p.item r.core.place) ≡ None → iterate (plain_turn p) 1 r ≡ Ok r' → FromSound p Named e r r' cuts z
+    from single g = record { sound = so; same = same; are = are; step = stepped p r r' so.alike.running single (one_turn p r r' g) }
+
+    -- a jump or a call is one instruction
+    goes_single : {rd : ℕ} {to : Place} → GoesTo p r.core.place rd to → item_expansion (p.item r.core.place) ≡ None
+    goes_single (ByJump item) = ap item_expansion item
+    goes_single (ByCall temp item) = ap item_expansion item
+
+    alone : (o : Option (List Instr)) → item_expansion (p.item r.core.place) ≡ o → ItemLaid p e r.core.place z.core.pc (p.item r.core.place) → iterate (plain_turn p) 1 r ≡ Ok r' → Comes p Named e cuts 1 z r'
+    alone None single item g = item_comes room leads (from single g) (p.item r.core.place) refl item (from single g).step.does
+    alone (Some is) expands item g =
+        let known = short_known p r.core.place (p.item r.core.place) is item expands in
+        short_comes room (record { sound = so; same = same; are = are }) known.short is known.kind known.laid
+        (stepped_expansion p is r r' so.alike.running expands (one_turn p r r' g))
 
     by : (y : Stretch) → StretchLaid p e r.core.place z.core.pc y → iterate (plain_turn p) (span_of y) r ≡ Ok r' → Comes p Named e cuts (commits_of p r.core y) z r'
-    by Alone item g = item_comes room leads (from g) (p.item r.core.place) refl item (from g).step.does
-    by (AlignOf count) align g = align_comes count room (from g) align
-    by CallOf call g = call_comes room (from g) call (leads.next r.core.place (Call call.rd call.temp call.to) call.item refl)
-    by (LongOf op first second) long g = long_comes room (from g) long
+    by Alone item g = alone (item_expansion (p.item r.core.place)) refl item g
+    by (AlignOf count) align g = align_comes count room (from (ap item_expansion align.item) g) align
+    by CallOf call g = call_comes room (from (ap item_expansion call.item) g) call (leads.next r.core.place (Call call.rd call.temp call.to) call.item refl)
+    by (LongOf op first second) long g = long_comes room (from (ap item_expansion long.item) g) long
     by (GroupOf items commits) group g = group_comes room (record { sound = so; same = same; are = are }) group g
-    by (TableOf slot) table g = table_comes room leads (from g) table
+    by (TableOf slot) table g = table_comes room leads (from (goes_single table.goes) g) table
 
 -- a stretch of one item has no place inside, and those inside a group aren't listed
 pub stretch_inside :

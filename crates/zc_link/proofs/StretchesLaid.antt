@@ -1,10 +1,12 @@
 -- The text that was written lies in its image as a layout owes: at each listed place stand the instructions of its item.
-use Rattle.std.proofs.Common.{◌≡◌, ℕ, ℤ, pos, negsuc, ◌+◌, ◌-◌, ◌-ℤ◌, ◌%◌, ◌^◌, ◌<◌, ◌≤◌, ◌⊎◌, inl, inr, zero, suc, List, length, Option, Some, None, true, false, cond, eqb, refl, sym, ap, ◌∙◌, subst, arith}
+use Rattle.std.proofs.Common.{◌≡◌, ℕ, ℤ, pos, negsuc, ◌+◌, ◌-◌, ◌-ℤ◌, ◌%◌, ◌^◌, ◌<◌, ◌≤◌, ◌⊎◌, inl, inr, zero, suc, List, length, Option, Some, None, true, false, cond, eqb, refl, sym, ap, ◌∙◌, subst, arith, drop}
 use Rattle.std.specs.Prelude.{All, ◌&&◌}
 use Rattle.std.specs.Option.{is_some, option_map_or}
 use Rattle.std.proofs.Math.IntN.{+ℤ-neg_ℤ_cancel}
 use Rattle.std.proofs.lemmas.Bool.{cases_lt}
+use Rattle.std.proofs.lemmas.List.{length-drop, length-take-le}
 use Rattle.std.proofs.lemmas.Option.{none-some, same_Some, slice_get_within}
+use Rattle.zc_base.specs.Fields.{half_bytes}
 use Rattle.zc_base.specs.MemMap.{IsMap}
 use Rattle.zc_base.specs.declared.place.Place.{Place}
 use Rattle.elf32_write.specs.Parts.{Parts}
@@ -43,6 +45,7 @@ use Rattle.zc_link.specs.Stretches.{AloneLaid, ByCall, ByJump, CallLaid, GoesTo,
 use Rattle.zc_link.specs.TextLayout.{TextLayout, behind, size_in, stretch_in}
 use Rattle.zc_link.specs.Written.{HoldsFront, HoldsPlace, HoldsUnit, IsCopied, IsLongBranch, IsSpelled, IsWritten, WithCall, WithWay}
 use Rattle.zc_link.specs.Values.{target_value, way}
+use Rattle.zc_link.proofs.Adds.{drop_are, take_are}
 use Rattle.zc_link.proofs.Fetched.{StandAt, half_at_address, nops_at, one_at, spelled_at, stand_at, stand_first, stand_next}
 use Rattle.zc_link.proofs.FrontLaws.{stub_elsewhere}
 use Rattle.zc_link.proofs.GroupItems.{group_known}
@@ -53,6 +56,7 @@ use Rattle.zc_link.proofs.LaidLaws.{address_small}
 use Rattle.zc_link.proofs.Lookup.{found_holds}
 use Rattle.zc_link.proofs.HalfNormals.{IsHalfNormal, half_normal}
 use Rattle.zc_link.proofs.PartLaws.{call_reaches}
+use Rattle.zc_link.proofs.ShortItems.{short_half, two_bytes}
 use Rattle.zc_link.proofs.SizedPieces.{behind_item, size_is}
 use Rattle.zc_link.proofs.TablesLaid.{slot_holds}
 
@@ -205,6 +209,7 @@ module _ (L : TextLayout) (is_map : IsMap L.inputs.map) (laid : IsLaidOut L) (pr
     pub next : A (next_at p.objects q) ≡ Some (a + n)
     pub stands : StandAt program parts out a bytes
     pub written : IsWritten A (item_at p) own a n item bytes
+    pub short : (half : ℕ) → item ≡ RawShort half → (n ≡ 2) × (half < 2 ^ 16) × (bytes ≡ half_bytes half)
 
   -- the program has the objects' items
   same_item : (q : Place) (item : Item) → item_at p q ≡ Some item → program.item q ≡ Some item
@@ -274,7 +279,7 @@ module _ (L : TextLayout) (is_map : IsMap L.inputs.map) (laid : IsLaidOut L) (pr
 
   -- any item
   stretch_laid : (q : Place) (a n : ℕ) (item : Item) (bytes : List ℕ) → WrittenAt q a n item bytes → StretchLaid program here q a (stretch_of n (Some (OneItem item)))
-  unfolding alone
+  unfolding alone half_at_address
   stretch_laid q a n (Op i) bytes w = item_laid q a (Op i) w.is (op_laid q a n i bytes w)
   stretch_laid q a n (Hi i t) bytes w =
       let x = w.written.value in
@@ -320,7 +325,12 @@ module _ (L : TextLayout) (is_map : IsMap L.inputs.map) (laid : IsLaidOut L) (pr
       }
   stretch_laid q a n (Word t) bytes w = item_laid q a (Word t) w.is tt
   stretch_laid q a n (Raw word) bytes w = item_laid q a (Raw word) w.is tt
-  stretch_laid q a n (RawShort half) bytes w = item_laid q a (RawShort half) w.is tt
+  stretch_laid q a n (RawShort half) bytes w =
+      let two = w.short half refl in
+      item_laid q a (RawShort half) w.is (λ short spells. record {
+        at = half_at_address program parts out a half bytes short w.stands two.1 two.2 spells;
+        next = next_listed q (a + n) w.next ∙ ap (λ m. Some (a + m)) two.0;
+      })
   stretch_laid q a n (RawPair first second) bytes w = item_laid q a (RawPair first second) w.is tt
 
   -- ---- all
@@ -342,6 +352,21 @@ module _ (L : TextLayout) (is_map : IsMap L.inputs.map) (laid : IsLaidOut L) (pr
       let st = stand_at program parts out a h.size (omega (arith, h.low, start)) (omega (arith, h.within, start)) in
       subst (λ x. StandAt program parts out a (bytes_from parts.text (a - x) h.size)) start st
 
+  -- two bytes that are copied stand as their number there
+  short_there :
+      (q : Place) (a half : ℕ) → A q ≡ Some a → L.unit q ≡ Some (OneItem (RawShort half)) → (h : HoldsUnit L parts.text (q, a) (OneItem (RawShort half)))
+      → (h.size ≡ 2) × (half < 2 ^ 16) × (bytes_from parts.text (a - L.inputs.map.text) h.size ≡ half_bytes half)
+  short_there q a half at unit h =
+      let lies = laid.each q a (OneItem (RawShort half)) unit at in
+      let size : h.size ≡ 2 = sym (size_is L q a h.size at h.next) ∙ size_is L q a lies.size at lies.next ∙ lies.form in
+      let from = a - L.inputs.map.text in
+      let bytes : List ℕ = bytes_from parts.text from h.size in
+      let long : length bytes ≡ 2 =
+      length-take-le h.size (drop from parts.text) (omega (arith, length-drop from parts.text, h.low, h.within)) ∙ size in
+      let number = short_half p q h.section half lies.is h.here in
+      let two = two_bytes h.section.bytes q.offset bytes (sym h.written) long (take_are h.size (drop from parts.text) (drop_are from parts.text out.text_are)) in
+      (size, subst (λ n. n < 2 ^ 16) (sym number) two.0, two.1 ∙ ap half_bytes (sym number))
+
   -- an item by itself
   unit_laid :
       (q : Place) (a : ℕ) (item : Item) → A q ≡ Some a → L.unit q ≡ Some (OneItem item) → HoldsUnit L parts.text (q, a) (OneItem item)
@@ -356,6 +381,8 @@ module _ (L : TextLayout) (is_map : IsMap L.inputs.map) (laid : IsLaidOut L) (pr
         next = ap A (sym (behind_item L q item unit)) ∙ h.next;
         stands = stands_there q a (OneItem item) h;
         written = h.written;
+        short = λ half is.
+            short_there q a half at (unit ∙ ap (λ i. Some (OneItem i)) is) (subst (λ i. HoldsUnit L parts.text (q, a) (OneItem i)) is h);
       }))
 
   -- the places after a place

@@ -20,6 +20,7 @@ use Rattle.block_cut.specs.declared.item.Item.TheVariants.{Op, Hi, Lo, PcHi, PcL
 use Rattle.sym_machine.specs.AddressParts.{pc_target}
 use Rattle.sym_machine.specs.Program.{Program}
 use Rattle.zca_zcb_pass.specs.Forms.{IsOpposite}
+use Rattle.zc_decode.specs.Halfwords.{decoded16}
 use Rattle.zc_decode.specs.declared.short.Short.{Short}
 use Rattle.zc_decode.specs.declared.short.Short.TheVariants.{Base, MoveAs, MoveSa, Push, TableJump}
 use Rattle.zc_machine.specs.Fetch.{Found, fetched_at}
@@ -90,6 +91,11 @@ pub record ReachLaid (p : Program) (e : Image) (q : Place) (a : ℕ) (i : ℤ �
   pub reaches : e.address to ≡ Some (add32 a distance)
   pub laid : AloneLaid p e q a (i distance)
 
+-- what a halfword of the objects spells, and the next place after it
+pub record ShortLaid (p : Program) (e : Image) (q : Place) (a : ℕ) (short : Short) : Type 0 where
+  pub at : OneAt e a short
+  pub next : e.address (p.next q) ≡ Some (a + at.size)
+
 -- an item that is one instruction; of what the symbolic machine is stuck at, and of a section's end, nothing is owed, and padding
 -- isn't one instruction
 abbrev pub ItemLaid : Program → Image → Place → ℕ → Option Item → Type 0
@@ -105,7 +111,7 @@ ItemLaid p e q a (Some (Call rd temp to)) = ReachLaid p e q a (Jal rd) to
 ItemLaid p e q a (Some (Align bytes)) = ⊥
 ItemLaid p e q a (Some (Word t)) = Unit {0}
 ItemLaid p e q a (Some (Raw word)) = Unit {0}
-ItemLaid p e q a (Some (RawShort half)) = Unit {0}
+ItemLaid p e q a (Some (RawShort half)) = (short : Short) → decoded16 half ≡ Some short → ShortLaid p e q a short
 ItemLaid p e q a (Some (RawPair first second)) = Unit {0}
 
 -- ---- items of several instructions

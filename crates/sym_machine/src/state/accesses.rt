@@ -60,7 +60,7 @@ impl State {
     }
 
     // The address of an access of so many bytes, or why it can't be made.
-    fn reach(&self, n: u32, address: Option<u32>) -> Result<u32, Why>
+    pub(super) fn reach(&self, n: u32, address: Option<u32>) -> Result<u32, Why>
         requires { 0 < n }
         ensures { (go : ℕ → Does) → accessing n address self.now.core go ≡ reached result go }
     {

@@ -1,12 +1,13 @@
 // How a step ends. Each end is a change of a state that hasn't exited.
 
-ghost use Rattle.std.specs.Prelude.{◌≡◌, ◌≢◌, [], ◌∷◌, length, map, None, Some, true};
+ghost use Rattle.std.specs.Prelude.{◌≡◌, ◌≢◌, [], ◌∷◌, ◌&&◌, length, map, nat_le, None, Some, true};
 ghost use Rattle.std.specs.Bool.{OnFalse, OnTrue};
 ghost use Rattle.sym_machine.specs.declared.word.SymByte.TheVariants.{Num};
 ghost use Rattle.rv_decode.specs.State.{Write};
 ghost use Rattle.sym_machine.specs.Answer.{Makes, RunsOn, StepAnswers};
 ghost use Rattle.sym_machine.specs.Change.{Goes, Stops, call_to, exit_does, sets, in_memory, is_output, continues, puts, read_does};
 ghost use Rattle.sym_machine.specs.Kept.{word_of};
+ghost use Rattle.sym_machine.specs.State.{reg_of};
 ghost use Rattle.sym_machine.specs.Step.{applied};
 ghost use Rattle.sym_machine.specs.Words.{code_word, number_word};
 
@@ -51,12 +52,13 @@ impl State {
 
     // Sets a register that is neither register 0 nor sp, and goes on to a place.
     #[inline(always)]
-    fn set_register(&mut self, rd: Reg, word: Held, to: Place)
+    pub(super) fn set_register(&mut self, rd: Reg, word: Held, to: Place)
         requires running { self.old.core.exit ≡ None }
         requires some { rd ≢ 0 }
         requires other { rd ≢ 2 }
-        ensures { RunsOn (applied self.old.map self.old.core (Goes (sets rd
+        ensures made { RunsOn (applied self.old.map self.old.core (Goes (sets rd
             (word_of word) to))) [] self.old.core self.new.core }
+        ensures map { self.new.map ≡ self.old.map }
     {
         self.registers[rd.number() as usize] = word;
         self.place = to;
@@ -64,12 +66,13 @@ impl State {
 
     // The same with a number.
     #[inline(always)]
-    fn set_number(&mut self, rd: Reg, n: u32, to: Place)
+    pub(super) fn set_number(&mut self, rd: Reg, n: u32, to: Place)
         requires running { self.old.core.exit ≡ None }
         requires some { rd ≢ 0 }
         requires other { rd ≢ 2 }
-        ensures { RunsOn (applied self.old.map self.old.core (Goes (sets rd
+        ensures made { RunsOn (applied self.old.map self.old.core (Goes (sets rd
             (number_word n) to))) [] self.old.core self.new.core }
+        ensures map { self.new.map ≡ self.old.map }
     {
         self.registers[rd.number() as usize].set_number(n);
         self.place = to;
@@ -77,12 +80,13 @@ impl State {
 
     // The same with a place's address.
     #[inline(always)]
-    fn set_code(&mut self, rd: Reg, q: Place, to: Place)
+    pub(super) fn set_code(&mut self, rd: Reg, q: Place, to: Place)
         requires running { self.old.core.exit ≡ None }
         requires some { rd ≢ 0 }
         requires other { rd ≢ 2 }
-        ensures { RunsOn (applied self.old.map self.old.core (Goes (sets rd
+        ensures made { RunsOn (applied self.old.map self.old.core (Goes (sets rd
             (code_word q) to))) [] self.old.core self.new.core }
+        ensures map { self.new.map ≡ self.old.map }
     {
         self.registers[rd.number() as usize].set_code(q);
         self.place = to;
@@ -126,8 +130,11 @@ impl State {
 
     // Moves sp to an address, and goes on to a place; not if the address isn't in the stack.
     #[inline(never)]
-    fn move_sp(&mut self, sp: u32, to: Place) -> bool
+    pub(super) fn move_sp(&mut self, sp: u32, to: Place) -> bool
         requires { self.old.core.exit ≡ None }
+        ensures map { self.new.map ≡ self.old.map }
+        ensures sp { OnTrue result (reg_of self.new.core 2 ≡ number_word sp) }
+        ensures could { result ≡ (nat_le self.old.map.stack_low sp && nat_le sp self.old.map.stack_high) }
         ensures made { OnTrue result (RunsOn (applied self.old.map self.old.core (Goes (sets 2
             (number_word sp) to))) [] self.old.core self.new.core) }
         ensures same { OnFalse result (self.new ≡ self.old) }
@@ -233,8 +240,9 @@ impl State {
     // The same, with nothing to answer.
     pub(super) fn put_bytes(&mut self, a: u32, bytes: &[SymByte], to: Place)
         requires { self.old.core.exit ≡ None }
-        ensures { RunsOn (applied self.old.map self.old.core (Goes (puts a bytes.now to))) [] self.old.core
+        ensures made { RunsOn (applied self.old.map self.old.core (Goes (puts a bytes.now to))) [] self.old.core
             self.new.core }
+        ensures map { self.new.map ≡ self.old.map }
     {
         self.memory.write(a, bytes);
         self.place = to;
@@ -247,6 +255,7 @@ impl State {
         ensures made { OnTrue result (RunsOn (applied self.old.map self.old.core (Goes (puts a
             (map Num numbers.now) to))) [] self.old.core self.new.core) }
         ensures same { OnFalse result (self.new ≡ self.old) }
+        ensures map { self.new.map ≡ self.old.map }
     {
         if !self.memory.store(a, numbers) {
             return false;

@@ -3,9 +3,9 @@
 ghost use Rattle.std.specs.Prelude.{◌≡◌, None, Some};
 ghost use Rattle.psabi_sym.specs.Inputs.{parsed};
 ghost use Rattle.sym_machine.specs.Answer.{Makes};
-ghost use Rattle.sym_machine.specs.Change.{item_does, op_does};
+ghost use Rattle.sym_machine.specs.Change.{op_does};
 ghost use Rattle.sym_machine.specs.Objects.{program_of};
-ghost use Rattle.sym_machine.specs.Step.{applied};
+ghost use Rattle.sym_machine.specs.Step.{applied, item_step};
 
 use super::State;
 use crate::answer::SymStep;
@@ -28,7 +28,7 @@ impl State {
     ) -> Result<SymStep, AllocError>
         requires { self.old.core.exit ≡ None }
         ensures { Makes result
-            (applied self.old.map self.old.core (item_does (program_of (parsed cut.now)) (Some item.now) self.old.core next))
+            (item_step self.old.map (program_of (parsed cut.now)) (Some item.now) self.old.core next)
             self.old.core self.new.core }
     {
         match item {
@@ -49,9 +49,8 @@ impl State {
             Item::Jump { rd, to } => self.jump(Some(*to), *rd, next),
             Item::Call { rd, temp, to } => Ok(self.call(*rd, *temp, *to, next)),
             Item::Align(_) => Ok(self.go(next)),
-            Item::Word(_) | Item::Raw(_) | Item::RawShort(_) => {
-                Ok(self.stuck(Why::NoInstruction))
-            }
+            Item::Word(_) | Item::Raw(_) => Ok(self.stuck(Why::NoInstruction)),
+            Item::RawShort(half) => Ok(self.step_short(*half, next)),
             Item::RawPair(_, _) => Ok(self.stuck(Why::TargetUnknown)),
         }
     }

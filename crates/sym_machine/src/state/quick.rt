@@ -8,11 +8,11 @@ ghost use Rattle.rv_decode.specs.Effect as effects;
 ghost use Rattle.rv_decode.specs.Results as results;
 ghost use Rattle.rv_decode.specs.declared.instr.Instr.TheVariants.{Jalr};
 ghost use Rattle.sym_machine.specs.Answer.{RunsOn};
-ghost use Rattle.sym_machine.specs.Change.{Goes, item_does, load_does, load_word, op_does, sets, store_does};
+ghost use Rattle.sym_machine.specs.Change.{Goes, load_does, load_word, op_does, sets, store_does};
 ghost use Rattle.sym_machine.specs.Conditions.{condition};
 ghost use Rattle.sym_machine.specs.Program.{Program};
 ghost use Rattle.sym_machine.specs.State.{reg_of};
-ghost use Rattle.sym_machine.specs.Step.{applied};
+ghost use Rattle.sym_machine.specs.Step.{applied, item_step};
 ghost use Rattle.sym_machine.specs.Words.{code_word, imm_word, number_of, number_word, reg_word, sum_word};
 
 use super::State;
@@ -30,7 +30,7 @@ impl State {
     pub(super) fn quick_item(&mut self, item: &Item, next: Place) -> bool
         requires { self.old.core.exit ≡ None }
         ensures made { OnTrue result ((p : Program) → RunsOn
-            (applied self.old.map self.old.core (item_does p (Some item.now) self.old.core next)) [] self.old.core
+            (item_step self.old.map p (Some item.now) self.old.core next) [] self.old.core
             self.new.core) }
         ensures same { OnFalse result (self.new ≡ self.old) }
     {
@@ -115,7 +115,7 @@ impl State {
 
     // The number that a register holds, if the register tells it without a look at bytes.
     #[inline(always)]
-    fn plain(&self, r: Reg) -> Option<u32>
+    pub(super) fn plain(&self, r: Reg) -> Option<u32>
         ensures is { IfSome result (λ n. reg_of self.now.core r ≡ number_word n) }
         ensures below { IfSome result (λ n. n < 2 ^ 32) }
     {

@@ -6,11 +6,10 @@ use Rattle.block_cut.specs.declared.item.Item.{Item}
 use Rattle.sym_machine.specs.declared.answer.SymStep.{SymStep}
 use Rattle.sym_machine.specs.declared.answer.SymStep.TheVariants as answer
 use Rattle.sym_machine.specs.Answer.{Makes, RunsOn}
-use Rattle.sym_machine.specs.Change.{item_does}
 use Rattle.sym_machine.specs.Kept.{Working}
 use Rattle.sym_machine.specs.Objects.{program_of}
 use Rattle.sym_machine.specs.Program.{Program}
-use Rattle.sym_machine.specs.Step.{applied}
+use Rattle.sym_machine.specs.Step.{item_step}
 use Rattle.sym_machine.proofs.RunLaws.{RunsTo-made}
 use Rattle.sym_machine.proofs.state.State.advance.Goals as goal
 use Rattle.sym_machine.proofs.state.State.advance.Goals.{then-not-quick_item+in-Ok-Done+in-Ok-step_item-3+in-Wrote-1, then-not-quick_item+in-Ok-Done+in-Ok-step_item-3+in-Done-1, then-not-quick_item+in-Ok-Done+in-Err-1, else-not-quick_item}
@@ -18,11 +17,11 @@ use Rattle.sym_machine.proofs.state.State.advance.Goals.{then-not-quick_item+in-
 -- the item's step: the quick way changed nothing, and the slow one is done
 slow :
     (p : Program) (s t s' : Working) (item : Item) (next : Place) (r : Result SymStep AllocError) (a : SymStep) → t ≡ s
-    → Makes r (applied t.map t.core (item_does p (Some item) t.core next)) t.core s'.core → r ≡ Ok a → a ≡ answer.Done
-    → RunsOn (applied s.map s.core (item_does p (Some item) s.core next)) [] s.core s'.core
+    → Makes r (item_step t.map p (Some item) t.core next) t.core s'.core → r ≡ Ok a → a ≡ answer.Done
+    → RunsOn (item_step s.map p (Some item) s.core next) [] s.core s'.core
 slow p s t s' item next r a same made is done =
-    subst (λ (w : Working). RunsOn (applied w.map w.core (item_does p (Some item) w.core next)) [] w.core s'.core) same
-    (subst (λ (q : Result SymStep AllocError). Makes q (applied t.map t.core (item_does p (Some item) t.core next)) t.core s'.core) (is ∙ ap Ok done) made)
+    subst (λ (w : Working). RunsOn (item_step w.map p (Some item) w.core next) [] w.core s'.core) same
+    (subst (λ (q : Result SymStep AllocError). Makes q (item_step t.map p (Some item) t.core next) t.core s'.core) (is ∙ ap Ok done) made)
 
 pub loop-made-preserved : goal.loop-made-preserved
 loop-made-preserved c =
@@ -32,7 +31,7 @@ loop-made-preserved c =
     let next : Place = c.in-Some-item_here.next in
     let so_far = c.loop-made.invariant.runs in
     let step = c.place-place.ensures.step p so_far.of (so_far.exit ∙ c.requires.running) in
-    let ends : Working → Type 0 = λ s'. RunsOn (applied s.map s.core (item_does p (Some item) s.core next)) [] s.core s'.core in
+    let ends : Working → Type 0 = λ s'. RunsOn (item_step s.map p (Some item) s.core next) [] s.core s'.core in
     let made : ends c.if-not-quick_item.self =
     elim c.if-not-quick_item.branch [
       | then-not-quick_item+in-Ok-Done+in-Ok-step_item-3+in-Wrote-1 w ↦ subst ends (sym w.self-is)

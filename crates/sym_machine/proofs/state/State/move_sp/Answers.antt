@@ -1,12 +1,14 @@
 -- sp is set to a number within the stack.
-use Rattle.std.proofs.Common.{◌≡◌, [], None, ap, sym, ◌∙◌, drop, subst, set, leb, arith}
+use Rattle.std.proofs.Common.{◌≡◌, [], None, ap, sym, ◌∙◌, drop, subst, set, leb, arith, get_or, get_or-set_same}
 use Rattle.std.proofs.lemmas.Bool.{and_parts, leb-true}
+use Rattle.std.proofs.lemmas.List.{map-set}
+use Rattle.sym_machine.specs.declared.held.Held.{Held}
 use Rattle.sym_machine.specs.declared.held.Held.TheVariants as held
 use Rattle.sym_machine.specs.Answer.{RunsOn}
 use Rattle.sym_machine.specs.Change.{Goes, sets}
-use Rattle.sym_machine.specs.Kept.{Working}
+use Rattle.sym_machine.specs.Kept.{Working, word_of, words_of}
 use Rattle.sym_machine.specs.Step.{applied}
-use Rattle.sym_machine.specs.Words.{number_word}
+use Rattle.sym_machine.specs.Words.{number_word, undef_word}
 use Rattle.sym_machine.proofs.StateLaws.{core_of, gives_sp, working_sp}
 use Rattle.sym_machine.proofs.WordLaws.{number_back}
 use Rattle.sym_machine.proofs.state.State.move_sp.Goals as goal
@@ -15,6 +17,13 @@ pub invariant_of-self : goal.invariant_of-self
 invariant_of-self c =
     let i = c.self.inside in
     (working_sp i.registers i.memory c.settle.new.self (held.Number c.args.sp) c.args.sp c.self.invariant.0 c.settle.ensures.kept c.settle.ensures.from (number_back c.args.sp (omega arith)), c.self.invariant.1)
+
+pub returns-clause-sp : goal.returns-clause-sp
+returns-clause-sp c =
+    let i = c.self.inside in
+    let w : Held = held.Number c.args.sp in
+    ap (λ l. get_or l 2 undef_word) (map-set word_of i.registers 2 w)
+    ∙ get_or-set_same (words_of i.registers) 2 (word_of w) undef_word (omega (arith, c.self.invariant.0.registers_are.count))
 
 pub returns-clause-made : goal.returns-clause-made
 returns-clause-made c =

@@ -6,8 +6,11 @@ use Rattle.sym_machine.specs.Step.{applied}
 use Rattle.sym_machine.proofs.StateLaws.{core_of, puts_on}
 use Rattle.sym_machine.proofs.state.State.put_bytes.Goals as goal
 
-pub returns : goal.returns
-returns c =
+pub returns-clause-map : goal.returns-clause-map
+returns-clause-map c = c.write.ensures.map ∙ ap (λ (w : Working). w.map) c.self.view_is
+
+pub returns-clause-made : goal.returns-clause-made
+returns-clause-made c =
     let i = c.self.inside in
     let running : i.exit ≡ None = ap (λ (w : Working). w.core.exit) c.self.view_is ∙ c.requires in
     let input = drop i.taken i.input.items in

@@ -16,8 +16,8 @@ invariant_of-self c =
     let same = sym c.number.ensures.value in
     (working_set i.registers i.memory i.memory c.number.result c.set_code.new.self is is.kept refl (λ e. c.requires.some (same ∙ e)) (λ e. c.requires.other (same ∙ e)), c.self.invariant.1)
 
-pub returns : goal.returns
-returns c =
+pub returns-clause-made : goal.returns-clause-made
+returns-clause-made c =
     let i = c.self.inside in
     let running : i.exit ≡ None = ap (λ (w : Working). w.core.exit) c.self.view_is ∙ c.requires.running in
     let input = drop i.taken i.input.items in

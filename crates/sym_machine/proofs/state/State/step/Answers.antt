@@ -8,12 +8,11 @@ use Rattle.block_cut.proofs.FaultLaws.{faultless}
 use Rattle.block_cut.proofs.SizeLaws.{item_sized}
 use Rattle.block_cut.proofs.WordLaws.{no_item}
 use Rattle.sym_machine.specs.Answer.{Makes, StepAnswers}
-use Rattle.sym_machine.specs.Change.{item_does}
 use Rattle.sym_machine.specs.Kept.{Working}
 use Rattle.sym_machine.specs.Objects.{program_of}
 use Rattle.sym_machine.specs.Program.{Program}
 use Rattle.sym_machine.specs.State.{PlainCore}
-use Rattle.sym_machine.specs.Step.{PlainStep, applied, plain_step}
+use Rattle.sym_machine.specs.Step.{PlainStep, item_step, plain_step}
 use Rattle.sym_machine.proofs.StateLaws.{step_of}
 use Rattle.sym_machine.proofs.StepLaws.{step_past_exit}
 use Rattle.sym_machine.proofs.state.State.step.Goals as goal
@@ -27,7 +26,7 @@ returns-in-Some c =
 -- a step of the definition, by what stands at the place
 step_here : (c : After-at) → plain_step (program_of (parsed c.args.cut.now)) c.args.self.now.core
     ≡ (let p = program_of (parsed c.args.cut.now) in
-    applied c.args.self.now.map c.args.self.now.core (item_does p (p.item c.self.inside.place) c.args.self.now.core (p.next c.self.inside.place)))
+    item_step c.args.self.now.map p (p.item c.self.inside.place) c.args.self.now.core (p.next c.self.inside.place))
 step_here c =
     let p : Program = program_of (parsed c.args.cut.now) in
     let s : PlainCore = c.args.self.now.core in
@@ -36,7 +35,7 @@ step_here c =
     let of = ap (λ (w : Working). extents_of w.core.memory) c.self.view_is ∙ c.requires in
     let map : i.memory.map ≡ c.args.self.now.map = ap (λ (w : Working). w.map) c.self.view_is in
     let place : s.place ≡ i.place = ap (λ (w : Working). w.core.place) (sym c.self.view_is) in
-    step_of i.memory c.self.invariant.0.kept p of s running ∙ (λ j. applied (map j) s (item_does p (p.item (place j)) s (p.next (place j))))
+    step_of i.memory c.self.invariant.0.kept p of s running ∙ (λ j. item_step (map j) p (p.item (place j)) s (p.next (place j)))
 
 pub returns-in_default-at : goal.returns-in_default-at
 unfolding program_of
@@ -44,7 +43,7 @@ returns-in_default-at c =
     let p : Program = program_of (parsed c.args.cut.now) in
     let s : PlainCore = c.args.self.now.core in
     let none : p.item c.self.inside.place ≡ None = no_item (parsed c.args.cut.now) c.self.inside.place c.in_default-at.ensures in
-    let is = step_here (goal.at.returns-in_default-at c).After-at ∙ ap (λ o. applied c.args.self.now.map s (item_does p o s (p.next c.self.inside.place))) none in
+    let is = step_here (goal.at.returns-in_default-at c).After-at ∙ ap (λ o. item_step c.args.self.now.map p o s (p.next c.self.inside.place)) none in
     subst (λ (st : PlainStep). StepAnswers st c.stuck.result s s) (sym is) c.stuck.ensures
 
 pub returns-in_default-item : goal.returns-in_default-item
@@ -53,7 +52,7 @@ returns-in_default-item c =
     let p : Program = program_of (parsed c.args.cut.now) in
     let s : PlainCore = c.args.self.now.core in
     let none : p.item c.self.inside.place ≡ None = sym (ap (λ w. w.item) c.in-Some-at.ensures.1) ∙ c.in_default-item.is in
-    let is = step_here (goal.at.returns-in_default-item c).After-at ∙ ap (λ o. applied c.args.self.now.map s (item_does p o s (p.next c.self.inside.place))) none in
+    let is = step_here (goal.at.returns-in_default-item c).After-at ∙ ap (λ o. item_step c.args.self.now.map p o s (p.next c.self.inside.place)) none in
     subst (λ (st : PlainStep). StepAnswers st c.stuck-in_default-item.result s s) (sym is) c.stuck-in_default-item.ensures
 
 pub overflow_add-next : goal.overflow_add-next
@@ -75,5 +74,5 @@ returns c =
     let here : p.item q ≡ Some item = sym (ap (λ w. w.item) c.in-Some-at.ensures.1) ∙ c.in-Some-item.is in
     let next : p.next q ≡ to =
     λ j. record { object = q.object; section = q.section; offset = q.offset + sym (c.from.ensures ∙ ap (λ w. w.size) c.in-Some-at.ensures.1) j } in
-    let is = step_here (goal.at.returns c).After-at ∙ (λ j. applied c.args.self.now.map s (item_does p (here j) s (next j))) in
+    let is = step_here (goal.at.returns c).After-at ∙ (λ j. item_step c.args.self.now.map p (here j) s (next j)) in
     subst (λ (st : PlainStep). Makes c.step_item.result st s c.step_item.new.self.core) (sym is) c.step_item.ensures

@@ -1,0 +1,137 @@
+-- The step is stuck at a load, as sp is raised, or as it returns; or all loads are made, then a0 is 0 or not, and sp is raised.
+use Rattle.std.proofs.Common.{◌≡◌, ℕ, ◌+◌, ◌-◌, ◌*◌, ◌%◌, ◌^◌, ◌<◌, pos, List, [], ◌++◌, length, Some, None, Bool, true, false, ap, sym, ◌∙◌, subst, arith, get_or}
+use Rattle.std.specs.Bool.{OnTrue}
+use Rattle.std.specs.Prelude.{All}
+use Rattle.zc_base.specs.declared.mem_map.MemMap.{MemMap}
+use Rattle.zc_base.specs.declared.place.Place.{Place}
+use Rattle.rv_decode.specs.Bits.{add32}
+use Rattle.rv_decode.specs.declared.instr.LoadOp.TheVariants.{Lw}
+use Rattle.sym_machine.specs.Answer.{RunsOn, StepAnswers}
+use Rattle.sym_machine.specs.Change.{Goes, load_word, sets}
+use Rattle.sym_machine.specs.Expansions.{restores}
+use Rattle.sym_machine.specs.Invariants.Frames as frames
+use Rattle.sym_machine.specs.Invariants.Frames.{AreReached, HasStack, IsFrameRegister, IsLoading, IsZeroed, behind_loads, word_address}
+use Rattle.sym_machine.specs.State.{PlainCore}
+use Rattle.sym_machine.specs.Step.{PlainStep, Stuck, Went, applied, in_turn}
+use Rattle.sym_machine.specs.Words.{code_of, number_word}
+use Rattle.sym_machine.specs.declared.state.frames.PopEnd.{PopEnd}
+use Rattle.sym_machine.specs.declared.why.Why.TheVariants.{StackPointer, TargetUnknown}
+use Rattle.sym_machine.proofs.FrameLaws.{loads_stuck}
+use Rattle.sym_machine.proofs.PushPopLaws.{is_within, list_registers, loaded_of, loaded_some, pop_goes, raise_outside, return_stuck, returns_of}
+use Rattle.zc_decode.specs.Lists.{registers_of}
+use Rattle.zc_decode.specs.Operands.{IsFrameSize}
+use Rattle.zc_decode.proofs.OperandLaws.{frame_list, frame_range}
+use Rattle.sym_machine.proofs.state.State.pop.Goals as goal
+
+-- what is known of the list, in the code's names for it and for the frame
+record IsList (frame : ℕ) (rs : List ℕ) : Type 0 where
+  known : All IsFrameRegister rs
+  some : 0 < length rs
+  last : get_or rs (length rs - 1) 0 ≡ 1
+  positive : 0 < frame
+  small : frame < 2 ^ 31
+
+is_list : (list adjust frame : ℕ) (rs : List ℕ) → IsFrameSize list adjust → frame ≡ adjust → rs ≡ registers_of list → IsList frame rs
+is_list list adjust frame rs size frame_is rs_is =
+    let of = frame_list list adjust size in
+    let range = frame_range list adjust size in
+    let least = range.least in
+    let most = range.most in
+    record {
+      known = subst (All IsFrameRegister) (sym rs_is) (list_registers list);
+      some = subst (λ (l : List ℕ). 0 < length l) (sym rs_is) of.some;
+      last = subst (λ (l : List ℕ). get_or l (length l - 1) 0 ≡ 1) (sym rs_is) of.last;
+      positive = omega (arith, frame_is, least);
+      small = omega (arith, frame_is, most);
+    }
+
+-- the address of ra's word
+ra_at : (sp frame n : ℕ) → 0 < n → (sp + (frame - 4 * n)) % 2 ^ 32 ≡ word_address sp frame (n - 1)
+ra_at sp frame n some = ap (λ k. (sp + k) % 2 ^ 32) (let same : frame - 4 * n ≡ frame - 4 * (n - 1 + 1) = omega (arith, some) in same)
+
+module _ (map : MemMap) (sp frame : ℕ) (end : PopEnd) (rs : List ℕ) (next : Place) (s : PlainCore) (small : sp < 2 ^ 32) (of : IsList frame rs) (stack : HasStack map sp s) (reached : AreReached s sp frame (length rs)) where
+  outside : is_within map (add32 sp (pos frame)) ≡ false → in_turn map (restores frame rs ++ behind_loads end frame) next s ≡ Stuck StackPointer
+  outside out =
+      let z = loaded_some map sp frame end rs next s of.some of.last small of.known stack reached in
+      z.is.same ∙ raise_outside map sp frame next z.state z.is.stack of.positive (returns_of end) out
+
+  unknown : is_within map (add32 sp (pos frame)) ≡ true → frames.pop_target end (code_of (load_word Lw s (word_address sp frame (length rs - 1)))) next ≡ None
+      → in_turn map (restores frame rs ++ behind_loads end frame) next s ≡ Stuck TargetUnknown
+  unknown inside none =
+      let z = loaded_some map sp frame end rs next s of.some of.last small of.known stack reached in
+      z.is.same ∙ return_stuck map sp frame next z.state z.is.stack of.positive inside end (ap (λ w. frames.pop_target end (code_of w) next) z.is.ra ∙ none)
+
+  goes : (s1 z s4 : PlainCore) (to : Place) → is_within map (add32 sp (pos frame)) ≡ true
+      → frames.pop_target end (code_of (load_word Lw s (word_address sp frame (length rs - 1)))) next ≡ Some to
+      → IsLoading map sp frame (length rs) rs next s s1 → IsZeroed end map next s1 z → applied map z (Goes (sets 2 (number_word (add32 sp (pos frame))) to)) ≡ Went s4 []
+      → in_turn map (restores frame rs ++ behind_loads end frame) next s ≡ Went s4 []
+  goes s1 z s4 to inside target loading cleared h =
+      let l = loaded_of map sp frame end rs next s of.some of.last s1 z loading cleared in
+      l.same ∙ pop_goes map sp frame next z l.stack of.positive inside end to s4 (ap (λ w. frames.pop_target end (code_of w) next) l.ra ∙ target) h
+
+pub returns-in-Some : goal.returns-in-Some
+returns-in-Some c =
+    let first = c.args.self.now in
+    let s = first.core in
+    let frame : ℕ = c.from-frame.result in
+    let rs : List ℕ = c.registers-registers.result.now in
+    let of = is_list c.args.list c.args.adjust frame rs c.requires.size c.from-frame.ensures c.registers-registers.ensures.value in
+    let all = (λ j. in_turn first.map (restores (sym c.from-frame.ensures j) (sym c.registers-registers.ensures.value j) ++ behind_loads c.args.end (sym c.from-frame.ensures j)) c.args.next s)
+    ∙ loads_stuck first.map c.sp-sp.result frame rs c.args.next s c.sp-sp.type_inv of.known c.sp-sp.ensures c.in-Some.why (behind_loads c.args.end frame) c.in-Some.ensures in
+    subst (λ (t : PlainStep). StepAnswers t c.stuck.result s s) (sym all) c.stuck.ensures
+
+pub returns-then-not-has_sp : goal.returns-then-not-has_sp
+returns-then-not-has_sp c =
+    let first = c.args.self.now in
+    let s = first.core in
+    let frame : ℕ = c.from-frame.result in
+    let rs : List ℕ = c.registers-registers.result.now in
+    let of = is_list c.args.list c.args.adjust frame rs c.requires.size c.from-frame.ensures c.registers-registers.ensures.value in
+    let out = sym c.has_sp.ensures ∙ c.if-not-has_sp.true in
+    let all = (λ j. in_turn first.map (restores (sym c.from-frame.ensures j) (sym c.registers-registers.ensures.value j) ++ behind_loads c.args.end (sym c.from-frame.ensures j)) c.args.next s)
+    ∙ outside first.map c.sp-sp.result frame c.args.end rs c.args.next s c.sp-sp.type_inv of c.sp-sp.ensures c.in_default.ensures out in
+    subst (λ (t : PlainStep). StepAnswers t c.stuck-then-not-has_sp.result s s) (sym all) c.stuck-then-not-has_sp.ensures
+
+pub returns-in_default-pop_target : goal.returns-in_default-pop_target
+returns-in_default-pop_target c =
+    let first = c.args.self.now in
+    let s = first.core in
+    let sp : ℕ = c.sp-sp.result in
+    let frame : ℕ = c.from-frame.result in
+    let rs : List ℕ = c.registers-registers.result.now in
+    let of = is_list c.args.list c.args.adjust frame rs c.requires.size c.from-frame.ensures c.registers-registers.ensures.value in
+    let inside = sym c.has_sp.ensures ∙ c.if-not-has_sp.false in
+    let none = ap (λ a. frames.pop_target c.args.end (code_of (load_word Lw s a)) c.args.next) (sym (ra_at sp frame (length rs) of.some)) ∙ sym c.pop_target.ensures ∙ c.in_default-pop_target.is in
+    let all = (λ j. in_turn first.map (restores (sym c.from-frame.ensures j) (sym c.registers-registers.ensures.value j) ++ behind_loads c.args.end (sym c.from-frame.ensures j)) c.args.next s)
+    ∙ unknown first.map sp frame c.args.end rs c.args.next s c.sp-sp.type_inv of c.sp-sp.ensures c.in_default.ensures inside none in
+    subst (λ (t : PlainStep). StepAnswers t c.stuck-in_default-pop_target.result s s) (sym all) c.stuck-in_default-pop_target.ensures
+
+pub restore_all-requires-clause-known : goal.restore_all-requires-clause-known
+restore_all-requires-clause-known c = subst (All IsFrameRegister) (sym c.registers-registers.ensures.value) (list_registers c.args.list)
+
+pub returns : goal.returns
+returns c =
+    let first = c.args.self.now in
+    let s = first.core in
+    let sp : ℕ = c.sp-sp.result in
+    let frame : ℕ = c.from-frame.result in
+    let rs : List ℕ = c.registers-registers.result.now in
+    let next = c.args.next in
+    let to = c.in-Some-pop_target.to in
+    let s1 = c.restore_all.new.self in
+    let z = c.clear_a0.new.self in
+    let s4 = c.move_sp-raised.new.self.core in
+    let of = is_list c.args.list c.args.adjust frame rs c.requires.size c.from-frame.ensures c.registers-registers.ensures.value in
+    let inside = sym c.has_sp.ensures ∙ c.if-not-has_sp.false in
+    let target = ap (λ a. frames.pop_target c.args.end (code_of (load_word Lw s a)) next) (sym (ra_at sp frame (length rs) of.some)) ∙ sym c.pop_target.ensures ∙ c.in-Some-pop_target.is in
+    let map_z : z.map ≡ first.map = c.clear_a0.ensures.runs.1 ∙ c.restore_all.ensures.runs.1 in
+    let top : ℕ = (sp + frame) % 2 ^ 32 in
+    let could = c.move_sp-raised.ensures.could ∙ ap (λ (m : MemMap). is_within m top) map_z ∙ inside in
+    let made = subst (λ (b : Bool). OnTrue b (RunsOn (applied z.map z.core (Goes (sets 2 (number_word top) to))) [] z.core s4)) could c.move_sp-raised.ensures.made in
+    let raised : applied first.map z.core (Goes (sets 2 (number_word top) to)) ≡ Went s4 [] = ap (λ (m : MemMap). applied m z.core (Goes (sets 2 (number_word top) to))) (sym map_z) ∙ made.2 in
+    let cleared = subst (λ (m : MemMap). IsZeroed c.args.end m next s1.core z.core) c.restore_all.ensures.runs.1 c.clear_a0.ensures.zeroed in (
+      c.requires.running,
+      made.1,
+      (λ j. in_turn first.map (restores (sym c.from-frame.ensures j) (sym c.registers-registers.ensures.value j) ++ behind_loads c.args.end (sym c.from-frame.ensures j)) next s)
+          ∙ goes first.map sp frame c.args.end rs next s c.sp-sp.type_inv of c.sp-sp.ensures c.in_default.ensures s1.core z.core s4 to inside target c.restore_all.ensures.loaded cleared raised,
+    )

@@ -1,0 +1,232 @@
+// Pushes and pops.
+
+ghost use Rattle.std.specs.Prelude.{◌≡◌, ◌≢◌, ◌∷◌, ◌++◌, ◌-◌, ◌*◌, ◌≤◌, ◌%◌, ◌&&◌, [], All, MatchOption, None, Some, length, nat_le, negsuc};
+ghost use Rattle.rv_decode.specs.declared.instr.ImmOp.TheVariants.{Addi};
+ghost use Rattle.rv_decode.specs.declared.instr.Instr.TheVariants.{WithImm};
+ghost use Rattle.sym_machine.specs.AddressParts.{bytes_of};
+ghost use Rattle.sym_machine.specs.Answer.{RunsOn, StepAnswers};
+ghost use Rattle.sym_machine.specs.Change.{Goes, load_word, puts, sets};
+ghost use Rattle.sym_machine.specs.Expansions.{restores, saves};
+ghost use Rattle.sym_machine.specs.Invariants.Frames as frames;
+ghost use Rattle.sym_machine.specs.Invariants.Frames.{AreReached, HasStack, IsFrameRegister, IsLoading, IsObstacle, IsZeroed, behind_loads};
+ghost use Rattle.sym_machine.specs.State.{reg_of};
+ghost use Rattle.sym_machine.specs.Step.{applied, in_turn};
+ghost use Rattle.sym_machine.specs.Words.{code_of, number_of};
+ghost use Rattle.zc_decode.specs.Lists.{registers_of};
+ghost use Rattle.zc_decode.specs.Operands.{IsFrameSize};
+
+use super::State;
+use crate::answer::SymStep;
+use crate::why::Why;
+use rv_decode::instr::LoadOp;
+use zc_base::place::Place;
+use zc_base::reg::Reg;
+use zc_decode::lists::registers;
+
+// What a pop does behind its loads: it raises sp and goes on, or returns, with 0 in a0 or not.
+#[derive(Clone, Copy)]
+pub(super) enum PopEnd {
+    GoesOn,
+    Returns,
+    ReturnsZero,
+}
+
+impl State {
+    // A push: sp is lowered, and the registers of a list are saved above it.
+    pub(super) fn push(&mut self, list: u8, adjust: u8, next: Place) -> SymStep
+        requires running { self.old.core.exit ≡ None }
+        requires size { IsFrameSize list adjust }
+        ensures { StepAnswers (in_turn self.old.map (WithImm Addi 2 2 (negsuc (adjust - 1))
+            ∷ saves adjust (registers_of list)) next self.old.core) result self.old.core self.new.core }
+    {
+        let (registers, frame) = (registers(list), u32::from(adjust));
+        let sp = self.sp();
+        let low = sp.wrapping_sub(frame);
+        if !self.has_sp(low) {
+            return self.stuck(Why::StackPointer);
+        }
+        if let Some(why) = self.obstacle(low, frame, registers.len()) {
+            return self.stuck(why);
+        }
+        let _lowered = self.move_sp(low, next);
+        self.save_all(low, frame, registers, next);
+        SymStep::Done
+    }
+
+    // A pop: the registers of a list are restored, and sp is raised. It goes on, or returns to the place whose address
+    // ra then holds.
+    pub(super) fn pop(&mut self, list: u8, adjust: u8, end: PopEnd, next: Place) -> SymStep
+        requires running { self.old.core.exit ≡ None }
+        requires size { IsFrameSize list adjust }
+        ensures { StepAnswers (in_turn self.old.map (restores adjust (registers_of list) ++ behind_loads end adjust)
+            next self.old.core) result self.old.core self.new.core }
+    {
+        let (registers, frame) = (registers(list), u32::from(adjust));
+        let sp = self.sp();
+        if let Some(why) = self.obstacle(sp, frame, registers.len()) {
+            return self.stuck(why);
+        }
+        let top = sp.wrapping_add(frame);
+        if !self.has_sp(top) {
+            return self.stuck(Why::StackPointer);
+        }
+        let ra = sp.wrapping_add(frame - 4 * registers.len() as u32);
+        let Some(to) = self.pop_target(end, ra, next) else {
+            return self.stuck(Why::TargetUnknown);
+        };
+        self.restore_all(sp, frame, registers, next);
+        self.clear_a0(end, next);
+        let _raised = self.move_sp(top, to);
+        SymStep::Done
+    }
+
+    // The number in sp.
+    #[inline(always)]
+    fn sp(&self) -> u32
+        ensures { HasStack self.now.map result self.now.core }
+    {
+        let _ = &self.registers;
+        self.memory.kept_from()
+    }
+
+    // Whether a number is an address of the stack, or its end.
+    #[inline(always)]
+    fn has_sp(&self, sp: u32) -> bool
+        ensures { result ≡ (nat_le self.now.map.stack_low sp && nat_le sp self.now.map.stack_high) }
+    {
+        self.memory.has_sp(sp)
+    }
+
+    // Why so many words, from the highest down below an offset from sp, can't all be loaded and stored, if they can't.
+    // Most frames lie in the stack as a whole.
+    fn obstacle(&self, sp: u32, top: u32, count: usize) -> Option<Why>
+        requires room { 4 * count ≤ top }
+        requires aligned { top % 4 ≡ 0 }
+        ensures { MatchOption result (AreReached self.now.core sp top count)
+            (λ why. IsObstacle self.now.core sp top count why) }
+    {
+        if sp % 4 == 0 && top <= u32::MAX - sp && self.reaches(sp, top) {
+            return None;
+        }
+        for k in 0..count {
+            let a = sp.wrapping_add(top - 4 * (k as u32 + 1));
+            if let Err(why) = self.reach(4, Some(a)) {
+                return Some(why);
+            }
+        }
+        None
+    }
+
+    // The words of registers go below an offset from sp, one below the other.
+    fn save_all(&mut self, sp: u32, top: u32, registers: &[u8], next: Place)
+        requires running { self.old.core.exit ≡ None }
+        requires sp { number_of (reg_of self.old.core 2) ≡ Some sp }
+        requires known { All IsFrameRegister registers.now }
+        requires reached { AreReached self.old.core sp top (length registers.now) }
+        ensures { RunsOn (in_turn self.old.map (saves top registers.now) next self.old.core) [] self.old.core
+            self.new.core }
+    {
+        for k in 0..registers.len() {
+            let r = Reg::new(registers[k]).unwrap();
+            self.save(r, sp.wrapping_add(top - 4 * (k as u32 + 1)), next);
+        }
+    }
+
+    // The word of a register goes to an address. Of a number no four bytes are copied.
+    #[inline(always)]
+    fn save(&mut self, r: Reg, a: u32, next: Place)
+        requires { self.old.core.exit ≡ None }
+        ensures made { RunsOn (applied self.old.map self.old.core (Goes (puts a (bytes_of (reg_of self.old.core r))
+            next))) [] self.old.core self.new.core }
+        ensures map { self.new.map ≡ self.old.map }
+    {
+        if let Some(n) = self.plain(r) {
+            if self.put_numbers(a, &n.to_le_bytes(), next) {
+                return;
+            }
+        }
+        self.save_bytes(r, a, next);
+    }
+
+    // The same of any word.
+    #[inline(never)]
+    fn save_bytes(&mut self, r: Reg, a: u32, next: Place)
+        requires { self.old.core.exit ≡ None }
+        ensures made { RunsOn (applied self.old.map self.old.core (Goes (puts a (bytes_of (reg_of self.old.core r))
+            next))) [] self.old.core self.new.core }
+        ensures map { self.new.map ≡ self.old.map }
+    {
+        let word = self.register(r).bytes();
+        self.put_bytes(a, &[word.b0, word.b1, word.b2, word.b3], next);
+    }
+
+    // Registers get the words below an offset from sp, one below the other.
+    fn restore_all(&mut self, sp: u32, top: u32, registers: &[u8], next: Place)
+        requires running { self.old.core.exit ≡ None }
+        requires stack { HasStack self.old.map sp self.old.core }
+        requires known { All IsFrameRegister registers.now }
+        requires reached { AreReached self.old.core sp top (length registers.now) }
+        ensures runs { (self.new.core.exit ≡ None) × (self.new.map ≡ self.old.map) }
+        ensures loaded { IsLoading self.old.map sp top (length registers.now) registers.now next self.old.core
+            self.new.core }
+    {
+        for k in 0..registers.len() {
+            let r = Reg::new(registers[k]).unwrap();
+            self.restore(r, sp.wrapping_add(top - 4 * (k as u32 + 1)), next);
+        }
+    }
+
+    // A register that is neither register 0 nor sp gets the word at an address.
+    #[inline(always)]
+    fn restore(&mut self, r: Reg, a: u32, next: Place)
+        requires running { self.old.core.exit ≡ None }
+        requires some { r ≢ 0 }
+        requires other { r ≢ 2 }
+        ensures made { RunsOn (applied self.old.map self.old.core (Goes (sets r (load_word LoadOp.Lw self.old.core a)
+            next))) [] self.old.core self.new.core }
+        ensures map { self.new.map ≡ self.old.map }
+    {
+        match self.loaded_number(LoadOp::Lw, a) {
+            Some(n) => self.set_number(r, n, next),
+            None => self.restore_bytes(r, a, next),
+        }
+    }
+
+    // The same of what may be no number.
+    #[inline(never)]
+    fn restore_bytes(&mut self, r: Reg, a: u32, next: Place)
+        requires running { self.old.core.exit ≡ None }
+        requires some { r ≢ 0 }
+        requires other { r ≢ 2 }
+        ensures made { RunsOn (applied self.old.map self.old.core (Goes (sets r (load_word LoadOp.Lw self.old.core a)
+            next))) [] self.old.core self.new.core }
+        ensures map { self.new.map ≡ self.old.map }
+    {
+        let word = self.loaded(LoadOp::Lw, a);
+        self.set_register(r, word, next);
+    }
+
+    // Where a pop leads, if that is known: to the next place, or to the one whose address is to be restored to ra.
+    #[inline(always)]
+    fn pop_target(&self, end: PopEnd, ra: u32, next: Place) -> Option<Place>
+        ensures { result ≡ frames.pop_target end (code_of (load_word LoadOp.Lw self.now.core ra)) next }
+    {
+        match end {
+            PopEnd::GoesOn => Some(next),
+            PopEnd::Returns | PopEnd::ReturnsZero => self.loaded(LoadOp::Lw, ra).code(),
+        }
+    }
+
+    // Gives 0 to a0, if the pop returns 0.
+    #[inline(always)]
+    fn clear_a0(&mut self, end: PopEnd, next: Place)
+        requires { self.old.core.exit ≡ None }
+        ensures runs { (self.new.core.exit ≡ None) × (self.new.map ≡ self.old.map) }
+        ensures zeroed { IsZeroed end self.old.map next self.old.core self.new.core }
+    {
+        match end {
+            PopEnd::GoesOn | PopEnd::Returns => {}
+            PopEnd::ReturnsZero => self.set_number(Reg::new(10).unwrap(), 0, next),
+        }
+    }
+}

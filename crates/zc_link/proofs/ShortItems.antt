@@ -1,0 +1,167 @@
+-- Two bytes that are copied: the item that they are holds their number, and a section's two bytes that stand in an image as bytes are
+-- those of their number.
+use Rattle.std.proofs.Common.{◌≡◌, ℕ, ℤ, zero, suc, ◌+◌, ◌*◌, ◌/◌, ◌%◌, ◌^◌, ◌<◌, List, [], ◌∷◌, length, Option, Some, None, Bool, true, false, cond, refl, sym, ap, ◌∙◌, subst, arith, eqb, get_or, take, drop}
+use Rattle.std.specs.Option.{option_map_or}
+use Rattle.std.proofs.lemmas.Option.{same_Some}
+use Rattle.zc_base.specs.Fields.{half_bytes, half_in, word_in}
+use Rattle.zc_base.specs.declared.place.Place.{Place}
+use Rattle.elf32_read.specs.Parts.{ObjectParts, SectionParts}
+use Rattle.elf32_read.specs.declared.reloc.Reloc.{Reloc}
+use Rattle.psabi_sym.specs.Inputs.{ParsedInputs}
+use Rattle.psabi_sym.specs.declared.target.Target.{Target}
+use Rattle.psabi_sym.specs.declared.target.Target.TheVariants.{Code, Number, Absent, Nowhere}
+use Rattle.psabi_reloc.specs.Kinds.{kind_of}
+use Rattle.psabi_reloc.specs.declared.kind.RelocKind.{RelocKind}
+use Rattle.psabi_reloc.specs.declared.kind.RelocKind.TheVariants as kind
+use Rattle.rv_decode.specs.declared.instr.Instr.{Instr}
+use Rattle.rv_decode.specs.declared.instr.Instr.TheVariants as instr
+use Rattle.block_cut.specs.Items.{call_item, code_at, instr_item, item_at, item_in, item_under, known_item, of_instr, raw_in, raw_pair, size_on, spelled_item, target_away, target_of, to_place, transfer_item, transfer_under}
+use Rattle.block_cut.specs.Relocs.{instr_in, reloc_on}
+use Rattle.block_cut.specs.declared.item.Item.{Item}
+use Rattle.block_cut.specs.declared.item.Item.TheVariants.{Op, Hi, Lo, PcHi, PcLo, Branch, Jump, Call, Align, Word, Raw, RawShort, RawPair}
+use Rattle.block_cut.proofs.ItemLaws.{item_found}
+
+module _ (bytes : List ℕ) (n : ℕ) where
+  -- what is said of the number of two bytes
+  abbrev Holds : Item → Type 0
+  Holds (RawShort half) = half ≡ half_in bytes n
+  Holds other = Unit {0}
+
+  raw_holds : (size : ℕ) → Holds (raw_in size bytes n)
+  raw_holds size = by (eqb size 2)
+    where
+      by : (b : Bool) → Holds (cond b (RawShort (half_in bytes n)) (Raw (word_in bytes n)))
+      by true = refl
+      by false = tt
+
+  away_holds : (o : Option Place) (item : Place → Item) (raw : Item) → ((q : Place) → Holds (item q)) → Holds raw → Holds (option_map_or item o raw)
+  away_holds None item raw each other = other
+  away_holds (Some q) item raw each other = each q
+
+  place_holds : (t : Target) (item : Place → Item) (raw : Item) → ((q : Place) → Holds (item q)) → Holds raw → Holds (to_place t item raw)
+  place_holds (Code q) item raw each other = each q
+  place_holds (Number m) item raw each other = other
+  place_holds (Absent m) item raw each other = other
+  place_holds Nowhere item raw each other = other
+
+  instr_holds : (objects : List ObjectParts) (q : Place) (i : Instr) (raw : Item) → Holds raw → Holds (instr_item objects q i raw)
+  instr_holds objects q (instr.Upper op rd imm) raw other = tt
+  instr_holds objects q (instr.Jal rd distance) raw other = away_holds (target_away objects q distance) (Jump rd) raw (λ to. tt) other
+  instr_holds objects q (instr.Jalr rd base imm) raw other = tt
+  instr_holds objects q (instr.Branch op first second distance) raw other = away_holds (target_away objects q distance) (Branch op first second) raw (λ to. tt) other
+  instr_holds objects q (instr.Load op rd base imm) raw other = tt
+  instr_holds objects q (instr.Store op source base imm) raw other = tt
+  instr_holds objects q (instr.WithImm op rd first imm) raw other = tt
+  instr_holds objects q (instr.WithReg op rd first second) raw other = tt
+  instr_holds objects q (instr.Fence rest) raw other = tt
+  instr_holds objects q instr.Ecall raw other = tt
+  instr_holds objects q instr.Ebreak raw other = tt
+  instr_holds objects q (instr.Csrrw rd source) raw other = other
+
+  spelled_holds : (objects : List ObjectParts) (q : Place) (o : Option Instr) (raw : Item) → Holds raw → Holds (spelled_item objects q o raw)
+  spelled_holds objects q None raw other = other
+  spelled_holds objects q (Some i) raw other = instr_holds objects q i raw other
+
+  of_holds : (o : Option Instr) (raw : Item) (item : Instr → Item) → ((i : Instr) → Holds (item i)) → Holds raw → Holds (of_instr o raw item)
+  of_holds None raw item each other = other
+  of_holds (Some i) raw item each other = each i
+
+  transfer_holds : (i : Instr) (raw : Item) (to : Place) → Holds raw → Holds (transfer_item i raw to)
+  transfer_holds (instr.Upper op rd imm) raw to other = other
+  transfer_holds (instr.Jal rd distance) raw to other = tt
+  transfer_holds (instr.Jalr rd base imm) raw to other = other
+  transfer_holds (instr.Branch op first second distance) raw to other = tt
+  transfer_holds (instr.Load op rd base imm) raw to other = other
+  transfer_holds (instr.Store op source base imm) raw to other = other
+  transfer_holds (instr.WithImm op rd first imm) raw to other = other
+  transfer_holds (instr.WithReg op rd first second) raw to other = other
+  transfer_holds (instr.Fence rest) raw to other = other
+  transfer_holds instr.Ecall raw to other = other
+  transfer_holds instr.Ebreak raw to other = other
+  transfer_holds (instr.Csrrw rd source) raw to other = other
+
+  under_holds : (size : ℕ) (t : Target) → Holds (transfer_under size t bytes n)
+  under_holds size t =
+      of_holds (instr_in size bytes n) (raw_in size bytes n) _
+      (λ i. place_holds t (transfer_item i (raw_in size bytes n)) (raw_in size bytes n) (λ to. transfer_holds i (raw_in size bytes n) to (raw_holds size)) (raw_holds size)) (raw_holds size)
+
+  call_holds : (o p : Option Instr) (to : Place) → Holds (call_item o p (raw_pair bytes n) to)
+  call_holds None p to = tt
+  call_holds (Some (instr.Upper op temp upper)) None to = tt
+  call_holds (Some (instr.Upper op temp upper)) (Some (instr.Upper op2 rd imm)) to = tt
+  call_holds (Some (instr.Upper op temp upper)) (Some (instr.Jal rd distance)) to = tt
+  call_holds (Some (instr.Upper op temp upper)) (Some (instr.Jalr rd base lower)) to = tt
+  call_holds (Some (instr.Upper op temp upper)) (Some (instr.Branch kind first second distance)) to = tt
+  call_holds (Some (instr.Upper op temp upper)) (Some (instr.Load kind rd base imm)) to = tt
+  call_holds (Some (instr.Upper op temp upper)) (Some (instr.Store kind source base imm)) to = tt
+  call_holds (Some (instr.Upper op temp upper)) (Some (instr.WithImm kind rd first imm)) to = tt
+  call_holds (Some (instr.Upper op temp upper)) (Some (instr.WithReg kind rd first second)) to = tt
+  call_holds (Some (instr.Upper op temp upper)) (Some (instr.Fence rest)) to = tt
+  call_holds (Some (instr.Upper op temp upper)) (Some instr.Ecall) to = tt
+  call_holds (Some (instr.Upper op temp upper)) (Some instr.Ebreak) to = tt
+  call_holds (Some (instr.Upper op temp upper)) (Some (instr.Csrrw rd source)) to = tt
+  call_holds (Some (instr.Jal rd distance)) p to = tt
+  call_holds (Some (instr.Jalr rd base imm)) p to = tt
+  call_holds (Some (instr.Branch kind first second distance)) p to = tt
+  call_holds (Some (instr.Load kind rd base imm)) p to = tt
+  call_holds (Some (instr.Store kind source base imm)) p to = tt
+  call_holds (Some (instr.WithImm kind rd first imm)) p to = tt
+  call_holds (Some (instr.WithReg kind rd first second)) p to = tt
+  call_holds (Some (instr.Fence rest)) p to = tt
+  call_holds (Some instr.Ecall) p to = tt
+  call_holds (Some instr.Ebreak) p to = tt
+  call_holds (Some (instr.Csrrw rd source)) p to = tt
+
+  known_holds : (k : Option RelocKind) (addend : ℤ) (t : Target) → Holds (known_item k addend t bytes n)
+  known_holds None addend t = tt
+  known_holds (Some kind.Ignored) addend t = tt
+  known_holds (Some kind.Word) addend t = tt
+  known_holds (Some kind.Branch) addend t = under_holds 4 t
+  known_holds (Some kind.Jal) addend t = under_holds 4 t
+  known_holds (Some kind.Call) addend t = place_holds t _ (raw_pair bytes n) (λ to. call_holds (instr_in 4 bytes n) (instr_in 4 bytes (n + 4)) to) tt
+  known_holds (Some kind.PcrelHi20) addend t = of_holds (instr_in 4 bytes n) (raw_in 4 bytes n) _ (λ i. tt) tt
+  known_holds (Some kind.PcrelLo12I) addend t = of_holds (instr_in 4 bytes n) (raw_in 4 bytes n) _ (λ i. place_holds t (PcLo i) (raw_in 4 bytes n) (λ to. tt) tt) tt
+  known_holds (Some kind.PcrelLo12S) addend t = of_holds (instr_in 4 bytes n) (raw_in 4 bytes n) _ (λ i. place_holds t (PcLo i) (raw_in 4 bytes n) (λ to. tt) tt) tt
+  known_holds (Some kind.Hi20) addend t = of_holds (instr_in 4 bytes n) (raw_in 4 bytes n) _ (λ i. tt) tt
+  known_holds (Some kind.Lo12I) addend t = of_holds (instr_in 4 bytes n) (raw_in 4 bytes n) _ (λ i. tt) tt
+  known_holds (Some kind.Lo12S) addend t = of_holds (instr_in 4 bytes n) (raw_in 4 bytes n) _ (λ i. tt) tt
+  known_holds (Some kind.RvcBranch) addend t = under_holds 2 t
+  known_holds (Some kind.RvcJump) addend t = under_holds 2 t
+  known_holds (Some kind.Align) addend t = tt
+
+item_holds : (inputs : ParsedInputs) (q : Place) (o : Option Reloc) (size : ℕ) (bytes : List ℕ) → Holds bytes q.offset (item_under inputs q o size bytes)
+item_holds inputs q None size bytes =
+    spelled_holds bytes q.offset inputs.objects q (instr_in size bytes q.offset) (raw_in size bytes q.offset) (raw_holds bytes q.offset size)
+item_holds inputs q (Some r) size bytes = known_holds bytes q.offset (kind_of r.kind) r.addend (target_of inputs q.object r)
+
+-- the number is that of the bytes there
+pub short_half :
+    (inputs : ParsedInputs) (q : Place) (s : SectionParts) (half : ℕ) → item_at inputs q ≡ Some (RawShort half) → code_at inputs.objects q ≡ Some s → half ≡ half_in s.bytes q.offset
+short_half inputs q s half is code =
+    let found = item_found inputs q (RawShort half) is in
+    let same : found.section ≡ s = same_Some found.section s (sym found.code ∙ code) in
+    let here = subst (Holds found.section.bytes q.offset) found.item (item_holds inputs q (reloc_on found.section q.offset) (size_on found.section q.offset) found.section.bytes) in
+    here ∙ ap (λ (t : SectionParts). half_in t.bytes q.offset) same
+
+-- two bytes of a list that are bytes
+pub two_bytes :
+    (code : List ℕ) (n : ℕ) (two : List ℕ) → take 2 (drop n code) ≡ two → length two ≡ 2 → ((k : ℕ) → get_or two k 0 < 256)
+    → (half_in code n < 2 ^ 16) × (two ≡ half_bytes (half_in code n))
+unfolding half_in
+two_bytes [] n two are long octets = absurd (let none : length two ≡ 0 = ap length (sym are) ∙ ap (λ l. length (take 2 l)) (drop_none n) in omega (arith, none, long))
+  where
+    drop_none : (m : ℕ) → drop {A = ℕ} m [] ≡ []
+    drop_none zero = refl
+    drop_none (suc m) = refl
+two_bytes (x ∷ []) zero two are long octets = absurd (let one : length two ≡ 1 = ap length (sym are) in omega (arith, one, long))
+two_bytes (x ∷ y ∷ code) zero two are long octets =
+    let bx : x < 256 = subst (λ l. get_or l 0 0 < 256) (sym are) (octets 0) in
+    let by : y < 256 = subst (λ l. get_or l 1 0 < 256) (sym are) (octets 1) in
+    let low : x ≡ (x + 256 * y) % 256 = omega (arith, bx, by) in
+    let high : y ≡ (x + 256 * y) / 256 % 256 = omega (arith, bx, by) in
+    (omega (arith, bx, by), sym are ∙ (λ i. low i ∷ high i ∷ []))
+two_bytes (x ∷ code) (suc n) two are long octets =
+    let next : suc (n + 1) ≡ suc n + 1 = omega arith in
+    let rest = two_bytes code n two are long octets in
+    let same : half_in code n ≡ half_in (x ∷ code) (suc n) = ap (λ m. get_or (x ∷ code) (suc n) 0 + 256 * get_or (x ∷ code) m 0) next in
+    (subst (λ h. h < 2 ^ 16) same rest.0, rest.1 ∙ ap half_bytes same)

@@ -1,0 +1,99 @@
+-- The instructions that a halfword of Zcmp stands for are those of a group, which this halfword is, with no rest: its list is one of
+-- those of pushes and pops, it moves sp by what this list may be moved by, and two registers that it sets are different (HasOperands).
+use Rattle.std.proofs.Common.{◌≡◌, ℕ, ◌-◌, List, [], ◌∷◌, ◌++◌, Some, refl, ap, ◌∙◌, arith}
+use Rattle.std.proofs.lemmas.Option.{none-some, same_Some}
+use Rattle.std.proofs.lemmas.List.{append_assoc}
+use Rattle.rv_decode.specs.declared.instr.Instr.{Instr}
+use Rattle.sym_machine.specs.Expansions.{expansion, restores, saves}
+use Rattle.zc_decode.specs.Halfwords.{decoded16}
+use Rattle.zc_decode.specs.Lists.{registers_of}
+use Rattle.zc_decode.specs.Operands.{HasOperands, IsFrameSize}
+use Rattle.zc_decode.specs.declared.short.Short.{Short}
+use Rattle.zc_decode.specs.declared.short.Short.TheVariants.{Base, Push, Pop, PopRet, PopRetz, MoveSa, MoveAs, TableJump}
+use Rattle.zc_decode.proofs.OperandLaws.{frame_range, spelled_operands}
+use Rattle.zc_link.specs.Groups.{A0First, GoesOn, GroupKind, IsFrame, IsGroup, MovesFromSaved, MovesToSaved, PopOf, PushOf, Returns, Slot, ZeroBeforeRaise, adjust_of, group_half, group_ops, group_rest, loads_of, lower_sp, raise_sp, rest_of, return_to_ra, slots_below, stores_of, zero_a0}
+
+-- the instructions are those of a group without a rest, which the halfword is
+pub record IsShortKind (short : Short) (is : List Instr) : Type 0 where
+  pub kind : GroupKind
+  pub group : IsGroup kind
+  pub ops : group_ops kind ≡ is
+  pub half : group_half kind ≡ short
+  pub rest : group_rest kind ≡ 0
+
+stores_are : (top : ℕ) (rs : List ℕ) → stores_of (slots_below top rs) ≡ saves top rs
+stores_are top [] = refl
+stores_are top (r ∷ rs) = λ j. saves top (r ∷ []) ++ stores_are (top - 4) rs j
+
+loads_are : (top : ℕ) (rs : List ℕ) → loads_of (slots_below top rs) ≡ restores top rs
+loads_are top [] = refl
+loads_are top (r ∷ rs) = λ j. restores top (r ∷ []) ++ loads_are (top - 4) rs j
+
+-- ---- frames
+
+module _ (list adjust : ℕ) (size : IsFrameSize list adjust) where
+  abbrev slots : List Slot
+  slots = slots_below adjust (registers_of list)
+
+  is_frame : IsFrame list adjust (slots_below adjust (registers_of list))
+  is_frame =
+      let range = frame_range list adjust size in
+      record {
+        from = size.from;
+        to = size.to;
+        whole = range.whole;
+        least = (let is = size.is in omega (arith, is));
+        most = (let most = range.most in omega (arith, most));
+        same = record { each = λ d m. m; all = λ d m. m };
+      }
+
+  -- there is no rest
+  none : rest_of list adjust ≡ 0
+  none = (let is = size.is in let few = size.few in omega (arith, is, few))
+
+  all : adjust_of list adjust ≡ adjust
+  all = (let n = none in omega (arith, n))
+
+  -- the loads of slots, and what stands behind them
+  behind_loads : (is js : List Instr) → (loads_of slots ++ is) ++ js ≡ restores adjust (registers_of list) ++ (is ++ js)
+  behind_loads is js = append_assoc (loads_of slots) is js ∙ ap (λ l. l ++ (is ++ js)) (loads_are adjust (registers_of list))
+
+-- ---- kinds
+
+kind_of : (short : Short) → HasOperands short → (is : List Instr) → expansion short ≡ Some is → IsShortKind short is
+kind_of (Push list adjust) size is are = record {
+  kind = PushOf list adjust (slots_below adjust (registers_of list));
+  group = is_frame list adjust size;
+  ops = ap (λ l. lower_sp adjust ∷ l) (stores_are adjust (registers_of list)) ∙ same_Some _ is are;
+  half = ap (Push list) (all list adjust size);
+  rest = none list adjust size;
+}
+kind_of (Pop list adjust) size is are = record {
+  kind = PopOf GoesOn list adjust (slots_below adjust (registers_of list));
+  group = is_frame list adjust size;
+  ops = behind_loads list adjust size (raise_sp adjust ∷ []) [] ∙ same_Some _ is are;
+  half = ap (Pop list) (all list adjust size);
+  rest = none list adjust size;
+}
+kind_of (PopRetz list adjust) size is are = record {
+  kind = PopOf ZeroBeforeRaise list adjust (slots_below adjust (registers_of list));
+  group = is_frame list adjust size;
+  ops = behind_loads list adjust size (zero_a0 ∷ raise_sp adjust ∷ []) (return_to_ra ∷ []) ∙ same_Some _ is are;
+  half = ap (PopRetz list) (all list adjust size);
+  rest = none list adjust size;
+}
+kind_of (PopRet list adjust) size is are = record {
+  kind = PopOf Returns list adjust (slots_below adjust (registers_of list));
+  group = is_frame list adjust size;
+  ops = behind_loads list adjust size (raise_sp adjust ∷ []) (return_to_ra ∷ []) ∙ same_Some _ is are;
+  half = ap (PopRet list) (all list adjust size);
+  rest = none list adjust size;
+}
+kind_of (MoveSa first second) moved is are = record { kind = MovesToSaved A0First first second; group = moved; ops = same_Some _ is are; half = refl; rest = refl }
+kind_of (MoveAs first second) moved is are = record { kind = MovesFromSaved A0First first second; group = moved; ops = same_Some _ is are; half = refl; rest = refl }
+kind_of (Base i) any is are = absurd (none-some is are)
+kind_of (TableJump index) any is are = absurd (none-some is are)
+
+-- what a halfword spells, if it stands for several instructions
+pub short_kind : (half : ℕ) (short : Short) (is : List Instr) → decoded16 half ≡ Some short → expansion short ≡ Some is → IsShortKind short is
+short_kind half short is spells are = kind_of short (spelled_operands half short spells) is are

@@ -1,0 +1,240 @@
+-- A push, a pop or two moves that the objects have as one halfword: the halfword is copied, and its one commit is the program's one
+-- step, whatever interrupts come before it. The program makes its instructions one after another in that step.
+use Rattle.std.proofs.Common.{◌≡◌, ℕ, ◌+◌, ◌<◌, List, [], ◌∷◌, ◌++◌, length, length-append, Option, Some, None, Ok, refl, sym, ap, ◌∙◌, subst, arith}
+use Rattle.std.specs.Option.{option_and_then}
+use Rattle.std.proofs.lemmas.List.{append-nil}
+use Rattle.std.proofs.lemmas.Option.{none-some}
+use Rattle.zc_base.specs.declared.place.Place.{Place}
+use Rattle.interrupt_plan.specs.Plan.{Interrupt}
+use Rattle.rv_decode.specs.declared.instr.Instr.{Instr}
+use Rattle.rv_decode.specs.Run.{iterate}
+use Rattle.rv_decode.specs.State.{Event, ZcCore, ZcState}
+use Rattle.rv_decode.proofs.RunLaws.{bind_ok}
+use Rattle.block_cut.specs.declared.item.Item.{Item}
+use Rattle.block_cut.specs.declared.item.Item.TheVariants.{Op, Hi, Lo, PcHi, PcLo, Branch, Jump, Call, Align, Word, Raw, RawShort, RawPair}
+use Rattle.sym_machine.specs.Change.{Change, Does, Goes, Stops, jump_does, op_does, sets}
+use Rattle.sym_machine.specs.Program.{Program}
+use Rattle.sym_machine.specs.Run.{plain_turn}
+use Rattle.sym_machine.specs.Expansions.{expansion, item_expansion}
+use Rattle.sym_machine.specs.State.{PlainCore, PlainState, reg_of}
+use Rattle.sym_machine.specs.Step.{Went, after_change, applied, in_turn}
+use Rattle.sym_machine.proofs.RunLaws.{SteppedExpansion}
+use Rattle.sym_machine.specs.Words.{code_of, code_word}
+use Rattle.sym_machine.proofs.StepLaws.{Ended, ended}
+use Rattle.zc_decode.specs.Halfwords.{decoded16}
+use Rattle.zc_decode.specs.declared.short.Short.{Short}
+use Rattle.zc_decode.specs.declared.short.Short.TheVariants.{Push}
+use Rattle.zc_machine.specs.Fetch.{Found}
+use Rattle.zc_link.specs.Groups.{A0First, A1First, Ending, GoesOn, GroupKind, IsGroup, MoveOrder, MovesFromSaved, MovesToSaved, PopOf, PushOf, Returns, Slot, ZeroBeforeRaise, ZeroBeforeReturn, ZeroFirst, adjust_of, group_half, group_ops, group_rest, loads_of, move_ops, ops_before_return, pop_kind, pop_ops, push_ops, raise_sp, rest_of, return_ops, return_to_ra, zero_a0}
+use Rattle.zc_link.specs.Image.{Image}
+use Rattle.zc_link.specs.IsSimulation.{Comes}
+use Rattle.zc_link.specs.Room.{Room}
+use Rattle.zc_link.specs.Sound.{Alike}
+use Rattle.zc_link.specs.Stretches.{ItemLaid, OneAt, ShortLaid}
+use Rattle.zc_link.proofs.Commits.{zc_turns-one}
+use Rattle.zc_link.proofs.GroupEnds.{FromPlace, arrives}
+use Rattle.zc_link.proofs.InTurn.{AllDone, OneFirst, all_done, in_turn-apart, in_turn-silent, one_first, went_same}
+use Rattle.zc_link.proofs.MovePairs.{from_saved_end, moves_straight, saved_facts, to_saved_end}
+use Rattle.zc_link.proofs.Pops.{Before, PopRun, whole_before}
+use Rattle.zc_link.proofs.Pushes.{Pushed, push_straight, pushed, whole_alike}
+use Rattle.zc_link.proofs.Returns.{Lands, before_straight, goes_ends, jump_lands, lands_ends}
+use Rattle.zc_link.proofs.ShortKinds.{IsShortKind, short_kind}
+use Rattle.zc_link.proofs.Slots.{FrameFacts, frame_facts}
+use Rattle.zc_link.proofs.Straight.{AreStraight, CameTo, Follow}
+use Rattle.zc_link.proofs.Zeroed.{final_regs, without_zero}
+
+-- ---- a pop up to its return
+
+module _ {p : Program} {Named : Place → Type 0} {e : Image} (room : Room p e) {r : PlainState} {cuts : ℕ → List Interrupt} {z : ZcState} (from : FromPlace p Named e r cuts z)
+    (next : Place) {list frame : ℕ} {order : List Slot} (facts : FrameFacts list frame order) (none : rest_of list frame ≡ 0) (ending : Ending)
+    (half : OneAt e z.core.pc (pop_kind ending list (adjust_of list frame))) (m : PlainCore) (h : in_turn p.map (ops_before_return ending frame order) next r.core ≡ Went m []) where
+  abbrev before : List Instr
+  before = ops_before_return ending frame order
+
+  abbrev middle : PlainState
+  middle = record { core = m; events = r.events }
+
+  some_before : 0 < length before
+  some_before = by ending
+    where
+      by : (k : Ending) → 0 < length (ops_before_return k frame order)
+      by GoesOn = (let l = length-append (loads_of order) (raise_sp frame ∷ []) in omega (arith, l))
+      by Returns = (let l = length-append (loads_of order) (raise_sp frame ∷ []) in omega (arith, l))
+      by ZeroFirst = omega arith
+      by ZeroBeforeRaise = (let l = length-append (loads_of order) (zero_a0 ∷ raise_sp frame ∷ []) in omega (arith, l))
+      by ZeroBeforeReturn = (let l = length-append (pop_ops frame order) (zero_a0 ∷ []) in omega (arith, l))
+
+  done : AllDone p Named e before next r.core middle z.core
+  done = all_done room before next r.core middle [] z.core (before_straight ending frame order) h from.sound.alike
+
+  pub came : CameTo next r middle
+  came = record { place = done.place some_before; events = refl; input = done.input; running = done.follow.alike.running }
+
+  pub pop_before : Before p Named e ending list frame half.size 1 z.core.pc m cuts z
+  pop_before =
+      let f = done.follow in
+      let wz = without_zero frame order (λ d among. facts.no_a0 d among) (λ d among. (facts.register d among).no_sp) z.core from.sound.alike.core.count ending f.after f.effects in
+      whole_before room facts (record { are = from.are; before = from.sound.alike; zp = wz.zp; zf = f.after; after = f.alike; effects = wz.effects; final = wz.final }) none half
+
+-- ---- all of its instructions
+
+module _ {p : Program} {Named : Place → Type 0} {e : Image} (room : Room p e) {r r' : PlainState} {cuts : ℕ → List Interrupt} {z : ZcState} (from : FromPlace p Named e r cuts z)
+    (next : Place) (made : List Event) (same : r'.events ≡ r.events ++ made) where
+  -- no event is added
+  none_made : (is : List Instr) (s : PlainCore) → in_turn p.map is next s ≡ Went r'.core made → r'.events ≡ r.events
+  none_made is s h = same ∙ ap (λ l. r.events ++ l) (in_turn-silent p.map is next s r'.core made h) ∙ append-nil r.events
+
+  -- ---- all that go on
+
+  module _ (is : List Instr) (straight : AreStraight is) (some : 0 < length is) (h : in_turn p.map is next r.core ≡ Went r'.core made) where
+    turn_follow : (y : ZcCore) → Alike p Named e r.core y → Follow p Named e is r' y
+    turn_follow y al = (all_done room is next r.core r' made y straight h al).follow
+
+    turn_came : CameTo next r r'
+    turn_came =
+        let done = all_done room is next r.core r' made z.core straight h from.sound.alike in
+        record { place = done.place some; events = none_made is r.core h; input = done.input; running = done.follow.alike.running }
+
+  -- ---- a push
+
+  push_turns :
+      {list frame : ℕ} {order : List Slot} → FrameFacts list frame order → rest_of list frame ≡ 0 → (half : OneAt e z.core.pc (Push list (adjust_of list frame)))
+      → in_turn p.map (push_ops frame order) next r.core ≡ Went r'.core made → e.address next ≡ Some (z.core.pc + half.size) → Comes p Named e cuts 1 z r'
+  push_turns {list} {frame} {order} facts none half h listed =
+      let is = push_ops frame order in
+      let straight = push_straight facts in
+      let ps : Pushed p Named e list frame half.size r' (cuts 0) z =
+      pushed room facts r r' (cuts 0) (from.are 0) z half (turn_follow is straight (omega arith) h) from.sound.alike in
+      let small = half.small in
+      let pc : z.core.pc + half.size ≡ ps.after.pc = (let at = ps.pc in omega (arith, at, small)) in
+      arrives from 1 next r' ps.after (turn_came is straight (omega arith) h) (listed ∙ ap Some pc) (whole_alike room facts none ps)
+      (zc_turns-one cuts z (record z { core = ps.after }) ps.turn)
+
+  -- ---- a pop
+
+  -- its return
+  turn_lands : (m : PlainCore) (y : ZcCore) → Alike p Named e m y → in_turn p.map (return_to_ra ∷ []) next m ≡ Went r'.core made → Lands p Named e (record { core = m; events = r.events }) r' y
+  turn_lands m y al g = by (op_does return_to_ra m next) refl one.first
+    where
+      one : OneFirst p.map return_to_ra [] next m r'.core made
+      one = one_first p.map return_to_ra [] next m r'.core made g
+
+      last : one.middle ≡ r'.core
+      last = went_same one.middle r'.core [] made one.rest
+
+      by : (d : Does) → op_does return_to_ra m next ≡ d → applied p.map m d ≡ Went one.middle one.made → Lands p Named e (record { core = m; events = r.events }) r' y
+      by (Stops why) is k = absurd cc
+      by (Goes c) is k =
+          let q = ended p.map (after_change c m) one.middle c.events one.made k in
+          jump_lands room (record { core = m; events = r.events }) r' y next c al is (subst (Ended p.map (after_change c m)) last q.0) (none_made (return_to_ra ∷ []) m g ∙ sym (append-nil r.events) ∙ ap (λ l. r.events ++ l) (sym (jump_silent c is)))
+        where
+          jump_silent : (c : Change) → op_does return_to_ra m next ≡ Goes c → c.events ≡ []
+          jump_silent c at = known (code_of (reg_of m 1)) at
+            where
+              known : (o : Option Place) → jump_does o 0 next ≡ Goes c → c.events ≡ []
+              known None g = absurd cc
+              known (Some q) g = (let is : sets 0 (code_word next) q ≡ c = cc in ap (λ (x : Change). x.events) (sym is))
+
+  pop_turns :
+      {list frame : ℕ} {order : List Slot} → FrameFacts list frame order → rest_of list frame ≡ 0 → (ending : Ending) → (half : OneAt e z.core.pc (pop_kind ending list (adjust_of list frame)))
+      → in_turn p.map (ops_before_return ending frame order ++ return_ops ending) next r.core ≡ Went r'.core made → e.address next ≡ Some (z.core.pc + half.size)
+      → Comes p Named e cuts 1 z r'
+  pop_turns {list} {frame} {order} facts none ending half h listed = by ending half h listed
+    where
+      by :
+          (k : Ending) → (at : OneAt e z.core.pc (pop_kind k list (adjust_of list frame))) → in_turn p.map (ops_before_return k frame order ++ return_ops k) next r.core ≡ Went r'.core made
+          → e.address next ≡ Some (z.core.pc + at.size) → Comes p Named e cuts 1 z r'
+      by GoesOn at g to =
+          let parts = in_turn-apart p.map (ops_before_return GoesOn frame order) [] next r.core r'.core made g in
+          let last = went_same parts.middle r'.core [] made parts.rest in
+          goes_ends room from GoesOn at (came room from next facts none GoesOn at parts.middle parts.first) (pop_before room from next facts none GoesOn at parts.middle parts.first) refl refl
+          (λ j. record { core = last j; events = sym (none_made [] parts.middle parts.rest) j }) to
+      by Returns at g to =
+          let parts = in_turn-apart p.map (ops_before_return Returns frame order) (return_to_ra ∷ []) next r.core r'.core made g in
+          let b = pop_before room from next facts none Returns at parts.middle parts.first in
+          lands_ends room from Returns at (came room from next facts none Returns at parts.middle parts.first) b refl
+          (turn_lands parts.middle (record b.now { regs = final_regs Returns b.done.regs }) b.done.alike parts.rest)
+      by ZeroFirst at g to =
+          let parts = in_turn-apart p.map (ops_before_return ZeroFirst frame order) (return_to_ra ∷ []) next r.core r'.core made g in
+          let b = pop_before room from next facts none ZeroFirst at parts.middle parts.first in
+          lands_ends room from ZeroFirst at (came room from next facts none ZeroFirst at parts.middle parts.first) b refl
+          (turn_lands parts.middle (record b.now { regs = final_regs ZeroFirst b.done.regs }) b.done.alike parts.rest)
+      by ZeroBeforeRaise at g to =
+          let parts = in_turn-apart p.map (ops_before_return ZeroBeforeRaise frame order) (return_to_ra ∷ []) next r.core r'.core made g in
+          let b = pop_before room from next facts none ZeroBeforeRaise at parts.middle parts.first in
+          lands_ends room from ZeroBeforeRaise at (came room from next facts none ZeroBeforeRaise at parts.middle parts.first) b refl
+          (turn_lands parts.middle (record b.now { regs = final_regs ZeroBeforeRaise b.done.regs }) b.done.alike parts.rest)
+      by ZeroBeforeReturn at g to =
+          let parts = in_turn-apart p.map (ops_before_return ZeroBeforeReturn frame order) (return_to_ra ∷ []) next r.core r'.core made g in
+          let b = pop_before room from next facts none ZeroBeforeReturn at parts.middle parts.first in
+          lands_ends room from ZeroBeforeReturn at (came room from next facts none ZeroBeforeReturn at parts.middle parts.first) b refl
+          (turn_lands parts.middle (record b.now { regs = final_regs ZeroBeforeReturn b.done.regs }) b.done.alike parts.rest)
+
+  -- ---- all kinds
+
+  kind_turns :
+      (kind : GroupKind) → IsGroup kind → group_rest kind ≡ 0 → (half : OneAt e z.core.pc (group_half kind)) → in_turn p.map (group_ops kind) next r.core ≡ Went r'.core made
+      → e.address next ≡ Some (z.core.pc + half.size) → Comes p Named e cuts 1 z r'
+  kind_turns (PushOf list frame order) is none half h listed = push_turns (frame_facts list frame order is) none half h listed
+  kind_turns (PopOf ending list frame order) is none half h listed = pop_turns (frame_facts list frame order is) none ending half h listed
+  kind_turns (MovesToSaved order first second) is none half h listed =
+      let ops = move_ops order (first, 10) (second, 11) in
+      let straight = moves_straight order (first, 10) (second, 11) (omega arith) (omega arith) in
+      let some : 0 < length ops = two order in
+      to_saved_end room from order first second is.0 is.1 is.2 (record { half = half; ends = refl }) (turn_follow ops straight some h) next (turn_came ops straight some h) listed
+    where
+      two : (o : MoveOrder) → 0 < length (move_ops o (first, 10) (second, 11))
+      two A0First = omega arith
+      two A1First = omega arith
+  kind_turns (MovesFromSaved order first second) is none half h listed =
+      let ops = move_ops order (10, first) (11, second) in
+      let straight = moves_straight order (10, first) (11, second) (saved_facts first is.0).low (saved_facts second is.1).low in
+      let some : 0 < length ops = two order in
+      from_saved_end room from order first second is.0 is.1 (record { half = half; ends = refl }) (turn_follow ops straight some h) next (turn_came ops straight some h) listed
+    where
+      two : (o : MoveOrder) → 0 < length (move_ops o (10, first) (11, second))
+      two A0First = omega arith
+      two A1First = omega arith
+
+-- the step of an item alone
+pub one_turn : (p : Program) (r r' : PlainState) → iterate (plain_turn p) 1 r ≡ Ok r' → plain_turn p r ≡ Ok r'
+one_turn p r r' h =
+    let first = bind_ok (plain_turn p r) (iterate (plain_turn p) 0) r' h in
+    let last : first.0 ≡ r' = (let rest = first.2 in cc) in
+    first.1 ∙ ap Ok last
+
+-- what is laid of an item that is several instructions
+pub record ShortKnown (p : Program) (e : Image) (q : Place) (a : ℕ) (is : List Instr) : Type 0 where
+  pub short : Short
+  pub kind : IsShortKind short is
+  pub laid : ShortLaid p e q a short
+
+pub short_known : (p : Program) {e : Image} {a : ℕ} (q : Place) (o : Option Item) (is : List Instr) → ItemLaid p e q a o → item_expansion o ≡ Some is → ShortKnown p e q a is
+short_known p q None is laid are = absurd (none-some is are)
+short_known p q (Some (Op i)) is laid are = absurd (none-some is are)
+short_known p q (Some (Hi i t)) is laid are = absurd (none-some is are)
+short_known p q (Some (Lo i t)) is laid are = absurd (none-some is are)
+short_known p q (Some (PcHi i t)) is laid are = absurd (none-some is are)
+short_known p q (Some (PcLo i from)) is laid are = absurd (none-some is are)
+short_known p q (Some (Branch op first second to)) is laid are = absurd (none-some is are)
+short_known p q (Some (Jump rd to)) is laid are = absurd (none-some is are)
+short_known p q (Some (Call rd temp to)) is laid are = absurd (none-some is are)
+short_known p q (Some (Align bytes)) is laid are = absurd (none-some is are)
+short_known p q (Some (Word t)) is laid are = absurd (none-some is are)
+short_known p q (Some (Raw word)) is laid are = absurd (none-some is are)
+short_known p {e} {a} q (Some (RawShort half)) is laid are = by (decoded16 half) refl are
+  where
+    by : (d : Option Short) → decoded16 half ≡ d → option_and_then expansion d ≡ Some is → ShortKnown p e q a is
+    by None spells h = absurd (none-some is h)
+    by (Some short) spells h = record { short = short; kind = short_kind half short is spells h; laid = laid short spells }
+short_known p q (Some (RawPair first second)) is laid are = absurd (none-some is are)
+
+-- the step of such an item
+pub short_comes :
+    {p : Program} {Named : Place → Type 0} {e : Image} (room : Room p e) {r r' : PlainState} {cuts : ℕ → List Interrupt} {z : ZcState} → FromPlace p Named e r cuts z
+    → (short : Short) (is : List Instr) → IsShortKind short is → ShortLaid p e r.core.place z.core.pc short → SteppedExpansion p is r r' → Comes p Named e cuts 1 z r'
+short_comes {p} {Named} {e} room {r} {r'} {cuts} {z} from short is k laid step =
+    let half : OneAt e z.core.pc (group_half k.kind) =
+    record { size = laid.at.size; here = laid.at.here ∙ ap (λ s. Found s laid.at.size) (sym k.half); small = laid.at.small } in
+    kind_turns room from (p.next r.core.place) step.made step.events k.kind k.group k.rest half
+    (ap (λ l. in_turn p.map l (p.next r.core.place) r.core) k.ops ∙ step.went) laid.next
