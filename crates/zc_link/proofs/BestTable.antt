@@ -1,6 +1,6 @@
 -- The table of an accepted certificate: its slots lead to places of code (`slots_led`), and behind it the layout is the shortest, and
 -- shorter than without the table by the net (`shortest`).
-use Rattle.std.proofs.Common.{◌≡◌, ◌%◌, List, Option, None, refl, arith}
+use Rattle.std.proofs.Common.{IsTrue, ◌≡◌, ◌%◌, List, Option, None, refl, arith}
 use Rattle.zc_base.specs.MemMap.{IsMap}
 use Rattle.zc_base.specs.declared.place.Place.{Place}
 use Rattle.pick_check.specs.Certified.{Certified, IsAccepted}
@@ -8,7 +8,7 @@ use Rattle.psabi_sym.specs.Faults.{gather_fault}
 use Rattle.psabi_sym.specs.Inputs.{Inputs, ParsedInputs, parsed}
 use Rattle.block_cut.specs.Faults.{first_fault}
 use Rattle.jumptable_pick.specs.Slots.{slot_place, slot_places}
-use Rattle.shrink_layout.specs.Pieces.{pieces_of}
+use Rattle.shrink_layout.specs.Pieces.{is_unaligned, pieces_of}
 use Rattle.shrink_layout.specs.Savings.{savings_of}
 use Rattle.shrink_layout.specs.Settled.{settled_sizes}
 use Rattle.shrink_layout.specs.Units.{AreTargetSlots}
@@ -17,6 +17,7 @@ use Rattle.shrink_layout.proofs.PremiseLaws.{all_even, all_tight, targets}
 use Rattle.shrink_layout.proofs.SavedLaws.{net_paid, target_slots}
 use Rattle.shrink_layout.proofs.SizesLaws.{sizes_layout, sizes_least}
 use Rattle.shrink_layout.proofs.TableLaws.{table_pays_off}
+use Rattle.shrink_layout.specs.Table.{TablePays}
 use Rattle.zc_link.specs.Links.{IsShortest}
 use Rattle.zc_link.proofs.Standing.{gathered}
 
@@ -44,9 +45,12 @@ module _ (inputs : Inputs) (faultless : first_fault inputs ≡ None) (c : Certif
   shortest is_map =
       let page = is_map.text_page in
       let even : inputs.map.text % 2 ≡ 0 = omega (arith, page) in
+      let pays : IsTrue (is_unaligned p) → TablePays p slots = λ unaligned. table_pays_off inputs faultless slots unaligned even in
       record {
-        settled = sizes_layout inputs.map.text (pieces_of p slots);
-        least = λ unaligned. sizes_least inputs.map.text (pieces_of p slots) even (all_even inputs none slots) (all_tight p slots unaligned) (targets inputs none slots);
-        pays = λ unaligned.
-            net_paid inputs none (slot_place (savings_of p)) places_are c.slots c.net accepted.saves (table_pays_off inputs faultless slots unaligned even);
+        laid = record {
+          layout = sizes_layout inputs.map.text (pieces_of p slots);
+          least = λ unaligned. sizes_least inputs.map.text (pieces_of p slots) even (all_even inputs none slots) (all_tight p slots unaligned) (targets inputs none slots);
+          pays = pays;
+        };
+        saves = λ unaligned. net_paid inputs none (slot_place (savings_of p)) places_are c.slots c.net accepted.saves (pays unaligned);
       }

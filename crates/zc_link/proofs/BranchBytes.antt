@@ -7,7 +7,7 @@ use Rattle.rv_decode.specs.declared.instr.Instr.TheVariants as instr
 use Rattle.rv_decode.specs.declared.instr.BranchOp.{BranchOp}
 use Rattle.zca_zcb_pass.specs.Forms.{IsLongForm}
 use Rattle.zc_link.specs.LaidOut.{HasBranchSize}
-use Rattle.zc_link.specs.Written.{IsBranchSpelled}
+use Rattle.zc_link.specs.Codes.{IsBranchSpelled}
 
 -- it is one branch, however it is told
 pub size_is :

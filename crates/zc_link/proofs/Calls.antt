@@ -1,7 +1,7 @@
 -- Calls. The program forgets a register, and goes to the place with the next one's address in another. An image does so by one `jal`,
 -- or by an `auipc` and a `jalr`; between these two the first register holds what the program doesn't know. It isn't sp, or the
 -- program would be stuck.
-use Rattle.std.proofs.Common.{◌≡◌, ◌≢◌, ℕ, ◌+◌, ◌*◌, ◌/◌, ◌%◌, ◌^◌, List, [], ◌∷◌, length, Some, None, Ok, Bool, true, false, cond, refl, sym, ap, ◌∙◌, subst, arith, eqb, ⊎_elim}
+use Rattle.std.proofs.Common.{ℤ, ◌≡◌, ◌≢◌, ℕ, ◌+◌, ◌*◌, ◌/◌, ◌%◌, ◌^◌, List, [], ◌∷◌, length, Some, None, Ok, Bool, true, false, cond, refl, sym, ap, ◌∙◌, subst, arith, eqb, ⊎_elim}
 use Rattle.std.proofs.lemmas.Bool.{cases_eq, eqb-false}
 use Rattle.zc_base.specs.declared.place.Place.{Place}
 use Rattle.interrupt_plan.specs.Plan.{Interrupt}
@@ -25,7 +25,7 @@ use Rattle.zc_machine.specs.Fetch.{fetched_at}
 use Rattle.zc_machine.specs.Run.{zc_turns}
 use Rattle.zc_machine.proofs.TurnLaws.{zc_turns-more}
 use Rattle.zc_link.specs.Image.{Image, loaded_core}
-use Rattle.zc_link.specs.Stretches.{CallLaid, OneAt, ReachLaid}
+use Rattle.zc_link.specs.Stretches.{AloneLaid, CallLaid, OneAt}
 use Rattle.zc_link.specs.Room.{Room}
 use Rattle.zc_link.specs.IsSimulation.{Comes}
 use Rattle.zc_link.specs.Sound.{Alike, Ready}
@@ -58,26 +58,27 @@ module _ {p : Program} {Named : Place → Type 0} {e : Image} {r r' : PlainState
   -- ---- by one instruction
 
   pub jump_call_comes :
-      (rd temp : ℕ) (to : Place) → Named (p.next r.core.place) → ReachLaid p e r.core.place z.core.pc (Jal rd) to
+      (rd temp : ℕ) (to : Place) (d : ℤ) → Named (p.next r.core.place) → e.address to ≡ Some (add32 z.core.pc d)
+      → AloneLaid p e r.core.place z.core.pc (Jal rd d)
       → call_to rd temp to (p.next r.core.place) ≡ Goes from.step.change → Comes p Named e cuts 1 z r'
-  jump_call_comes rd temp to named laid h = single_comes room from laid.laid law
+  jump_call_comes rd temp to d named reaches laid h = single_comes room from laid law
     where
       law :
-          (y : ZcCore) → y.pc ≡ z.core.pc → Alike p Named e r.core y → e.address (p.next r.core.place) ≡ Some (after y laid.laid.at.size)
-          → Moves p Named e (Jal rd laid.distance) laid.laid.at.size from.step.change r.core y
+          (y : ZcCore) → y.pc ≡ z.core.pc → Alike p Named e r.core y → e.address (p.next r.core.place) ≡ Some (after y laid.at.size)
+          → Moves p Named e (Jal rd d) laid.at.size from.step.change r.core y
       law y at al listed =
           let next = p.next r.core.place in
-          let size = laid.laid.at.size in
+          let size = laid.at.size in
           let link = after y size in
           let is = called rd temp to next from.step.change h in
-          subst (λ c. Moves p Named e (Jal rd laid.distance) size c r.core y) is.change (record {
+          subst (λ c. Moves p Named e (Jal rd d) size c r.core y) is.change (record {
             made = record {
-              after = record (onward y size (set_reg y.regs rd link)) { pc = add32 y.pc laid.distance };
+              after = record (onward y size (set_reg y.regs rd link)) { pc = add32 y.pc d };
               commits = refl;
               ready = ready_moved (ready_set (ready_forgets al.ready temp) rd link (code_word next) (omega arith) (code_stands room next link listed) (code_names Named next named)) to _ _;
               quiet = record { events = refl; taken = refl };
             };
-            place = laid.reaches ∙ ap (λ a. Some (add32 a laid.distance)) (sym at);
+            place = reaches ∙ ap (λ a. Some (add32 a d)) (sym at);
           })
 
   -- ---- by two

@@ -26,7 +26,7 @@ use Rattle.zc_machine.specs.Buffer.{bytes_at}
 use Rattle.zc_machine.specs.Run.{answered, committed, zc_turn}
 use Rattle.zc_machine.specs.Step.{Wants, called, effect_step}
 use Rattle.zc_link.specs.Image.{Image, loaded_core}
-use Rattle.zc_link.specs.Stretches.{OpLaid}
+use Rattle.zc_link.specs.Stretches.{AloneLaid}
 use Rattle.zc_link.specs.Room.{Room}
 use Rattle.zc_link.specs.IsSimulation.{Comes}
 use Rattle.zc_link.specs.Sound.{Ready}
@@ -53,16 +53,16 @@ none_some h = cc
 
 module _
     {p : Program} {Named : Place → Type 0} {e : Image} {r r' : PlainState} {cuts : ℕ → List Interrupt} {z : ZcState} (room : Room p e) (from : FromSound p Named e r r' cuts z)
-    (laid : OpLaid p e r.core.place z.core.pc Ecall) where
+    (laid : AloneLaid p e r.core.place z.core.pc Ecall) where
   -- the state that asks
-  w : AfterCuts p Named e laid.laid.here laid.laid.at.size r.core (cuts 0) z
-  w = after_cuts room (cuts 0) (from.are 0) laid.laid.at from.sound.alike
+  w : AfterCuts p Named e laid.here laid.at.size r.core (cuts 0) z
+  w = after_cuts room (cuts 0) (from.are 0) laid.at from.sound.alike
 
   -- the turn is the environment's answer
   asked : (c : EnvCall) → called w.now ≡ Wants c → zc_turn (cuts 0) z ≡ answered c (record z { core = w.now })
   asked c wants =
       w.turn
-      ∙ ap (λ x. committed (effect_step x w.now) (record z { core = w.now })) (laid.laid.same laid.laid.at.size w.now)
+      ∙ ap (λ x. committed (effect_step x w.now) (record z { core = w.now })) (laid.same laid.at.size w.now)
       ∙ ap (λ t. committed t (record z { core = w.now })) wants
 
   -- a register that is a number to the program holds it
@@ -110,7 +110,7 @@ module _
   next_listed : e.address (p.next r.core.place) ≡ Some ((w.now.pc + 4) % 2 ^ 32)
   next_listed =
       let four = laid.four refl in
-      laid.laid.next ∙ ap Some (below_top z.core.pc w.now.pc laid.laid.at.size w.pc laid.laid.at.small ∙ ap (λ n. (w.now.pc + n) % 2 ^ 32) four)
+      laid.next ∙ ap Some (below_top z.core.pc w.now.pc laid.at.size w.pc laid.at.small ∙ ap (λ n. (w.now.pc + n) % 2 ^ 32) four)
 
   -- the environment's answer to a call leaves states that are ready, with an event
   answer_comes :

@@ -29,13 +29,15 @@ use Rattle.sym_machine.specs.Objects.{data_bytes, program_of}
 use Rattle.sym_machine.specs.Program.{Program, start_memory}
 use Rattle.sym_machine.specs.declared.word.SymByte.TheVariants.{Undef}
 use Rattle.sym_machine.specs.declared.word.Value.{Value}
-use Rattle.zc_link.specs.Copied.{Copied, ItemCopied, bytes_from}
+use Rattle.zc_link.specs.Copied.{IsCopiedTo, ItemCopied, bytes_from}
 use Rattle.zc_link.specs.Front.{image_entry, start_address}
 use Rattle.zc_link.specs.Image.{Image, image_in, loaded_core}
 use Rattle.zc_link.specs.ImageParts.{image_data, listed_places, parts_of}
 use Rattle.zc_link.specs.Laid.{AtEntry, Begins, BehindStub, Laid, StubLaid}
 use Rattle.zc_link.specs.LaidOut.{HasForm, IsLaidOut, LiesAt, text_end}
-use Rattle.zc_link.specs.Links.{IsImageOf, Simulates, TextEndsAt}
+use Rattle.zc_link.specs.IsSimulation.{IsSimulation}
+use Rattle.zc_link.specs.Links.{IsImageOf}
+use Rattle.zc_link.specs.Pace.{pace_of}
 use Rattle.zc_link.specs.Places.{listed_address}
 use Rattle.zc_link.specs.Preserves.{Preserves}
 use Rattle.zc_link.specs.Room.{Room}
@@ -81,7 +83,7 @@ copied_item A B items own bytes a size n (Branch op first second to) same form w
 copied_item A B items own bytes a size n (Jump rd to) same form w = tt
 copied_item A B items own bytes a size n (Call rd temp to) same form w = tt
 copied_item A B items own bytes a size n (Align k) same form w = tt
-copied_item A B items own bytes a size n (Word t) same form w = (w.value, ap (λ f. target_value f t) (sym same) ∙ w.is, ap bytes (sym form) ∙ w.holds)
+copied_item A B items own bytes a size n (Word t) same form w = (w.0, ap (λ f. target_value f t) (sym same) ∙ w.1, ap bytes (sym form) ∙ w.2)
 copied_item A B items own bytes a size n (Raw word) same form w = ap bytes (sym form) ∙ w
 copied_item A B items own bytes a size n (RawShort half) same form w = ap bytes (sym form) ∙ w
 copied_item A B items own bytes a size n (RawPair first second) same form w = ap bytes (sym form) ∙ w
@@ -357,8 +359,8 @@ module _ (L : TextLayout) (ready : IsReady L.inputs) (lies : IsLaidOut L) (flags
   preserves = laid_preserves inputs (image_bytes parts) (IsNamed p3) e (stretch_in L) read laid_out
 
   -- step by step
-  keeps : Simulates L (image_bytes parts)
-  keeps = record { image = e; read = read; simulates = simulates program (IsNamed p3) e (stretch_in L) laid_out }
+  keeps : IsSimulation program (IsNamed p3) e (pace_of program (stretch_in L))
+  keeps = simulates program (IsNamed p3) e (stretch_in L) laid_out
 
   abbrev text_part : SegmentData
   text_part = record { at = inputs.map.text; size = length text; code = true; bytes = text }
@@ -368,16 +370,12 @@ module _ (L : TextLayout) (ready : IsReady L.inputs) (lies : IsLaidOut L) (flags
   sole = ap (filter (λ s. s.code)) back.segments_back
 
   -- what it copies is the objects'
-  copied : Copied p3 (image_bytes parts)
-  copied = record {
-    text = text_part;
-    alone = sole;
-    each = λ q a s item here at is.
-        let found : listed_address (listed_places L) q ≡ Some a = ap (λ l. listed_address l q) (sym back.places) ∙ here in
-        let listed_at : A q ≡ Some a = sym (λ j. listed_are j q) ∙ found in
-        let there = unit_there L lies q item a is listed_at in
-        of q a s item there.0 at is (lies.each q a there.0 there.1 listed_at) (found_holds (HoldsPlace L text) (listed_places L) q a holds found there.0 there.1);
-  }
+  copied : IsCopiedTo p3 (listed_address (place_list (image_bytes parts))) text_part
+  copied q a s item here at is =
+      let found : listed_address (listed_places L) q ≡ Some a = ap (λ l. listed_address l q) (sym back.places) ∙ here in
+      let listed_at : A q ≡ Some a = sym (λ j. listed_are j q) ∙ found in
+      let there = unit_there L lies q item a is listed_at in
+      of q a s item there.0 at is (lies.each q a there.0 there.1 listed_at) (found_holds (HoldsPlace L text) (listed_places L) q a holds found there.0 there.1)
     where
       addresses : A ≡ listed_address (place_list (image_bytes parts))
       addresses = sym listed_are ∙ ap listed_address (sym back.places)
@@ -408,11 +406,16 @@ module _ (L : TextLayout) (ready : IsReady L.inputs) (lies : IsLaidOut L) (flags
 
   -- the file is one of the layout's image
   pub is_image : (elf : List ℕ) → elf ≡ image_bytes parts → IsImageOf L flags (text_end L) elf
-  is_image elf written = record {
-    parts = record { text = text; bytes = written; front = laid.front; holds = holds; gaps = laid.gaps };
-    preserves = subst (Preserves inputs) (sym written) preserves;
-    simulates = subst (Simulates L) (sym written) keeps;
-    copied = subst (Copied p3) (sym written) copied;
-    places = ap place_list written ∙ back.places;
-    text_end = subst (λ x. TextEndsAt inputs.map x (text_end L)) (sym written) (record { text = text_part; alone = sole; start = refl; end = ends });
-  }
+  is_image elf written = subst (IsImageOf L flags (text_end L)) (sym written) (record {
+    parts = record { text = text; bytes = refl; front = laid.front; holds = holds; gaps = laid.gaps };
+    preserves = preserves;
+    loaded = e;
+    read = read;
+    simulates = keeps;
+    text = text_part;
+    alone = sole;
+    start = refl;
+    ends = ends;
+    copied = copied;
+    places = back.places;
+  })

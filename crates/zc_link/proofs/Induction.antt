@@ -18,8 +18,7 @@ use Rattle.sym_machine.specs.State.{PlainCore, PlainState, first_plain}
 use Rattle.sym_machine.proofs.RunLaws.{all_stay}
 use Rattle.zc_machine.specs.Run.{first_state, machine_after, zc_turns}
 use Rattle.zc_machine.proofs.TurnLaws.{zc_turns-add}
-use Rattle.zc_link.specs.Image.{Image, loaded_core}
-use Rattle.zc_link.specs.Links.{Simulates}
+use Rattle.zc_link.specs.Image.{Image, image_in, loaded_core}
 use Rattle.zc_link.specs.Preserves.{Follows, FollowsAlways, Preserves}
 use Rattle.zc_link.specs.Pace.{lead_from, lead_of, Pace, pace_of}
 use Rattle.zc_link.specs.IsSimulation.{IsSimulation}
@@ -158,11 +157,9 @@ module _ (p : Program) (Named : Place → Type 0) (e : Image) (pace : Pace) (law
 -- ---- files
 
 -- a file that does the steps of the objects' program preserves it
-pub preserves : (L : TextLayout) (elf : List ℕ) → Simulates L elf → Preserves L.inputs elf
-preserves L elf steps =
+pub preserves :
+    (L : TextLayout) (elf : List ℕ) (e : Image) → image_in elf L.inputs.map ≡ Some e
+    → IsSimulation (program_of (parsed L.inputs)) (IsNamed (parsed L.inputs)) e (pace_of (program_of (parsed L.inputs)) (stretch_in L)) → Preserves L.inputs elf
+preserves L elf e read steps =
     let inputs = parsed L.inputs in
-    record {
-      image = steps.image;
-      read = steps.read;
-      follows = follows (program_of inputs) (IsNamed inputs) steps.image (pace_of (program_of inputs) (stretch_in L)) steps.simulates;
-    }
+    record { image = e; read = read; follows = follows (program_of inputs) (IsNamed inputs) e (pace_of (program_of inputs) (stretch_in L)) steps }

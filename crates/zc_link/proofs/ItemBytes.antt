@@ -1,14 +1,17 @@
 -- What is written for an item, by what it is: so many bytes, which are what the item asks for.
-use Rattle.std.proofs.Common.{◌≡◌, ℕ, ℤ, ◌+◌, ◌^◌, ◌<◌, ◌≤◌, ◌⊎◌, inl, inr, List, ◌++◌, length, Option, Some, None, true, false, refl, sym, ap, ◌∙◌, subst, arith, take, drop}
-use Rattle.std.specs.Prelude.{IsTrue}
+use Rattle.std.proofs.Common.{◌≡◌, ℕ, ℤ, ◌+◌, ◌^◌, ◌<◌, ◌≤◌, ◌⊎◌, inl, inr, Bool, List, ◌++◌, length, Option, Some, None, true, false, refl, sym, ap, ◌∙◌, subst, arith, take, drop}
+use Rattle.std.specs.Prelude.{IsTrue, ◌||◌}
+use Rattle.std.specs.Option.{option_map, unwrap_or}
 use Rattle.std.proofs.lemmas.List.{take-append-drop}
 use Rattle.zc_base.specs.Fields.{half_bytes, half_in, word_bytes, word_in}
 use Rattle.zc_base.specs.declared.place.Place.{Place}
+use Rattle.psabi_reloc.specs.Kinds.{is_auipc, is_lui}
 use Rattle.psabi_reloc.specs.Parts.{hi20_of, lo12_of}
 use Rattle.psabi_reloc.specs.Patched.{with_imm, with_upper}
 use Rattle.psabi_sym.specs.Inputs.{parsed}
+use Rattle.psabi_sym.specs.declared.target.Target.{Target}
 use Rattle.psabi_sym.specs.declared.target.Target.TheVariants.{Code, Number, Absent, Nowhere}
-use Rattle.rv_decode.specs.Bits.{add32, as_signed}
+use Rattle.rv_decode.specs.Bits.{as_signed}
 use Rattle.rv_decode.specs.Decode.{decoded}
 use Rattle.rv_decode.specs.Immediates.{InRange}
 use Rattle.rv_decode.specs.declared.instr.BranchOp.{BranchOp}
@@ -27,10 +30,12 @@ use Rattle.zc_encode.specs.Halves.{encoded16}
 use Rattle.zca_zcb_pass.specs.Forms.{HasEffectOf}
 use Rattle.zc_link.specs.Copied.{bytes_from}
 use Rattle.zc_link.specs.LaidOut.{HasBranchSize, HasCallSize, HasForm, HasSize}
-use Rattle.zc_link.specs.Standing.{HasOwnSize, IsHalfHere, ItemStands, SpellsCall, SpellsWay, StandsHere, WrittenHere, is_patched}
+use Rattle.zc_link.specs.Standing.{HasOwnSize, IsHalfHere, ItemStands, SpellsCall, SpellsWay, StandsHere, WrittenHere, is_lower, is_patched}
+use Rattle.zc_link.specs.Meant.{meant, way_on}
 use Rattle.zc_link.specs.TextLayout.{TextLayout}
-use Rattle.zc_link.specs.Values.{way}
-use Rattle.zc_link.specs.Written.{IsBranchSpelled, IsCopied, IsSpelled, IsWritten, SpellsWord, padding}
+use Rattle.zc_link.specs.Values.{target_value, way}
+use Rattle.zc_link.specs.Codes.{IsBranchSpelled}
+use Rattle.zc_link.specs.Written.{IsCopied, IsLongBranch, IsSpelled, IsWritten, SpellsMeant, SpellsWord, padding}
 use Rattle.zc_link.proofs.HalfNormals.{normal_in}
 use Rattle.zc_link.proofs.Adds.{AreBytes, bytes_append, drop_are, half_are, half_small, length-bytes_from, length-padding, own_half, padding_are, take_are, word_are}
 
@@ -111,7 +116,26 @@ module _ (L : TextLayout) (code : List ℕ) (q : Place) (item : Item) (a n : ℕ
         copied 8 bytes (subst (HasForm L.address a size n) is here.form) (subst (λ i. HasOwnSize i size) is here.size)
         (subst (λ i. IsWritten L.address it own a n i bytes) (sym is) are) are octets
 
+  -- ---- one word
+
+  -- a word that spells what the item is here
+  pub word_written :
+      (j : Item) (i : Instr) (word : ℕ) → item ≡ j
+      → ((bytes : List ℕ) → SpellsMeant L.address it a n j bytes → IsWritten L.address it own a n j bytes) → meant L.address it a j ≡ Some i
+      → n ≡ 4 → word < 2 ^ 32 → decoded word ≡ Some i → Here (word_bytes word)
+  word_written j i word is row means four small spells =
+      made (word_bytes word) (sym four, word_are word)
+      (subst (λ k. IsWritten L.address it own a n k (word_bytes word)) (sym is)
+      (row (word_bytes word)
+      (record { instr = i; is = means; spelled = inl (four, record { word = word; small = small; are = refl; spells = spells }) })))
+
   -- ---- branches, jumps and calls
+
+  -- by its distance
+  leads_by :
+      (i : ℤ → Instr) (to : Place) (b : ℕ) (d : ℤ) → L.address to ≡ Some b → d ≡ as_signed (way a b)
+      → option_map (λ c. i (as_signed (way a c))) (L.address to) ≡ Some (i d)
+  leads_by i to b d listed same = ap (option_map (λ c. i (as_signed (way a c)))) listed ∙ ap (λ k. Some (i k)) (sym same)
 
   module _ (op : BranchOp) (first second : ℕ) (to : Place) (is : item ≡ Branch op first second to) where
     pub branch_stands : SpellsWay L.address (instr_in size code q.offset) (instr.Branch op first second) to
@@ -121,19 +145,31 @@ module _ (L : TextLayout) (code : List ℕ) (q : Place) (item : Item) (a n : ℕ
     pub branch_form : HasBranchSize (instr.Branch op first second) n (as_signed (way a branch_stands.address))
     branch_form = subst (HasForm L.address a size n) is here.form branch_stands.address branch_stands.listed
 
-    pub branch_written : (d : ℤ) (bytes : List ℕ) → L.address to ≡ Some (add32 a d) → IsBranchSpelled n bytes op first second d → Here bytes
-    branch_written d bytes leads spelled =
-        made bytes (branch_sized n bytes op first second d spelled)
-        (subst (λ i. IsWritten L.address it own a n i bytes) (sym is) (record { distance = d; leads = leads; holds = spelled }))
+    pub branch_written :
+        (d : ℤ) (bytes : List ℕ) → ((b : ℕ) → L.address to ≡ Some b → d ≡ as_signed (way a b)) → IsBranchSpelled n bytes op first second d → Here bytes
+    branch_written d bytes far spelled =
+        made bytes (branch_sized n bytes op first second d spelled) (subst (λ i. IsWritten L.address it own a n i bytes) (sym is) (by spelled))
+      where
+        same : d ≡ as_signed (way a branch_stands.address)
+        same = far branch_stands.address branch_stands.listed
+
+        by : IsBranchSpelled n bytes op first second d → IsWritten L.address it own a n (Branch op first second to) bytes
+        by (inl one) =
+            inl (record { instr = instr.Branch op first second d; is = leads_by (instr.Branch op first second) to branch_stands.address d branch_stands.listed same; spelled = one })
+        by (inr long) =
+            inr (long.0, (branch_stands.address, branch_stands.listed, subst (λ k. IsLongBranch op first second k bytes) same long.1))
 
   module _ (rd : ℕ) (to : Place) (is : item ≡ Jump rd to) where
     pub jump_stands : SpellsWay L.address (instr_in size code q.offset) (instr.Jal rd) to
     jump_stands = subst (ItemStands L.address it _ _) is here.stands
 
-    pub jump_written : (d : ℤ) (bytes : List ℕ) → L.address to ≡ Some (add32 a d) → IsSpelled n bytes (instr.Jal rd d) → Here bytes
-    jump_written d bytes leads spelled =
+    pub jump_written :
+        (d : ℤ) (bytes : List ℕ) → ((b : ℕ) → L.address to ≡ Some b → d ≡ as_signed (way a b)) → IsSpelled n bytes (instr.Jal rd d) → Here bytes
+    jump_written d bytes far spelled =
+        let same = far jump_stands.address jump_stands.listed in
         made bytes (spelled_sized n bytes (instr.Jal rd d) spelled)
-        (subst (λ i. IsWritten L.address it own a n i bytes) (sym is) (record { distance = d; leads = leads; holds = spelled }))
+        (subst (λ i. IsWritten L.address it own a n i bytes) (sym is)
+        (record { instr = instr.Jal rd d; is = leads_by (instr.Jal rd) to jump_stands.address d jump_stands.listed same; spelled = spelled }))
 
   module _ (rd temp : ℕ) (to : Place) (is : item ≡ Call rd temp to) where
     pub call_stands :
@@ -144,10 +180,13 @@ module _ (L : TextLayout) (code : List ℕ) (q : Place) (item : Item) (a n : ℕ
     call_form = subst (HasForm L.address a size n) is here.form call_stands.address call_stands.listed
 
     -- as one jump
-    pub call_jump_written : (d : ℤ) (bytes : List ℕ) → L.address to ≡ Some (add32 a d) → IsSpelled n bytes (instr.Jal rd d) → Here bytes
-    call_jump_written d bytes leads spelled =
+    pub call_jump_written :
+        (d : ℤ) (bytes : List ℕ) → ((b : ℕ) → L.address to ≡ Some b → d ≡ as_signed (way a b)) → IsSpelled n bytes (instr.Jal rd d) → Here bytes
+    call_jump_written d bytes far spelled =
+        let same = far call_stands.address call_stands.listed in
         made bytes (spelled_sized n bytes (instr.Jal rd d) spelled)
-        (subst (λ i. IsWritten L.address it own a n i bytes) (sym is) (inl (record { distance = d; leads = leads; holds = spelled })))
+        (subst (λ i. IsWritten L.address it own a n i bytes) (sym is)
+        (inl (record { instr = instr.Jal rd d; is = leads_by (instr.Jal rd) to call_stands.address d call_stands.listed same; spelled = spelled })))
 
     -- as its two words
     pub call_written :
@@ -159,15 +198,11 @@ module _ (L : TextLayout) (code : List ℕ) (q : Place) (item : Item) (a n : ℕ
         (subst (λ i. IsWritten L.address it own a n i bytes) (sym is)
         (inr (
           eight,
-          record {
-            address = call_stands.address;
-            is = call_stands.listed;
-            first = take 4 bytes;
-            second = drop 4 bytes;
-            both = both;
-            upper = upper;
-            lower = lower;
-          },
+          (
+            call_stands.address,
+            call_stands.listed,
+            record { first = take 4 bytes; second = drop 4 bytes; both = both; upper = upper; lower = lower },
+          ),
         )))
 
   -- ---- all others
@@ -200,9 +235,7 @@ module _ (L : TextLayout) (code : List ℕ) (q : Place) (item : Item) (a n : ℕ
 
     pub op_written : (word : ℕ) → word < 2 ^ 32 → (n ≡ 2 → ⊥) → decoded word ≡ Some i → Here (word_bytes word)
     op_written word small long spells =
-        let four : n ≡ 4 = by (subst (HasForm L.address a size n) is here.form) in
-        let spelled : SpellsWord (word_bytes word) i = record { word = word; small = small; are = refl; spells = spells } in
-        made (word_bytes word) (sym four, word_are word) (subst (λ x. IsWritten L.address it own a n x (word_bytes word)) (sym is) (inl (inl (four, spelled))))
+        word_written (Op i) i word is (λ bytes m. inl m) refl (by (subst (HasForm L.address a size n) is here.form)) small spells
       where
         by : (n ≡ size) ⊎ HasSize (Op i) n → n ≡ 4
         by (inl same) = let longer : size ≡ 2 → ⊥ = λ two. long (same ∙ two) in same ∙ long_own longer
@@ -223,9 +256,64 @@ module _ (L : TextLayout) (code : List ℕ) (q : Place) (item : Item) (a n : ℕ
   pub patched_within : is_patched item ≡ true → q.offset + 2 ≤ length code
   patched_within patched = omega (arith, here.within, patched_size item patched here.size)
 
-  -- of four bytes it stands there as their word spells it
-  pub patched_stands : size ≡ 4 → ItemStands L.address it (instr_in 4 code q.offset) (instr_in 4 code (q.offset + 4)) item
-  patched_stands four = subst (λ m. ItemStands L.address it (instr_in m code q.offset) (instr_in 4 code (q.offset + 4)) item) four here.stands
+  -- of four bytes its word is its own, with a part of an address
+  module _ (own_four : size ≡ 4) (four : n ≡ 4) (word : ℕ) (small : word < 2 ^ 32) where
+    stands : ItemStands L.address it (instr_in 4 code q.offset) (instr_in 4 code (q.offset + 4)) item
+    stands = subst (λ m. ItemStands L.address it (instr_in m code q.offset) (instr_in 4 code (q.offset + 4)) item) own_four here.stands
+
+    abbrev Known : Item → Type 0
+    Known j = ItemStands L.address it (instr_in 4 code q.offset) (instr_in 4 code (q.offset + 4)) j
+
+    -- what has a value has the one that the code takes
+    value : (o : Option ℕ) (x : ℕ) → (y : ℕ) × (o ≡ Some y) → x ≡ unwrap_or o 0 → o ≡ Some x
+    value o x found is = found.1 ∙ ap Some (sym (is ∙ ap (λ p. unwrap_or p 0) found.1))
+
+    or_true : (b : Bool) → (b || true) ≡ true
+    or_true true = refl
+    or_true false = refl
+
+    -- what a part is put into
+    abbrev Puts : (Option Instr → Bool) → (Instr → Instr) → Type 0
+    Puts is_kind put = (i : Instr) → decoded (word_in code q.offset) ≡ Some i → is_kind (Some i) ≡ true → decoded word ≡ Some (put i)
+
+    pub hi_written :
+        (i : Instr) (t : Target) (x : ℕ) → item ≡ Hi i t → x ≡ unwrap_or (target_value L.address t) 0
+        → Puts (λ o. is_lui o || is_auipc o) (λ j. with_upper j (hi20_of x)) → Here (word_bytes word)
+    hi_written i t x is taken puts =
+        let k = subst Known is stands in
+        word_written (Hi i t) (with_upper i (hi20_of x)) word is (λ bytes m. m)
+        (ap (option_map (λ y. with_upper i (hi20_of y))) (value (target_value L.address t) x k.1 taken)) four small (puts i k.0.spells (ap (λ b. b || is_auipc (Some i)) k.0.kind))
+
+    pub pc_hi_written :
+        (i : Instr) (t : Target) (x : ℕ) → item ≡ PcHi i t → x ≡ unwrap_or (target_value L.address t) 0
+        → Puts (λ o. is_lui o || is_auipc o) (λ j. with_upper j (hi20_of (way a x))) → Here (word_bytes word)
+    pc_hi_written i t x is taken puts =
+        let k = subst Known is stands in
+        word_written (PcHi i t) (with_upper i (hi20_of (way a x))) word is (λ bytes m. m)
+        (ap (option_map (λ y. with_upper i (hi20_of (way a y)))) (value (target_value L.address t) x k.1 taken)) four small
+        (puts i k.0.spells (ap (λ b. is_lui (Some i) || b) k.0.kind ∙ or_true (is_lui (Some i))))
+
+    pub lo_written :
+        (i : Instr) (t : Target) (x : ℕ) → item ≡ Lo i t → x ≡ unwrap_or (target_value L.address t) 0
+        → (decoded (word_in code q.offset) ≡ Some i → is_lower (Some i) ≡ true → decoded word ≡ Some (with_imm i (lo12_of x))) → Here (word_bytes word)
+    lo_written i t x is taken puts =
+        let k = subst Known is stands in
+        word_written (Lo i t) (with_imm i (lo12_of x)) word is (λ bytes m. m)
+        (ap (option_map (λ y. with_imm i (lo12_of y))) (value (target_value L.address t) x k.1 taken)) four small (puts k.0.spells k.0.kind)
+
+    pub pc_lo_written :
+        (i : Instr) (from : Place) (x : ℕ) → item ≡ PcLo i from → ((w : ℕ) → way_on L.address it from ≡ Some w → x ≡ w)
+        → (decoded (word_in code q.offset) ≡ Some i → is_lower (Some i) ≡ true → decoded word ≡ Some (with_imm i (lo12_of x))) → Here (word_bytes word)
+    pc_lo_written i from x is taken puts =
+        let k = subst Known is stands in
+        word_written (PcLo i from) (with_imm i (lo12_of x)) word is (λ bytes m. m)
+        (ap (option_map (λ y. with_imm i (lo12_of y))) (k.1.1 ∙ ap Some (sym (taken k.1.0 k.1.1)))) four small (puts k.0.spells k.0.kind)
+
+    pub word_target : (t : Target) → item ≡ Word t → word ≡ unwrap_or (target_value L.address t) 0 → Here (word_bytes word)
+    word_target t is taken =
+        let k = subst Known is stands in
+        made (word_bytes word) (sym four, word_are word)
+        (subst (λ j. IsWritten L.address it own a n j (word_bytes word)) (sym is) (word, value (target_value L.address t) word k taken, refl))
 
   -- but an instruction without relocation these have four bytes
   patched_four : (i : Item) → ((j : Instr) → i ≡ Op j → ⊥) → is_patched i ≡ true → HasOwnSize i size → size ≡ 4
@@ -257,13 +345,13 @@ module _ (L : TextLayout) (code : List ℕ) (q : Place) (item : Item) (a n : ℕ
         by :
             (i : Item) → is_patched i ≡ true → HasForm L.address a size n i
             → ((j : Instr) → fixed_instr i ≡ Some j → (encoded16 (Base j) ≡ Some half) × HasEffectOf j half) → IsWritten L.address it own a n i (half_bytes half)
-        by (Op i) p form each = inl (short i each)
-        by (Hi i (Number x)) p form each = record { value = x; is = refl; holds = short (with_upper i (hi20_of x)) each }
-        by (Hi i (Absent x)) p form each = record { value = x; is = refl; holds = short (with_upper i (hi20_of x)) each }
+        by (Op i) p form each = inl (record { instr = i; is = refl; spelled = short i each })
+        by (Hi i (Number x)) p form each = record { instr = with_upper i (hi20_of x); is = refl; spelled = short (with_upper i (hi20_of x)) each }
+        by (Hi i (Absent x)) p form each = record { instr = with_upper i (hi20_of x); is = refl; spelled = short (with_upper i (hi20_of x)) each }
         by (Hi i (Code to)) p form each = unfixed form
         by (Hi i Nowhere) p form each = unfixed form
-        by (Lo i (Number x)) p form each = record { value = x; is = refl; holds = short (with_imm i (lo12_of x)) each }
-        by (Lo i (Absent x)) p form each = record { value = x; is = refl; holds = short (with_imm i (lo12_of x)) each }
+        by (Lo i (Number x)) p form each = record { instr = with_imm i (lo12_of x); is = refl; spelled = short (with_imm i (lo12_of x)) each }
+        by (Lo i (Absent x)) p form each = record { instr = with_imm i (lo12_of x); is = refl; spelled = short (with_imm i (lo12_of x)) each }
         by (Lo i (Code to)) p form each = unfixed form
         by (Lo i Nowhere) p form each = unfixed form
         by (PcHi i t) p form each = absurd (omega (arith, two, form))

@@ -1,17 +1,20 @@
 -- Registers of items: they were decoded from words, so they are numbers below 32.
 use Rattle.std.proofs.Common.{◌≡◌, ℕ, ◌+◌, ◌<◌, ℤ, List, Option, Some, None, refl, subst}
 use Rattle.std.specs.Option.{option_map_or}
+use Rattle.std.proofs.lemmas.Option.{none-some, same_Some}
 use Rattle.zc_base.specs.Fields.{word_in}
 use Rattle.zc_base.specs.declared.place.Place.{Place}
 use Rattle.elf32_read.specs.Parts.{ObjectParts, SectionParts}
 use Rattle.elf32_read.specs.declared.reloc.Reloc.{Reloc}
 use Rattle.psabi_reloc.specs.Kinds.{kind_of}
+use Rattle.psabi_reloc.specs.Parts.{hi20_of, lo12_of}
 use Rattle.psabi_reloc.specs.Patched.{with_imm, with_upper}
 use Rattle.psabi_reloc.specs.declared.kind.RelocKind.{RelocKind}
 use Rattle.psabi_reloc.specs.declared.kind.RelocKind.TheVariants as kind
 use Rattle.psabi_sym.specs.Inputs.{ParsedInputs}
 use Rattle.psabi_sym.specs.declared.target.Target.{Target}
 use Rattle.psabi_sym.specs.declared.target.Target.TheVariants.{Code, Number, Absent, Nowhere}
+use Rattle.rv_decode.specs.Bits.{as_signed}
 use Rattle.rv_decode.specs.Registers.{HasRegisters}
 use Rattle.rv_decode.specs.declared.instr.Instr.{Instr}
 use Rattle.rv_decode.specs.declared.instr.Instr.TheVariants as instr
@@ -23,6 +26,9 @@ use Rattle.block_cut.specs.declared.item.Item.TheVariants.{Op, Hi, Lo, PcHi, PcL
 use Rattle.block_cut.proofs.InstrLaws.{registers_in}
 use Rattle.block_cut.proofs.ItemLaws.{item_found}
 use Rattle.block_cut.proofs.RawLaws.{raw_by}
+use Rattle.zc_link.specs.Meant.{meant, way_on}
+use Rattle.zc_link.specs.Values.{target_value, way}
+use Rattle.zc_link.proofs.MeantLaws.{mapped}
 
 -- an item's registers
 abbrev pub ItemRegisters : Item → Type 0
@@ -172,3 +178,25 @@ item_registers p q item is =
         bare p.objects q (raw_in own s.bytes q.offset) (instr_in own s.bytes q.offset)
         (raw_by ItemRegisters (λ half. tt) (λ word. tt) own s.bytes q.offset) (λ i e. registers_in own s.bytes q.offset i e)
     by s (Some r) = by_kind s.bytes q.offset (kind_of r.kind) r.addend (target_of p q.object r)
+
+-- of the instruction that an item is at an address
+pub meant_registers :
+    (A : Place → Option ℕ) (items : Place → Option Item) (a : ℕ) (item : Item) (i : Instr) → ItemRegisters item → meant A items a item ≡ Some i → HasRegisters i
+meant_registers A items a (Op j) i h is = subst HasRegisters (same_Some j i is) h
+meant_registers A items a (Hi j t) i h is =
+    let m = mapped (λ x. with_upper j (hi20_of x)) (target_value A t) i is in subst HasRegisters m.2 (upper_registers j (hi20_of m.0) h)
+meant_registers A items a (Lo j t) i h is =
+    let m = mapped (λ x. with_imm j (lo12_of x)) (target_value A t) i is in subst HasRegisters m.2 (imm_registers j (lo12_of m.0) h)
+meant_registers A items a (PcHi j t) i h is =
+    let m = mapped (λ x. with_upper j (hi20_of (way a x))) (target_value A t) i is in subst HasRegisters m.2 (upper_registers j (hi20_of (way a m.0)) h)
+meant_registers A items a (PcLo j from) i h is =
+    let m = mapped (λ w. with_imm j (lo12_of w)) (way_on A items from) i is in subst HasRegisters m.2 (imm_registers j (lo12_of m.0) h)
+meant_registers A items a (Branch op first second to) i h is =
+    let m = mapped (λ b. instr.Branch op first second (as_signed (way a b))) (A to) i is in subst HasRegisters m.2 h
+meant_registers A items a (Jump rd to) i h is = let m = mapped (λ b. instr.Jal rd (as_signed (way a b))) (A to) i is in subst HasRegisters m.2 h
+meant_registers A items a (Call rd temp to) i h is = let m = mapped (λ b. instr.Jal rd (as_signed (way a b))) (A to) i is in subst HasRegisters m.2 h
+meant_registers A items a (Align bytes) i h is = absurd (none-some i is)
+meant_registers A items a (Word t) i h is = absurd (none-some i is)
+meant_registers A items a (Raw word) i h is = absurd (none-some i is)
+meant_registers A items a (RawShort half) i h is = absurd (none-some i is)
+meant_registers A items a (RawPair first second) i h is = absurd (none-some i is)

@@ -61,6 +61,7 @@ pub mod StartLed
 pub mod ProgramLeads
 pub mod ListedLaws
 pub mod WayLaws
+pub mod MeantLaws
 pub mod ShortWays
 pub mod LaidLaws
 pub mod Adds

@@ -3,7 +3,7 @@
 use Rattle.std.proofs.Common.{◌≡◌, ℕ, suc, ◌+◌, ◌<◌, ◌≤◌, ℤ, pos, negsuc, List, [], ◌∷◌, map, filter, length, max, min, Option, Some, None, Bool, true, false, cond, eqb, ltb, leb, refl, sym, ap, ◌∙◌, arith, inl, inr, ◌⊎◌}
 use Rattle.std.specs.Prelude.{◌&&◌, ◌||◌, not}
 use Rattle.std.specs.List.{find, list_any}
-use Rattle.std.specs.Option.{option_and_then}
+use Rattle.std.specs.Option.{option_and_then, option_map}
 use Rattle.std.proofs.lemmas.Bool.{and_from, and_parts, eq-eqb, eqb-true, leb-true, lt-ltb, ltb-false, or_cases, or_parts}
 use Rattle.zc_base.specs.declared.place.Place.{Place}
 use Rattle.elf32_read.specs.Parts.{SectionParts, is_code_section}
@@ -28,7 +28,9 @@ use Rattle.block_cut.proofs.PlainLaws.{target_on}
 use Rattle.block_cut.proofs.SoundLaws.{sound_at}
 use Rattle.block_cut.proofs.WholeLaws.{code_is_section}
 use Rattle.zc_link.specs.LaidOut.{ListsLeaders}
-use Rattle.zc_link.specs.Standing.{GoesWith, HasValue}
+use Rattle.sym_machine.specs.AddressParts.{pc_target}
+use Rattle.zc_link.specs.Values.{target_value, way}
+use Rattle.zc_link.specs.Standing.{HasValue, HasWay}
 use Rattle.zc_link.proofs.Led.{asks_at, reloc_leader}
 use Rattle.zc_link.proofs.Faultless.{good, leader_listed, reloc_good, reloc_value, section_none}
 
@@ -190,7 +192,7 @@ module _ (inputs : Inputs) (none : first_fault inputs ≡ None) (A : Place → O
 
   -- a lower part's `auipc`
   pub goes_with : (q from : Place) (s : SectionParts) (r : Reloc) → code_at p2.objects q ≡ Some s → reloc_on s q.offset ≡ Some r → is_pcrel_lo (kind_of r.kind) ≡ true → target_of p2 q.object r ≡ Code from
-      → is_target_at p2.objects from ≡ true → GoesWith A (item_at p2) from
+      → is_target_at p2.objects from ≡ true → HasWay A (item_at p2) from
   goes_with q from s r at is lower leads target =
       let two = code_is_section p2.objects q s at in
       let l = listed q.object q.section s in
@@ -210,8 +212,11 @@ module _ (inputs : Inputs) (none : first_fault inputs ≡ None) (A : Place → O
       let start : starts_on s from.offset ≡ true = starts here target inside in
       let upper = upper_at from s here start rest.1 in
       let asks = asks_at p2 q s r at is (sound_at s q.offset r two.1 is).asks in
-      let address = leader_listed p2 A leaders from target (reloc_leader p2 from asks leads) in
-      record { first = upper.first; to = target_of p2 from.object upper.reloc; names = upper.item; address = address.0; listed = address.1; has = upper.has }
+      let address = leader_listed p2 A leaders from target (reloc_leader p2 from asks leads) in (
+        way address.0 upper.has.0,
+        (λ j. option_and_then (λ a. option_map (way a) (option_and_then (target_value A) (pc_target (upper.item j)))) (address.1 j))
+            ∙ ap (option_map (way address.0)) upper.has.1,
+      )
     where
       not_false : (b : Bool) → not b ≡ false → b ≡ true
       not_false true h = refl

@@ -32,7 +32,7 @@ use Rattle.block_cut.proofs.WholeLaws.{code_is_section}
 use Rattle.shrink_layout.proofs.PlaceLaws.{same_place-refl}
 use Rattle.shrink_layout.proofs.TargetLaws.{away_target}
 use Rattle.zc_link.specs.LaidOut.{ListsLeaders}
-use Rattle.zc_link.specs.Standing.{GoesWith, HasOwnSize, HasValue, IsInstrSize, IsReady, ItemStands, SpellsKind, SpellsWay, is_lower}
+use Rattle.zc_link.specs.Standing.{HasOwnSize, HasValue, HasWay, IsInstrSize, IsReady, ItemStands, SpellsKind, SpellsWay, is_lower}
 use Rattle.zc_link.proofs.Faultless.{all_none, leader_listed, reloc_good, reloc_value}
 use Rattle.zc_link.proofs.Led.{asks_at, item_leader, reloc_leader}
 use Rattle.zc_link.proofs.Pairs.{goes_with}
@@ -182,7 +182,7 @@ module _ (inputs : Inputs) (none : gather_fault inputs ≡ None) (ready : IsRead
     lowered :
         (is_kind : Option Instr → Bool) (d : Option Instr) (t : Target) → one 4 ≡ d → is_kind d ≡ true
         → ((i : Instr) → is_kind (Some i) ≡ true → is_lower (Some i) ≡ true)
-        → ((from : Place) → t ≡ Code from → GoesWith A (item_at p) from) → Stands 4 (of_instr d (raw 4) (λ i. to_place t (PcLo i) (raw 4)))
+        → ((from : Place) → t ≡ Code from → HasWay A (item_at p) from) → Stands 4 (of_instr d (raw 4) (λ i. to_place t (PcLo i) (raw 4)))
     lowered is_kind None t e kind lower pair = (tt, refl)
     lowered is_kind (Some i) (Code from) e kind lower pair = ((record { spells = e; kind = lower i kind }, pair from refl), refl)
     lowered is_kind (Some i) (Number k) e kind lower pair = (tt, refl)
@@ -205,7 +205,7 @@ module _ (inputs : Inputs) (none : gather_fault inputs ≡ None) (ready : IsRead
       -- the `auipc` of a lower part
       paired :
           (k : Option RelocKind) → kind_of r.kind ≡ k → is_pcrel_lo k ≡ true → is_bad_target p.objects false t ≡ false
-          → (from : Place) → t ≡ Code from → GoesWith A (item_at p) from
+          → (from : Place) → t ≡ Code from → HasWay A (item_at p) from
       paired k is lo lost from named =
           goes_with inputs ready.faultless A leaders q from s r at on (ap is_pcrel_lo is ∙ lo) named (target_is t from false lost named)
 

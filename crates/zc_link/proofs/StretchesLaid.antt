@@ -15,7 +15,7 @@ use Rattle.psabi_reloc.specs.Patched.{with_imm, with_upper}
 use Rattle.psabi_sym.specs.Faults.{gather_fault}
 use Rattle.psabi_sym.specs.Inputs.{ParsedInputs, parsed}
 use Rattle.psabi_sym.specs.declared.target.Target.{Target}
-use Rattle.rv_decode.specs.Bits.{FitsIn, add32}
+use Rattle.rv_decode.specs.Bits.{FitsIn, add32, as_signed}
 use Rattle.rv_decode.specs.Normal.{SameEffect}
 use Rattle.rv_decode.specs.Registers.{HasRegisters}
 use Rattle.rv_decode.proofs.NormalLaws.{normal_same}
@@ -41,17 +41,19 @@ use Rattle.zc_link.specs.Front.{image_entry}
 use Rattle.zc_link.specs.Image.{Image}
 use Rattle.zc_link.specs.LaidOut.{IsLaidOut}
 use Rattle.zc_link.specs.Pace.{Alone, CallOf, LongOf, commits_in, stretch_of}
-use Rattle.zc_link.specs.Stretches.{AloneLaid, ByCall, ByJump, CallLaid, GoesTo, GroupLaid, ItemLaid, LongLaid, OpLaid, StretchLaid, TableLaid, linked_by, place_on}
+use Rattle.zc_link.specs.Stretches.{AloneLaid, ByCall, ByJump, CallLaid, GoesTo, GroupLaid, ItemLaid, LongLaid, OneLaid, StretchLaid, TableLaid, linked_by, place_on}
 use Rattle.zc_link.specs.TextLayout.{TextLayout, behind, size_in, stretch_in}
-use Rattle.zc_link.specs.Written.{HoldsFront, HoldsPlace, HoldsUnit, IsCopied, IsLongBranch, IsSpelled, IsWritten, WithCall, WithWay}
-use Rattle.zc_link.specs.Values.{target_value, way}
+use Rattle.zc_link.specs.Written.{HoldsFront, HoldsPlace, HoldsUnit, IsCopied, IsLongBranch, IsLongCall, IsSpelled, IsWritten, SpellsMeant, WithWay}
+use Rattle.zc_link.specs.Meant.{meant}
+use Rattle.zc_link.specs.Values.{way}
 use Rattle.zc_link.proofs.Adds.{drop_are, take_are}
+use Rattle.zc_link.proofs.WayLaws.{way_leads}
 use Rattle.zc_link.proofs.Fetched.{StandAt, half_at_address, nops_at, one_at, spelled_at, stand_at, stand_first, stand_next}
 use Rattle.zc_link.proofs.FrontLaws.{stub_elsewhere}
 use Rattle.zc_link.proofs.GroupItems.{group_known}
 use Rattle.zc_link.proofs.GroupsLaid.{commits_are, group_at}
 use Rattle.zc_link.proofs.ImageMemory.{AreLaidOut, image_of}
-use Rattle.zc_link.proofs.ItemRegisters.{imm_registers, item_registers, upper_registers}
+use Rattle.zc_link.proofs.ItemRegisters.{item_registers, meant_registers}
 use Rattle.zc_link.proofs.LaidLaws.{address_small}
 use Rattle.zc_link.proofs.Lookup.{found_holds}
 use Rattle.zc_link.proofs.HalfNormals.{IsHalfNormal, half_normal}
@@ -116,10 +118,6 @@ module _ (L : TextLayout) (is_map : IsMap L.inputs.map) (laid : IsLaidOut L) (pr
   next_listed : (q : Place) (b : ℕ) → A (next_at p.objects q) ≡ Some b → here.address (program.next q) ≡ Some b
   next_listed q b next = (λ j. shows.listed j (shows.next j q)) ∙ next
 
-  -- with a value
-  value_is : (t : Target) (x : ℕ) → target_value A t ≡ Some x → target_value here.address t ≡ Some x
-  value_is t x is = ap (λ B. target_value B t) shows.listed ∙ is
-
   -- an address is even, and a word
   even_word : (q : Place) (a : ℕ) → A q ≡ Some a → (a % 2 ≡ 0) × (0 < a) × (a < 2 ^ 32)
   even_word q a at =
@@ -137,16 +135,20 @@ module _ (L : TextLayout) (is_map : IsMap L.inputs.map) (laid : IsLaidOut L) (pr
         here = is.here;
         same = is.same;
         at = is.at;
+        four = λ ecall. is.long ∙ ecall_long n bytes i sp ecall;
         next = next_listed q (a + n) next ∙ ap (λ k. Some (a + k)) (sym is.long);
       }
 
   -- a branch of two
   long_laid :
-      (q : Place) (a n : ℕ) (op : BranchOp) (first second : ℕ) (to : Place) (d : ℤ) (bytes : List ℕ) → n ≡ 8
-      → A (next_at p.objects q) ≡ Some (a + n) → StandAt program parts out a bytes → A to ≡ Some (add32 a d) → IsLongBranch op first second d bytes
+      (q : Place) (a n : ℕ) (op : BranchOp) (first second : ℕ) (to : Place) (bytes : List ℕ) → n ≡ 8 → A q ≡ Some a
+      → A (next_at p.objects q) ≡ Some (a + n) → StandAt program parts out a bytes → WithWay A a to (λ w. IsLongBranch op first second (as_signed w) bytes)
       → program.item q ≡ Some (Branch op first second to) → LongLaid program here q a op first second
   unfolding one_at
-  long_laid q a n op first second to d bytes eight next st leads l same =
+  long_laid q a n op first second to bytes eight at next st w same =
+      let d = as_signed (way a w.0) in
+      let l = w.2 in
+      let leads : A to ≡ Some (add32 a d) = w.1 ∙ ap Some (sym (way_leads a w.0 (even_word q a at).2 (even_word to w.0 w.1).2)) in
       let both = subst (StandAt program parts out a) l.both st in
       let four : a + length l.first ≡ a + 4 = ap (λ x. a + length x) l.over.are in
       let registers = decoded-registers l.over.word (instr.Branch l.other first second (pos 8)) l.over.spells in
@@ -173,14 +175,16 @@ module _ (L : TextLayout) (is_map : IsMap L.inputs.map) (laid : IsLaidOut L) (pr
 
   -- a call of two
   call_laid : (q : Place) (a n rd temp : ℕ) (to : Place) (bytes : List ℕ) → n ≡ 8 → A q ≡ Some a → A (next_at p.objects q) ≡ Some (a + n) → StandAt program parts out a bytes
-      → WithCall A a rd temp to bytes → program.item q ≡ Some (Call rd temp to) → CallLaid program here q a
+      → WithWay A a to (λ w. IsLongCall rd temp w bytes) → program.item q ≡ Some (Call rd temp to) → CallLaid program here q a
   unfolding one_at
-  call_laid q a n rd temp to bytes eight at next st w same =
+  call_laid q a n rd temp to bytes eight at next st found same =
+      let address = found.0 in
+      let w = found.2 in
       let both = subst (StandAt program parts out a) w.both st in
       let four : a + length w.first ≡ a + 4 = ap (λ l. a + length l) w.upper.are in
-      let first = decoded-registers w.upper.word (instr.Upper Auipc temp (hi20_of (way a w.address))) w.upper.spells in
+      let first = decoded-registers w.upper.word (instr.Upper Auipc temp (hi20_of (way a address))) w.upper.spells in
       let one = even_word q a at in
-      let two = even_word to w.address w.is in
+      let two = even_word to address found.1 in
       let end : a + n ≡ a + 4 + 4 = omega (arith, eight) in
       record {
         rd = rd;
@@ -188,14 +192,14 @@ module _ (L : TextLayout) (is_map : IsMap L.inputs.map) (laid : IsLaidOut L) (pr
         to = to;
         item = same;
         temp_low = first;
-        upper = hi20_of (way a w.address);
-        lower = lo12_of (way a w.address);
+        upper = hi20_of (way a address);
+        lower = lo12_of (way a address);
         at = record {
-          one = one_at program parts out a w.first (instr.Upper Auipc temp (hi20_of (way a w.address))) (stand_first program parts out a w.first w.second both) w.upper;
-          two = one_at program parts out (a + 4) w.second (instr.Jalr rd temp (lo12_of (way a w.address)))
+          one = one_at program parts out a w.first (instr.Upper Auipc temp (hi20_of (way a address))) (stand_first program parts out a w.first w.second both) w.upper;
+          two = one_at program parts out (a + 4) w.second (instr.Jalr rd temp (lo12_of (way a address)))
               (subst (λ x. StandAt program parts out x w.second) four (stand_next program parts out a w.first w.second both)) w.lower;
         };
-        reaches = (λ j. shows.listed j to) ∙ w.is ∙ ap Some (sym (call_reaches a w.address one.2 two.2 two.0));
+        reaches = (λ j. shows.listed j to) ∙ found.1 ∙ ap Some (sym (call_reaches a address one.2 two.2 two.0));
         next = next_listed q (a + n) next ∙ ap Some end;
       }
 
@@ -219,99 +223,77 @@ module _ (L : TextLayout) (is_map : IsMap L.inputs.map) (laid : IsLaidOut L) (pr
   item_laid : (q : Place) (a : ℕ) (item : Item) → item_at p q ≡ Some item → ItemLaid program here q a (Some item) → ItemLaid program here q a (program.item q)
   item_laid q a item is = subst (ItemLaid program here q a) (sym (same_item q item is))
 
+  -- one instruction that is spelled
+  one_laid :
+      (q : Place) (a n : ℕ) (item : Item) (bytes : List ℕ) → item_at p q ≡ Some item → A (next_at p.objects q) ≡ Some (a + n) → StandAt program parts out a bytes
+      → SpellsMeant A (item_at p) a n item bytes → OneLaid program here q a item
+  one_laid q a n item bytes is next stands m =
+      record {
+        instr = m.instr;
+        is = (λ j. meant (shows.listed j) (shows.item j) a item) ∙ m.is;
+        laid = alone q a n bytes m.instr (meant_registers A (item_at p) a item m.instr (item_registers p q item is) m.is) next stands m.spelled;
+      }
+
   -- a branch: in eight bytes it is two instructions, and else one
   branch_laid :
       (q : Place) (a n : ℕ) (op : BranchOp) (first second : ℕ) (to : Place) (bytes : List ℕ) → WrittenAt q a n (Branch op first second to) bytes
       → StretchLaid program here q a (stretch_of n (Some (OneItem (Branch op first second to))))
-  branch_laid q a n op first second to bytes w = by w.written.holds
+  branch_laid q a n op first second to bytes w = by w.written
     where
-      by :
-          IsSpelled n bytes (instr.Branch op first second w.written.distance) ⊎ ((n ≡ 8) × IsLongBranch op first second w.written.distance bytes)
-          → StretchLaid program here q a (stretch_of n (Some (OneItem (Branch op first second to))))
-      by (inl sp) =
-          let d = w.written.distance in
-          let i : Instr = instr.Branch op first second d in
-          subst (λ b. StretchLaid program here q a (cond b (LongOf op first second) Alone)) (sym (spelled_short n bytes i sp))
-          (item_laid q a (Branch op first second to) w.is
-          (record { distance = d; reaches = (λ j. shows.listed j to) ∙ w.written.leads; laid = alone q a n bytes i (item_registers p q (Branch op first second to) w.is) w.next w.stands sp }))
+      by : IsWritten A (item_at p) w.own a n (Branch op first second to) bytes → StretchLaid program here q a (stretch_of n (Some (OneItem (Branch op first second to))))
+      by (inl m) =
+          subst (λ b. StretchLaid program here q a (cond b (LongOf op first second) Alone)) (sym (spelled_short n bytes m.instr m.spelled))
+          (item_laid q a (Branch op first second to) w.is (one_laid q a n (Branch op first second to) bytes w.is w.next w.stands m))
       by (inr l) =
           let eight : eqb n 8 ≡ true = ap (λ k. eqb k 8) l.0 in
           subst (λ b. StretchLaid program here q a (cond b (LongOf op first second) Alone)) (sym eight)
-          (long_laid q a n op first second to w.written.distance bytes l.0 w.next w.stands w.written.leads l.1 (same_item q (Branch op first second to) w.is))
+          (long_laid q a n op first second to bytes l.0 w.at w.next w.stands l.1 (same_item q (Branch op first second to) w.is))
 
   -- so is a call
   calling_laid : (q : Place) (a n rd temp : ℕ) (to : Place) (bytes : List ℕ) → WrittenAt q a n (Call rd temp to) bytes → StretchLaid program here q a (stretch_of n (Some (OneItem (Call rd temp to))))
   calling_laid q a n rd temp to bytes w = by w.written
     where
-      by : WithWay A a to (λ d. IsSpelled n bytes (instr.Jal rd d)) ⊎ ((n ≡ 8) × WithCall A a rd temp to bytes) → StretchLaid program here q a (stretch_of n (Some (OneItem (Call rd temp to))))
-      by (inl one) =
-          let d = one.distance in
-          subst (λ b. StretchLaid program here q a (cond b CallOf Alone)) (sym (spelled_short n bytes (instr.Jal rd d) one.holds))
-          (item_laid q a (Call rd temp to) w.is
-          (record { distance = d; reaches = (λ j. shows.listed j to) ∙ one.leads; laid = alone q a n bytes (instr.Jal rd d) (item_registers p q (Call rd temp to) w.is) w.next w.stands one.holds }))
+      by : IsWritten A (item_at p) w.own a n (Call rd temp to) bytes → StretchLaid program here q a (stretch_of n (Some (OneItem (Call rd temp to))))
+      by (inl m) =
+          subst (λ b. StretchLaid program here q a (cond b CallOf Alone)) (sym (spelled_short n bytes m.instr m.spelled))
+          (item_laid q a (Call rd temp to) w.is (one_laid q a n (Call rd temp to) bytes w.is w.next w.stands m))
       by (inr two) =
           let eight : eqb n 8 ≡ true = ap (λ k. eqb k 8) two.0 in
           subst (λ b. StretchLaid program here q a (cond b CallOf Alone)) (sym eight)
           (call_laid q a n rd temp to bytes two.0 w.at w.next w.stands two.1 (same_item q (Call rd temp to) w.is))
 
   -- an instruction without relocation is spelled, or a halfword of the object that spells it is copied
-  op_laid : (q : Place) (a n : ℕ) (i : Instr) (bytes : List ℕ) → WrittenAt q a n (Op i) bytes → OpLaid program here q a i
+  op_laid : (q : Place) (a n : ℕ) (i : Instr) (bytes : List ℕ) → WrittenAt q a n (Op i) bytes → OneLaid program here q a (Op i)
   unfolding alone half_at_address
   op_laid q a n i bytes w = by w.written
     where
-      by : IsSpelled n bytes i ⊎ ((n ≡ 2) × IsCopied w.own bytes i) → OpLaid program here q a i
-      by (inl sp) = record {
-        laid = alone q a n bytes i (item_registers p q (Op i) w.is) w.next w.stands sp;
-        four = λ ecall. (spelled_at program parts out a n bytes i w.stands sp).long ∙ ecall_long n bytes i sp ecall;
-      }
+      by : IsWritten A (item_at p) w.own a n (Op i) bytes → OneLaid program here q a (Op i)
+      by (inl m) = one_laid q a n (Op i) bytes w.is w.next w.stands m
       by (inr two) =
           let c = two.1 in
           record {
+            instr = i;
+            is = refl;
             laid = record {
               registers = item_registers p q (Op i) w.is;
               here = c.spelled;
               same = subst (SameEffect c.spelled) c.normal (λ size z. sym (normal_same c.spelled size z));
               at = half_at_address program parts out a c.half bytes (Base c.spelled) w.stands c.small c.are c.spells;
+              four = λ ecall. absurd (subst IsHalfNormal (c.normal ∙ ecall) (half_normal c.half c.spelled c.spells));
               next = next_listed q (a + n) w.next ∙ ap (λ m. Some (a + m)) two.0;
             };
-            four = λ ecall. absurd (subst IsHalfNormal (c.normal ∙ ecall) (half_normal c.half c.spelled c.spells));
           }
 
   -- any item
   stretch_laid : (q : Place) (a n : ℕ) (item : Item) (bytes : List ℕ) → WrittenAt q a n item bytes → StretchLaid program here q a (stretch_of n (Some (OneItem item)))
   unfolding alone half_at_address
   stretch_laid q a n (Op i) bytes w = item_laid q a (Op i) w.is (op_laid q a n i bytes w)
-  stretch_laid q a n (Hi i t) bytes w =
-      let x = w.written.value in
-      item_laid q a (Hi i t) w.is
-      (record { value = x; is = value_is t x w.written.is; laid = alone q a n bytes (with_upper i (hi20_of x)) (upper_registers i (hi20_of x) (item_registers p q (Hi i t) w.is)) w.next w.stands w.written.holds })
-  stretch_laid q a n (Lo i t) bytes w =
-      let x = w.written.value in
-      item_laid q a (Lo i t) w.is
-      (record { value = x; is = value_is t x w.written.is; laid = alone q a n bytes (with_imm i (lo12_of x)) (imm_registers i (lo12_of x) (item_registers p q (Lo i t) w.is)) w.next w.stands w.written.holds })
-  stretch_laid q a n (PcHi i t) bytes w =
-      let x = w.written.value in
-      let upper = hi20_of (way a x) in
-      item_laid q a (PcHi i t) w.is
-      (record { value = x; is = value_is t x w.written.is; laid = alone q a n bytes (with_upper i upper) (upper_registers i upper (item_registers p q (PcHi i t) w.is)) w.next w.stands w.written.holds })
-  stretch_laid q a n (PcLo i from) bytes w =
-      let l = w.written in
-      let lower = lo12_of (way l.address l.value) in
-      item_laid q a (PcLo i from) w.is
-      (record {
-        to = l.to;
-        leads = ap pc_target ((λ j. shows.item j from) ∙ l.names);
-        address = l.address;
-        listed = (λ j. shows.listed j from) ∙ l.listed;
-        value = l.value;
-        is = value_is l.to l.value l.is;
-        laid = alone q a n bytes (with_imm i lower) (imm_registers i lower (item_registers p q (PcLo i from) w.is)) w.next w.stands l.holds;
-      })
+  stretch_laid q a n (Hi i t) bytes w = item_laid q a (Hi i t) w.is (one_laid q a n (Hi i t) bytes w.is w.next w.stands w.written)
+  stretch_laid q a n (Lo i t) bytes w = item_laid q a (Lo i t) w.is (one_laid q a n (Lo i t) bytes w.is w.next w.stands w.written)
+  stretch_laid q a n (PcHi i t) bytes w = item_laid q a (PcHi i t) w.is (one_laid q a n (PcHi i t) bytes w.is w.next w.stands w.written)
+  stretch_laid q a n (PcLo i from) bytes w = item_laid q a (PcLo i from) w.is (one_laid q a n (PcLo i from) bytes w.is w.next w.stands w.written)
   stretch_laid q a n (Branch op first second to) bytes w = branch_laid q a n op first second to bytes w
-  stretch_laid q a n (Jump rd to) bytes w =
-      let d = w.written.distance in
-      item_laid q a (Jump rd to) w.is
-      (record { distance = d; reaches = (λ j. shows.listed j to) ∙ w.written.leads; laid = alone q a n bytes (instr.Jal rd d) (item_registers p q (Jump rd to) w.is) w.next w.stands w.written.holds })
+  stretch_laid q a n (Jump rd to) bytes w = item_laid q a (Jump rd to) w.is (one_laid q a n (Jump rd to) bytes w.is w.next w.stands w.written)
   stretch_laid q a n (Call rd temp to) bytes w = calling_laid q a n rd temp to bytes w
   stretch_laid q a n (Align k) bytes w =
       let one = laid.even q a w.at in

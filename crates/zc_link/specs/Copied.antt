@@ -1,15 +1,13 @@
 -- What an image holds of code that isn't an instruction: the objects' own bytes, or an address.
-use Rattle.std.specs.Prelude.{◌≡◌, ℕ, ◌-◌, List, [], ◌∷◌, drop, filter, take, Option, Some}
+use Rattle.std.specs.Prelude.{◌≡◌, ℕ, ◌-◌, List, drop, take, Option, Some}
 use Rattle.zc_base.specs.Fields.{word_bytes}
 use Rattle.zc_base.specs.declared.place.Place.{Place}
 use Rattle.elf32_read.specs.Parts.{SectionParts}
-use Rattle.elf32_read.specs.Places.{place_list}
-use Rattle.elf32_read.specs.Segments.{SegmentData, segments_of}
+use Rattle.elf32_read.specs.Segments.{SegmentData}
 use Rattle.psabi_sym.specs.Inputs.{ParsedInputs}
 use Rattle.block_cut.specs.Items.{code_at, item_at}
 use Rattle.block_cut.specs.declared.item.Item.{Item}
 use Rattle.block_cut.specs.declared.item.Item.TheVariants.{Op, Hi, Lo, PcHi, PcLo, Branch, Jump, Call, Align, Word, Raw, RawShort, RawPair}
-use Rattle.zc_link.specs.Places.{listed_address}
 use Rattle.zc_link.specs.Values.{target_value}
 
 -- n bytes from an offset on
@@ -33,10 +31,8 @@ ItemCopied A own bytes (Raw word) = bytes 4 ≡ own 4
 ItemCopied A own bytes (RawShort half) = bytes 2 ≡ own 2
 ItemCopied A own bytes (RawPair first second) = bytes 8 ≡ own 8
 
--- the image's one segment of code holds this of each item, at the address that the image lists for its place
-pub record Copied (inputs : ParsedInputs) (elf : List ℕ) : Type 0 where
-  pub text : SegmentData
-  pub alone : filter (λ s. s.code) (segments_of elf) ≡ text ∷ []
-  pub each :
-      (q : Place) (a : ℕ) (s : SectionParts) (item : Item) → listed_address (place_list elf) q ≡ Some a → code_at inputs.objects q ≡ Some s → item_at inputs q ≡ Some item
-      → ItemCopied (listed_address (place_list elf)) (bytes_from s.bytes q.offset) (bytes_from text.bytes (a - text.at)) item
+-- a segment of code holds this of each item, at the address that is listed for its place
+abbrev pub IsCopiedTo : ParsedInputs → (Place → Option ℕ) → SegmentData → Type 0
+IsCopiedTo inputs A text =
+    (q : Place) (a : ℕ) (s : SectionParts) (item : Item) → A q ≡ Some a → code_at inputs.objects q ≡ Some s → item_at inputs q ≡ Some item
+    → ItemCopied A (bytes_from s.bytes q.offset) (bytes_from text.bytes (a - text.at)) item

@@ -1,6 +1,7 @@
 pub mod Places
 pub mod Image
 pub mod Values
+pub mod Meant
 pub mod Stands
 pub mod Sound
 pub mod Pace

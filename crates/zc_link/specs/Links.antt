@@ -1,7 +1,6 @@
 -- What links give, and what is promised of them.
 use Rattle.std.specs.Prelude.{◌≡◌, ℕ, ◌+◌, ◌≤◌, IsTrue, List, [], ◌∷◌, filter, All, Option, Some}
 use Rattle.zc_base.specs.declared.counts.Counts.{Counts}
-use Rattle.zc_base.specs.declared.mem_map.MemMap.{MemMap}
 use Rattle.zc_base.specs.declared.place.Place.{Place}
 use Rattle.elf32_read.specs.Places.{place_list}
 use Rattle.elf32_read.specs.Segments.{SegmentData, segments_of}
@@ -13,16 +12,16 @@ use Rattle.pick_check.specs.declared.saving.Saving.{Saving}
 use Rattle.jumptable_pick.specs.Picked.{picked}
 use Rattle.jumptable_pick.specs.Slots.{slot_places}
 use Rattle.block_cut.specs.PlainLayout.{plain_counts, plain_end}
-use Rattle.shrink_layout.specs.Layout.{IsLayout}
-use Rattle.shrink_layout.specs.Least.{IsLeast}
-use Rattle.shrink_layout.specs.Pieces.{is_unaligned, pieces_of}
+use Rattle.shrink_layout.specs.Pieces.{is_unaligned}
 use Rattle.shrink_layout.specs.Savings.{savings_of}
-use Rattle.shrink_layout.specs.Settled.{settled_counts, settled_end, settled_sizes}
+use Rattle.shrink_layout.specs.Settled.{settled_counts, settled_end}
+use Rattle.shrink_layout.specs.Table.{IsLaidBehind}
 use Rattle.sym_machine.specs.Objects.{program_of}
-use Rattle.zc_link.specs.Copied.{Copied}
+use Rattle.zc_link.specs.Copied.{IsCopiedTo}
 use Rattle.zc_link.specs.Image.{Image, image_in}
 use Rattle.zc_link.specs.ImageParts.{listed_places, parts_of, plain_flags}
 use Rattle.zc_link.specs.Pace.{pace_of}
+use Rattle.zc_link.specs.Places.{listed_address}
 use Rattle.zc_link.specs.Preserves.{Preserves}
 use Rattle.zc_link.specs.IsSimulation.{IsSimulation}
 use Rattle.zc_link.specs.Sound.{IsNamed}
@@ -40,13 +39,6 @@ pub record Link : Type 0 where
 
 -- ---- images
 
--- an image's one segment of code begins where text does, and ends at this address
-pub record TextEndsAt (map : MemMap) (elf : List ℕ) (address : ℕ) : Type 0 where
-  pub text : SegmentData
-  pub alone : filter (λ s. s.code) (segments_of elf) ≡ text ∷ []
-  pub start : text.at ≡ map.text
-  pub end : text.at + text.size ≡ address
-
 -- the file is an image of the objects' parts with a text that holds what stands in front, and at each listed place what is written
 -- there, and zeros between
 pub record HasParts (L : TextLayout) (flags : ℕ) (elf : List ℕ) : Type 0 where
@@ -56,25 +48,24 @@ pub record HasParts (L : TextLayout) (flags : ℕ) (elf : List ℕ) : Type 0 whe
   pub holds : All (HoldsPlace L text) (listed_places L)
   pub gaps : GapsAreZero L text
 
--- the file is an image without a fault that does the steps of the objects' program at the pace of a layout
-pub record Simulates (L : TextLayout) (elf : List ℕ) : Type 0 where
-  pub image : Image
-  pub read : image_in elf L.inputs.map ≡ Some image
-  pub simulates :
-      IsSimulation (program_of (parsed L.inputs)) (IsNamed (parsed L.inputs)) image
-      (pace_of (program_of (parsed L.inputs)) (stretch_in L))
-
 -- an image of the inputs in a layout, whose text ends at an address: it has the parts laid out for the objects; it does what the
--- objects' program does, under every plan of interrupts, step by step; what it copies is the objects'; it lists the places that
--- have an address: those where an item starts or a section of code ends, but in a layout with groups none inside a group; and its
--- text ends there
+-- objects' program does, under every plan of interrupts; read as an image, it does the steps of that program at the layout's pace; its
+-- one segment of code begins where text does, ends there, and has what is copied; and it lists the places that have an address: those
+-- where an item starts or a section of code ends, but in a layout with groups none inside a group
 pub record IsImageOf (L : TextLayout) (flags end : ℕ) (elf : List ℕ) : Type 0 where
   pub parts : HasParts L flags elf
   pub preserves : Preserves L.inputs elf
-  pub simulates : Simulates L elf
-  pub copied : Copied (parsed L.inputs) elf
+  pub loaded : Image
+  pub read : image_in elf L.inputs.map ≡ Some loaded
+  pub simulates :
+      IsSimulation (program_of (parsed L.inputs)) (IsNamed (parsed L.inputs)) loaded
+      (pace_of (program_of (parsed L.inputs)) (stretch_in L))
+  pub text : SegmentData
+  pub alone : filter (λ s. s.code) (segments_of elf) ≡ text ∷ []
+  pub start : text.at ≡ L.inputs.map.text
+  pub ends : text.at + text.size ≡ end
+  pub copied : IsCopiedTo (parsed L.inputs) (listed_address (place_list elf)) text
   pub places : place_list elf ≡ listed_places L
-  pub text_end : TextEndsAt L.inputs.map elf end
 
 -- ---- tables
 
@@ -104,14 +95,11 @@ pub record IsPlainLink (inputs : Inputs) (link : Link) : Type 0 where
   pub plain : link.plain ≡ plain_counts (parsed inputs)
   pub zc : link.zc ≡ plain_counts (parsed inputs)
 
--- behind a table of these slots, sizes are those of the first round that fits; if there is no ALIGN, and no code aligned above
--- 4 bytes, they are the least that fit, and the text is shorter than without the table, by so many bytes at least
+-- behind a table of these slots the layout is settled; if there is no ALIGN, and no code aligned above 4 bytes, the text is shorter
+-- than without the table, by so many bytes at least
 pub record IsShortest (inputs : Inputs) (slots : List (Option Place)) (net : ℕ) : Type 0 where
-  pub settled : IsLayout inputs.map.text (pieces_of (parsed inputs) slots) (settled_sizes (parsed inputs) slots)
-  pub least : IsTrue (is_unaligned (parsed inputs))
-      → IsLeast inputs.map.text (pieces_of (parsed inputs) slots) (settled_sizes (parsed inputs) slots)
-  pub pays : IsTrue (is_unaligned (parsed inputs))
-      → settled_end (parsed inputs) slots + net ≤ settled_end (parsed inputs) []
+  pub laid : IsLaidBehind (parsed inputs) slots
+  pub saves : IsTrue (is_unaligned (parsed inputs)) → settled_end (parsed inputs) slots + net ≤ settled_end (parsed inputs) []
 
 -- the link that makes code smaller: its image has the settled layout behind the best table; and what the plain layout and this one
 -- count

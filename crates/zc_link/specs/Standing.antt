@@ -27,6 +27,7 @@ use Rattle.zc_encode.specs.Halves.{encoded16}
 use Rattle.zca_zcb_pass.specs.Forms.{HasEffectOf}
 use Rattle.zc_link.specs.Copied.{bytes_from}
 use Rattle.zc_link.specs.LaidOut.{HasForm}
+use Rattle.zc_link.specs.Meant.{way_on}
 use Rattle.zc_link.specs.TextLayout.{TextLayout, behind, size_in}
 use Rattle.zc_link.specs.Written.{IsSoFar, UnitWritten}
 use Rattle.zc_link.specs.Values.{target_value}
@@ -60,14 +61,9 @@ pub record SpellsWay (A : Place → Option ℕ) (spelled : Option Instr) (i : �
 abbrev pub HasValue : (Place → Option ℕ) → Target → Type 0
 HasValue A t = (value : ℕ) × (target_value A t ≡ Some value)
 
--- the `auipc` that a lower part goes with
-pub record GoesWith (A : Place → Option ℕ) (item : Place → Option Item) (from : Place) : Type 0 where
-  pub first : Instr
-  pub to : Target
-  pub names : item from ≡ Some (PcHi first to)
-  pub address : ℕ
-  pub listed : A from ≡ Some address
-  pub has : HasValue A to
+-- the way from an `auipc` that a lower part goes with
+abbrev pub HasWay : (Place → Option ℕ) → (Place → Option Item) → Place → Type 0
+HasWay A items from = (w : ℕ) × (way_on A items from ≡ Some w)
 
 -- the two instructions of a call
 pub record SpellsCall (A : Place → Option ℕ) (one two : Option Instr) (rd temp : ℕ) (to : Place) : Type 0 where
@@ -86,7 +82,7 @@ ItemStands A item one two (Op i) = one ≡ Some i
 ItemStands A item one two (Hi i t) = SpellsKind is_lui one i × HasValue A t
 ItemStands A item one two (Lo i t) = SpellsKind is_lower one i × HasValue A t
 ItemStands A item one two (PcHi i t) = SpellsKind is_auipc one i × HasValue A t
-ItemStands A item one two (PcLo i from) = SpellsKind is_lower one i × GoesWith A item from
+ItemStands A item one two (PcLo i from) = SpellsKind is_lower one i × HasWay A item from
 ItemStands A item one two (Branch op first second to) = SpellsWay A one (instr.Branch op first second) to
 ItemStands A item one two (Jump rd to) = SpellsWay A one (instr.Jal rd) to
 ItemStands A item one two (Call rd temp to) = SpellsCall A one two rd temp to

@@ -12,12 +12,8 @@ use Rattle.rv_decode.specs.Memory.{extents_of, is_text, lies_in}
 use Rattle.rv_decode.specs.Normal.{SameEffect}
 use Rattle.rv_decode.specs.Registers.{HasRegisters}
 use Rattle.rv_decode.specs.State.{word_at}
-use Rattle.psabi_reloc.specs.Parts.{hi20_of, lo12_of}
-use Rattle.psabi_reloc.specs.Patched.{with_imm, with_upper}
-use Rattle.psabi_sym.specs.declared.target.Target.{Target}
 use Rattle.block_cut.specs.declared.item.Item.{Item}
-use Rattle.block_cut.specs.declared.item.Item.TheVariants.{Op, Hi, Lo, PcHi, PcLo, Branch, Jump, Call, Align, Word, Raw, RawShort, RawPair}
-use Rattle.sym_machine.specs.AddressParts.{pc_target}
+use Rattle.block_cut.specs.declared.item.Item.TheVariants.{Op, Branch, Jump, Call, Align, Word, Raw, RawShort, RawPair}
 use Rattle.sym_machine.specs.Program.{Program}
 use Rattle.zca_zcb_pass.specs.Forms.{IsOpposite}
 use Rattle.zc_decode.specs.Halfwords.{decoded16}
@@ -26,8 +22,8 @@ use Rattle.zc_decode.specs.declared.short.Short.TheVariants.{Base, MoveAs, MoveS
 use Rattle.zc_machine.specs.Fetch.{Found, fetched_at}
 use Rattle.zc_link.specs.Groups.{Ending, GroupKind, IsGroup, MovesFromSaved, MovesToSaved, PopOf, PushOf, adjust_of, group_commits, group_ops, lower_sp, pop_kind, raise_sp, rest_of}
 use Rattle.zc_link.specs.Image.{Image, loaded_core}
+use Rattle.zc_link.specs.Meant.{meant}
 use Rattle.zc_link.specs.Pace.{Stretch, Alone, AlignOf, CallOf, GroupOf, LongOf, TableOf}
-use Rattle.zc_link.specs.Values.{target_value, way}
 
 -- ---- instructions
 
@@ -42,54 +38,22 @@ pub record TwoAt (e : Image) (a : ℕ) (first second : Short) : Type 0 where
   pub one : OneAt e a first
   pub two : OneAt e (a + one.size) second
 
--- an instruction alone, or one with the same effect, and the next place after it
+-- an instruction alone, or one with the same effect, and the next place after it; `ecall` has no short form
 pub record AloneLaid (p : Program) (e : Image) (q : Place) (a : ℕ) (i : Instr) : Type 0 where
   pub registers : HasRegisters i
   pub here : Instr
   pub same : SameEffect here i
   pub at : OneAt e a (Base here)
+  pub four : i ≡ Ecall → at.size ≡ 4
   pub next : e.address (p.next q) ≡ Some (a + at.size)
 
 -- ---- items
 
--- one without relocation; `ecall` has no short form
-pub record OpLaid (p : Program) (e : Image) (q : Place) (a : ℕ) (i : Instr) : Type 0 where
-  pub laid : AloneLaid p e q a i
-  pub four : i ≡ Ecall → laid.at.size ≡ 4
-
--- the upper part of the target's address
-pub record HiLaid (p : Program) (e : Image) (q : Place) (a : ℕ) (i : Instr) (t : Target) : Type 0 where
-  pub value : ℕ
-  pub is : target_value e.address t ≡ Some value
-  pub laid : AloneLaid p e q a (with_upper i (hi20_of value))
-
--- the lower part
-pub record LoLaid (p : Program) (e : Image) (q : Place) (a : ℕ) (i : Instr) (t : Target) : Type 0 where
-  pub value : ℕ
-  pub is : target_value e.address t ≡ Some value
-  pub laid : AloneLaid p e q a (with_imm i (lo12_of value))
-
--- the upper part of the way from here to the target
-pub record PcHiLaid (p : Program) (e : Image) (q : Place) (a : ℕ) (i : Instr) (t : Target) : Type 0 where
-  pub value : ℕ
-  pub is : target_value e.address t ≡ Some value
-  pub laid : AloneLaid p e q a (with_upper i (hi20_of (way a value)))
-
--- the lower part of the way from the `auipc` at another place to what that leads to
-pub record PcLoLaid (p : Program) (e : Image) (q : Place) (a : ℕ) (i : Instr) (from : Place) : Type 0 where
-  pub to : Target
-  pub leads : pc_target (p.item from) ≡ Some to
-  pub address : ℕ
-  pub listed : e.address from ≡ Some address
-  pub value : ℕ
-  pub is : target_value e.address to ≡ Some value
-  pub laid : AloneLaid p e q a (with_imm i (lo12_of (way address value)))
-
--- an instruction that goes to a place, by its distance: a branch, a jump, or a call that is one `jal`
-pub record ReachLaid (p : Program) (e : Image) (q : Place) (a : ℕ) (i : ℤ → Instr) (to : Place) : Type 0 where
-  pub distance : ℤ
-  pub reaches : e.address to ≡ Some (add32 a distance)
-  pub laid : AloneLaid p e q a (i distance)
+-- the one instruction that an item is at an address
+pub record OneLaid (p : Program) (e : Image) (q : Place) (a : ℕ) (item : Item) : Type 0 where
+  pub instr : Instr
+  pub is : meant e.address p.item a item ≡ Some instr
+  pub laid : AloneLaid p e q a instr
 
 -- what a halfword of the objects spells, and the next place after it
 pub record ShortLaid (p : Program) (e : Image) (q : Place) (a : ℕ) (short : Short) : Type 0 where
@@ -100,19 +64,11 @@ pub record ShortLaid (p : Program) (e : Image) (q : Place) (a : ℕ) (short : Sh
 -- isn't one instruction
 abbrev pub ItemLaid : Program → Image → Place → ℕ → Option Item → Type 0
 ItemLaid p e q a None = Unit {0}
-ItemLaid p e q a (Some (Op i)) = OpLaid p e q a i
-ItemLaid p e q a (Some (Hi i t)) = HiLaid p e q a i t
-ItemLaid p e q a (Some (Lo i t)) = LoLaid p e q a i t
-ItemLaid p e q a (Some (PcHi i t)) = PcHiLaid p e q a i t
-ItemLaid p e q a (Some (PcLo i from)) = PcLoLaid p e q a i from
-ItemLaid p e q a (Some (Branch op first second to)) = ReachLaid p e q a (instr.Branch op first second) to
-ItemLaid p e q a (Some (Jump rd to)) = ReachLaid p e q a (Jal rd) to
-ItemLaid p e q a (Some (Call rd temp to)) = ReachLaid p e q a (Jal rd) to
-ItemLaid p e q a (Some (Align bytes)) = ⊥
 ItemLaid p e q a (Some (Word t)) = Unit {0}
 ItemLaid p e q a (Some (Raw word)) = Unit {0}
 ItemLaid p e q a (Some (RawShort half)) = (short : Short) → decoded16 half ≡ Some short → ShortLaid p e q a short
 ItemLaid p e q a (Some (RawPair first second)) = Unit {0}
+ItemLaid p e q a (Some item) = OneLaid p e q a item
 
 -- ---- items of several instructions
 

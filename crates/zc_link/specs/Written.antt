@@ -6,15 +6,13 @@ use Rattle.zc_base.specs.Fields.{half_bytes, word_bytes}
 use Rattle.zc_base.specs.declared.place.Place.{Place}
 use Rattle.elf32_read.specs.Parts.{SectionParts}
 use Rattle.psabi_reloc.specs.Parts.{hi20_of, lo12_of}
-use Rattle.psabi_reloc.specs.Patched.{with_imm, with_upper}
 use Rattle.psabi_sym.specs.Inputs.{parsed}
 use Rattle.psabi_sym.specs.Indexed.{IndexedSection}
-use Rattle.psabi_sym.specs.declared.target.Target.{Target}
 use Rattle.rv_decode.specs.declared.instr.Instr.{Instr}
 use Rattle.rv_decode.specs.declared.instr.Instr.TheVariants as instr
 use Rattle.rv_decode.specs.declared.instr.BranchOp.{BranchOp}
 use Rattle.rv_decode.specs.declared.instr.UpperOp.TheVariants.{Auipc}
-use Rattle.rv_decode.specs.Bits.{add32}
+use Rattle.rv_decode.specs.Bits.{as_signed}
 use Rattle.rv_decode.specs.Decode.{decoded}
 use Rattle.rv_decode.specs.Normal.{normal_of}
 use Rattle.zc_decode.specs.Halfwords.{decoded16}
@@ -24,13 +22,14 @@ use Rattle.zc_encode.specs.Halves.{encoded16}
 use Rattle.zca_zcb_pass.specs.Forms.{HasEffectOf, IsOpposite}
 use Rattle.block_cut.specs.Items.{code_at, item_at, targets_of}
 use Rattle.block_cut.specs.declared.item.Item.{Item}
-use Rattle.block_cut.specs.declared.item.Item.TheVariants.{Op, Hi, Lo, PcHi, PcLo, Branch, Jump, Call, Align, Word, Raw, RawShort, RawPair}
+use Rattle.block_cut.specs.declared.item.Item.TheVariants.{Op, Branch, Call, Align, Word, Raw, RawShort, RawPair}
 use Rattle.frame_match.specs.declared.group.Group.{Group}
 use Rattle.shrink_layout.specs.Units.{CodeUnit, OneGroup, OneItem, OneSite, front_size, is_push, rest_instr}
 use Rattle.zc_link.specs.Copied.{bytes_from}
 use Rattle.zc_link.specs.Front.{IsFront}
 use Rattle.zc_link.specs.ImageParts.{with_address}
 use Rattle.zc_link.specs.LaidOut.{code_end_after}
+use Rattle.zc_link.specs.Meant.{meant}
 use Rattle.zc_link.specs.TextLayout.{TextLayout, behind, front_end}
 use Rattle.zc_link.specs.Values.{target_value, way}
 
@@ -90,28 +89,11 @@ padding n = (if n % 4 == 2 then half_bytes short_nop else []) ++ copies nop (n /
 
 -- ---- items
 
--- this of the address of what the symbol resolves to
-pub record WithValue (A : Place → Option ℕ) (t : Target) (P : ℕ → Type 0) : Type 0 where
-  pub value : ℕ
-  pub is : target_value A t ≡ Some value
-  pub holds : P value
-
--- this of the way from the `auipc` at a place to what that one's relocation resolves to
-pub record WithLower (A : Place → Option ℕ) (item : Place → Option Item) (from : Place) (P : ℕ → Type 0) : Type 0 where
-  pub first : Instr
-  pub to : Target
-  pub names : item from ≡ Some (PcHi first to)
-  pub address : ℕ
-  pub listed : A from ≡ Some address
-  pub value : ℕ
-  pub is : target_value A to ≡ Some value
-  pub holds : P (way address value)
-
--- this of a distance that leads from an address to a place's
-pub record WithWay (A : Place → Option ℕ) (a : ℕ) (to : Place) (P : ℤ → Type 0) : Type 0 where
-  pub distance : ℤ
-  pub leads : A to ≡ Some (add32 a distance)
-  pub holds : P distance
+-- these n bytes spell the instruction that an item is at an address, if A gives the addresses of places
+pub record SpellsMeant (A : Place → Option ℕ) (items : Place → Option Item) (a n : ℕ) (item : Item) (bytes : List ℕ) : Type 0 where
+  pub instr : Instr
+  pub is : meant A items a item ≡ Some instr
+  pub spelled : IsSpelled n bytes instr
 
 -- a branch of the opposite condition over eight bytes, and a jump whose distance is less by the four bytes before it
 pub record IsLongBranch (op : BranchOp) (one two : ℕ) (distance : ℤ) (bytes : List ℕ) : Type 0 where
@@ -123,36 +105,30 @@ pub record IsLongBranch (op : BranchOp) (one two : ℕ) (distance : ℤ) (bytes 
   pub over : SpellsWord first (instr.Branch other one two (pos 8))
   pub jump : SpellsWord second (instr.Jal 0 (distance -ℤ pos 4))
 
--- an `auipc` and a `jalr` with the parts of the way
-pub record WithCall (A : Place → Option ℕ) (a rd temp : ℕ) (to : Place) (bytes : List ℕ) : Type 0 where
-  pub address : ℕ
-  pub is : A to ≡ Some address
+-- an `auipc` and a `jalr` with the parts of a way
+pub record IsLongCall (rd temp w : ℕ) (bytes : List ℕ) : Type 0 where
   pub first : List ℕ
   pub second : List ℕ
   pub both : bytes ≡ first ++ second
-  pub upper : SpellsWord first (instr.Upper Auipc temp (hi20_of (way a address)))
-  pub lower : SpellsWord second (instr.Jalr rd temp (lo12_of (way a address)))
+  pub upper : SpellsWord first (instr.Upper Auipc temp (hi20_of w))
+  pub lower : SpellsWord second (instr.Jalr rd temp (lo12_of w))
 
--- the n bytes of a branch: itself, or its long form
-abbrev pub IsBranchSpelled : ℕ → List ℕ → BranchOp → (one two : ℕ) → ℤ → Type 0
-IsBranchSpelled n bytes op one two d = IsSpelled n bytes (instr.Branch op one two d) ⊎ ((n ≡ 8) × IsLongBranch op one two d bytes)
+-- this of the way from an address to a place
+abbrev pub WithWay : (Place → Option ℕ) → ℕ → Place → (ℕ → Type 0) → Type 0
+WithWay A a to P = (b : ℕ) × (A to ≡ Some b) × P (way a b)
 
 -- these n bytes are what is written for an item at an address, if A gives the addresses of places; `own` gives the object's own
 abbrev pub IsWritten : (Place → Option ℕ) → (Place → Option Item) → (ℕ → List ℕ) → ℕ → ℕ → Item → List ℕ → Type 0
-IsWritten A item own a n (Op i) bytes = IsSpelled n bytes i ⊎ ((n ≡ 2) × IsCopied own bytes i)
-IsWritten A item own a n (Hi i t) bytes = WithValue A t (λ x. IsSpelled n bytes (with_upper i (hi20_of x)))
-IsWritten A item own a n (Lo i t) bytes = WithValue A t (λ x. IsSpelled n bytes (with_imm i (lo12_of x)))
-IsWritten A item own a n (PcHi i t) bytes = WithValue A t (λ x. IsSpelled n bytes (with_upper i (hi20_of (way a x))))
-IsWritten A item own a n (PcLo i from) bytes = WithLower A item from (λ x. IsSpelled n bytes (with_imm i (lo12_of x)))
-IsWritten A item own a n (Branch op one two to) bytes = WithWay A a to (IsBranchSpelled n bytes op one two)
-IsWritten A item own a n (Jump rd to) bytes = WithWay A a to (λ d. IsSpelled n bytes (instr.Jal rd d))
-IsWritten A item own a n (Call rd temp to) bytes =
-    WithWay A a to (λ d. IsSpelled n bytes (instr.Jal rd d)) ⊎ ((n ≡ 8) × WithCall A a rd temp to bytes)
-IsWritten A item own a n (Align k) bytes = bytes ≡ padding n
-IsWritten A item own a n (Word t) bytes = WithValue A t (λ x. bytes ≡ word_bytes x)
-IsWritten A item own a n (Raw word) bytes = bytes ≡ own 4
-IsWritten A item own a n (RawShort half) bytes = bytes ≡ own 2
-IsWritten A item own a n (RawPair first second) bytes = bytes ≡ own 8
+IsWritten A items own a n (Op i) bytes = SpellsMeant A items a n (Op i) bytes ⊎ ((n ≡ 2) × IsCopied own bytes i)
+IsWritten A items own a n (Branch op one two to) bytes =
+    SpellsMeant A items a n (Branch op one two to) bytes ⊎ ((n ≡ 8) × WithWay A a to (λ w. IsLongBranch op one two (as_signed w) bytes))
+IsWritten A items own a n (Call rd temp to) bytes = SpellsMeant A items a n (Call rd temp to) bytes ⊎ ((n ≡ 8) × WithWay A a to (λ w. IsLongCall rd temp w bytes))
+IsWritten A items own a n (Align k) bytes = bytes ≡ padding n
+IsWritten A items own a n (Word t) bytes = (x : ℕ) × (target_value A t ≡ Some x) × (bytes ≡ word_bytes x)
+IsWritten A items own a n (Raw word) bytes = bytes ≡ own 4
+IsWritten A items own a n (RawShort half) bytes = bytes ≡ own 2
+IsWritten A items own a n (RawPair first second) bytes = bytes ≡ own 8
+IsWritten A items own a n item bytes = SpellsMeant A items a n item bytes
 
 -- ---- groups
 

@@ -8,7 +8,7 @@ ghost use Rattle.block_cut.specs.Relocs.{instr_in};
 ghost use Rattle.psabi_reloc.specs.Parts.{hi20_of, lo12_of};
 ghost use Rattle.psabi_reloc.specs.Patched.{with_imm};
 ghost use Rattle.psabi_sym.specs.Inputs.{parsed};
-ghost use Rattle.rv_decode.specs.Bits.{add32, as_signed, as_word};
+ghost use Rattle.rv_decode.specs.Bits.{as_signed, as_word};
 ghost use Rattle.rv_decode.specs.Decode.{decoded};
 ghost use Rattle.rv_decode.specs.Immediates.{InRange};
 ghost use Rattle.rv_decode.specs.declared.instr.BranchOp.{BranchOp};
@@ -17,12 +17,13 @@ ghost use Rattle.rv_decode.specs.declared.instr.UpperOp.TheVariants.{Auipc};
 ghost use Rattle.shrink_layout.specs.Pieces.{is_short};
 ghost use Rattle.shrink_layout.specs.Units.{OneItem};
 ghost use Rattle.zc_base.specs.Fields.{half_bytes, word_bytes, word_in};
-ghost use Rattle.zc_link.specs.Codes.{code_bytes};
+ghost use Rattle.zc_link.specs.Codes.{IsBranchSpelled, code_bytes};
 ghost use Rattle.zc_link.specs.Copied.{bytes_from};
 ghost use Rattle.zc_link.specs.LaidOut.{HasBranchSize, HasJumpSize};
-ghost use Rattle.zc_link.specs.Standing.{GoesWith, StandsHere, WrittenHere, is_lower, is_patched};
+ghost use Rattle.zc_link.specs.Meant.{way_on};
+ghost use Rattle.zc_link.specs.Standing.{StandsHere, WrittenHere, is_lower, is_patched};
 ghost use Rattle.zc_link.specs.Values.{target_value, way};
-ghost use Rattle.zc_link.specs.Written.{IsBranchSpelled, IsSpelled, SpellsShort, SpellsWord};
+ghost use Rattle.zc_link.specs.Written.{IsSpelled, SpellsShort, SpellsWord};
 
 use crate::code::Code;
 use crate::extent::ItemExtent;
@@ -52,8 +53,6 @@ pub fn target_value<L: Layout>(layout: &L, t: Target) -> u32
 // How far it is from an address to a place.
 fn distance_to<L: Layout>(layout: &L, address: u32, to: Place) -> i32
     ensures way { (b : ℕ) → (L.layout layout.now).address to ≡ Some b → result ≡ as_signed (way address b) }
-    ensures leads { (b : ℕ) → (L.layout layout.now).address to ≡ Some b
-        → (L.layout layout.now).address to ≡ Some (add32 address result) }
 {
     layout
         .address(to)
@@ -64,8 +63,8 @@ fn distance_to<L: Layout>(layout: &L, address: u32, to: Place) -> i32
 
 // The way from the `auipc` at a place to what its relocation resolves to.
 fn way_from<L: Layout>(layout: &L, from: Place) -> u32
-    ensures { (g : GoesWith (L.layout layout.now).address (item_at (parsed (L.layout layout.now).inputs)) from)
-        → result ≡ way g.address g.has.0 }
+    ensures { (w : ℕ) → way_on (L.layout layout.now).address (item_at (parsed (L.layout layout.now).inputs)) from ≡ Some w
+        → result ≡ w }
 {
     match layout.cut().item(from) {
         Some(Item::PcHi(_, t)) => {
@@ -87,7 +86,7 @@ fn put_lower(instr: &Instr, word: u32, x: u32) -> u32
 }
 
 // The word that is written for an item which has one, from its own: with what its relocation asks for.
-#[tactic(auto, using(crate::proofs::ItemBytes::patched_stands))]
+#[tactic(auto, using(crate::proofs::ItemBytes::hi_written, crate::proofs::ItemBytes::lo_written, crate::proofs::ItemBytes::pc_hi_written, crate::proofs::ItemBytes::pc_lo_written, crate::proofs::ItemBytes::word_target))]
 fn patched<L: Layout>(layout: &L, extent: ItemExtent, item: Item) -> u32
     requires stands { StandsHere (L.layout layout.now) extent.code.now extent.at item extent.address extent.size }
     requires patched { is_patched item ≡ true }

@@ -4,7 +4,7 @@ use Rattle.zc_outside.specs.Desk.{Desk, OnlyTakes}
 use Rattle.zc_outside.specs.Files.{Rose}
 use Rattle.zcld.specs.declared.input.TheConstants.{INPUT_LIMIT}
 use Rattle.zcld.specs.declared.outcome.Outcome.{Outcome}
-use Rattle.zcld.specs.declared.outcome.Outcome.TheVariants.{Done, Exited, Usage, Refused, ReadFault, WriteFault, OutOfMemory, BadFile, Stopped, Stuck, Spent}
+use Rattle.zcld.specs.declared.outcome.Outcome.TheVariants.{ReadFault, OutOfMemory}
 
 -- if the input was told, these are its bytes, and none are left
 abbrev pub TakesAll : Option (List ℕ) → Option (List ℕ) → List ℕ → Type 0
@@ -34,19 +34,11 @@ IsShortInput (Some xs) = length xs ≤ INPUT_LIMIT
 
 -- why the input can't be had: taking it failed, at a console that isn't sure; or it is too long; or memory ran out
 abbrev pub UntakenCause : Outcome → Desk → Desk → Type 0
-UntakenCause Done before after = ⊥
-UntakenCause (Exited code) before after = ⊥
-UntakenCause Usage before after = ⊥
-UntakenCause (Refused i fault) before after = ⊥
 UntakenCause ReadFault before after =
     (Rose before.read_faults after.read_faults × (IsTrue before.sure → ⊥))
     ⊎ (RoseAbove INPUT_LIMIT before.taken after.taken × IsLongInput before.input)
-UntakenCause WriteFault before after = ⊥
 UntakenCause OutOfMemory before after = ⊤
-UntakenCause (BadFile fault) before after = ⊥
-UntakenCause (Stopped reason pc) before after = ⊥
-UntakenCause (Stuck place why) before after = ⊥
-UntakenCause Spent before after = ⊥
+UntakenCause other before after = ⊥
 
 -- the input can't be had, and nothing was written
 pub record IsUntaken (outcome : Outcome) (before after : Desk) : Type 0 where

@@ -4,7 +4,7 @@ use Rattle.zc_outside.specs.Files.{Files, Rose}
 use Rattle.zc_outside.specs.Streams.{Adds, AddsPart, KeepsBytes}
 use Rattle.zc_outside.specs.World.{World}
 use Rattle.zcld.specs.declared.outcome.Outcome.{Outcome}
-use Rattle.zcld.specs.declared.outcome.Outcome.TheVariants.{Done, Exited, Usage, Refused, ReadFault, WriteFault, OutOfMemory, BadFile, Stopped, Stuck, Spent}
+use Rattle.zcld.specs.declared.outcome.Outcome.TheVariants.{Done, WriteFault, OutOfMemory}
 
 -- files, each a name with its bytes, whose names differ; and the text
 pub record Output : Type 0 where
@@ -55,17 +55,10 @@ pub record IsPrinted (output : Output) (before after : World) : Type 0 where
 -- that isn't sure
 abbrev pub PutsInTurn : Outcome → Output → World → World → Type 0
 PutsInTurn Done output before after = IsPrinted output before after
-PutsInTurn (Exited code) output before after = ⊥
-PutsInTurn Usage output before after = ⊥
-PutsInTurn (Refused i fault) output before after = ⊥
-PutsInTurn ReadFault output before after = ⊥
 PutsInTurn WriteFault output before after =
     (IsUnput output before after
     × Rose before.shelf.write_faults after.shelf.write_faults × (IsTrue before.shelf.sure → ⊥))
     ⊎ (IsUnprinted output before after
     × Rose before.desk.write_faults after.desk.write_faults × (IsTrue before.desk.sure → ⊥))
 PutsInTurn OutOfMemory output before after = IsUnput output before after ⊎ IsUnprinted output before after
-PutsInTurn (BadFile fault) output before after = ⊥
-PutsInTurn (Stopped reason pc) output before after = ⊥
-PutsInTurn (Stuck place why) output before after = ⊥
-PutsInTurn Spent output before after = ⊥
+PutsInTurn other output before after = ⊥

@@ -4,7 +4,7 @@ use Rattle.zc_outside.specs.Shelf.{Shelf}
 use Rattle.zc_outside.specs.Wanted.{AreRead, AreUnread, ReadsAll, Wanted}
 use Rattle.zc_outside.specs.World.{World}
 use Rattle.zcld.specs.declared.outcome.Outcome.{Outcome}
-use Rattle.zcld.specs.declared.outcome.Outcome.TheVariants.{Done, Exited, Usage, Refused, ReadFault, WriteFault, OutOfMemory, BadFile, Stopped, Stuck, Spent}
+use Rattle.zcld.specs.declared.outcome.Outcome.TheVariants.{ReadFault, OutOfMemory}
 
 -- what a command does outside: it reads these files, and refuses them by their bytes, or not; it puts files, or not; it
 -- takes the console's input, or not; and it writes to the console
@@ -26,17 +26,9 @@ pub record OnlyRead (wanted : List Wanted) (before after : World) : Type 0 where
 
 -- why files can't be had and judged: reading one failed, or one is too long, or memory ran out
 abbrev pub UnreadCause : List Wanted → Shelf → Shelf → Outcome → Type 0
-UnreadCause wanted before after Done = ⊥
-UnreadCause wanted before after (Exited code) = ⊥
-UnreadCause wanted before after Usage = ⊥
-UnreadCause wanted before after (Refused i fault) = ⊥
 UnreadCause wanted before after ReadFault = AreUnread wanted before after
-UnreadCause wanted before after WriteFault = ⊥
 UnreadCause wanted before after OutOfMemory = ⊤
-UnreadCause wanted before after (BadFile fault) = ⊥
-UnreadCause wanted before after (Stopped reason pc) = ⊥
-UnreadCause wanted before after (Stuck place why) = ⊥
-UnreadCause wanted before after Spent = ⊥
+UnreadCause wanted before after other = ⊥
 
 -- the files can't be had, or memory ran out before they were judged
 pub record IsUnread (task : Task) (outcome : Outcome) (before after : World) : Type 0 where

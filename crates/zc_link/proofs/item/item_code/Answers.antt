@@ -1,9 +1,9 @@
 -- By what the item is.
-use Rattle.std.proofs.Common.{◌≡◌, ◌≢◌, ℕ, ℤ, inl, inr, Some, refl, sym, ap, ◌∙◌, subst, take, drop}
+use Rattle.std.proofs.Common.{◌≡◌, ◌≢◌, ℕ, ℤ, inl, inr, refl, sym, ap, ◌∙◌, subst, take, drop}
 use Rattle.psabi_reloc.specs.Parts.{hi20_of, lo12_of}
 use Rattle.psabi_sym.specs.Inputs.{parsed}
 use Rattle.block_cut.specs.Items.{size_at}
-use Rattle.rv_decode.specs.Bits.{add32, as_signed, as_word}
+use Rattle.rv_decode.specs.Bits.{as_signed, as_word}
 use Rattle.rv_decode.specs.declared.instr.Instr.TheVariants as instr
 use Rattle.rv_decode.specs.declared.instr.UpperOp.TheVariants.{Auipc}
 use Rattle.block_cut.specs.Relocs.{instr_in}
@@ -66,11 +66,8 @@ returns-in-Branch g c =
     let L = g.L.Layout.layout c.args.layout.now in
     let e = c.args.extent in
     let b = c.in-Branch in
-    let s = branch_stands L e.code.now e.at c.args.item e.address e.size c.requires.stands b.op b.first b.second b.to b.is in
-    let far = c.distance_to-distance.ensures.way s.address s.listed in
-    let same : taken c.distance_to-distance.result ≡ c.distance_to-distance.result = taken_is e.address s.address _ far in
     branch_written L e.code.now e.at c.args.item e.address e.size c.requires.stands b.op b.first b.second b.to b.is (taken c.distance_to-distance.result) _
-    (c.distance_to-distance.ensures.leads s.address s.listed ∙ ap (λ d. Some (add32 e.address d)) (sym same)) (c.branch_code.ensures b.op b.first b.second refl)
+    (λ b at. taken_is e.address b _ (c.distance_to-distance.ensures.way b at) ∙ c.distance_to-distance.ensures.way b at) (c.branch_code.ensures b.op b.first b.second refl)
 
 pub returns-then-extent-eq8 : goal.returns-then-extent-eq8
 returns-then-extent-eq8 g c =
