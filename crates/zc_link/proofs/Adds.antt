@@ -1,5 +1,5 @@
 -- Bytes of words, of padding and of objects: how many there are, and that they are bytes.
-use Rattle.std.proofs.Common.{◌≡◌, ℕ, zero, suc, ◌+◌, ◌*◌, ◌/◌, ◌%◌, ◌^◌, ◌<◌, ◌≤◌, List, [], ◌∷◌, ◌++◌, length, Bool, true, false, cond, eqb, refl, sym, ap, ◌∙◌, arith, get_or, length-append, take, drop}
+use Rattle.std.proofs.Common.{◌≡◌, ℕ, zero, suc, ◌+◌, ◌*◌, ◌/◌, ◌%◌, ◌^◌, ◌<◌, ◌≤◌, List, [], ◌∷◌, ◌++◌, length, Bool, true, false, cond, eqb, refl, sym, ap, ◌∙◌, subst, arith, get_or, length-append, take, drop}
 use Rattle.std.specs.Prelude.{replicate}
 use Rattle.std.proofs.lemmas.Bool.{eqb-false, eqb-true}
 use Rattle.std.proofs.lemmas.List.{drop-append-le, length-drop, length-take-le, take-append-le}
@@ -84,16 +84,29 @@ pub half_small : (code : List ℕ) (n : ℕ) → AreBytes code → half_in code 
 unfolding half_in
 half_small code n bytes = omega (arith, bytes n, bytes (n + 1))
 
--- its bytes are those from there on
-pub own_half : (code : List ℕ) (n : ℕ) → n + 2 ≤ length code → AreBytes code → bytes_from code n 2 ≡ half_bytes (half_in code n)
+-- two bytes from there on are those of their number, if they are bytes
+pub two_bytes :
+    (code : List ℕ) (n : ℕ) (two : List ℕ) → take 2 (drop n code) ≡ two → length two ≡ 2 → ((k : ℕ) → get_or two k 0 < 256)
+    → (half_in code n < 2 ^ 16) × (two ≡ half_bytes (half_in code n))
 unfolding half_in
-own_half [] n le bytes = absurd (omega (arith, le))
-own_half (x ∷ []) zero le bytes = absurd (omega (arith, le))
-own_half (x ∷ y ∷ code) zero le bytes =
-    let low : x ≡ (x + 256 * y) % 256 = omega (arith, bytes 0, bytes 1) in
-    let high : y ≡ (x + 256 * y) / 256 % 256 = omega (arith, bytes 0, bytes 1) in
-    λ i. low i ∷ high i ∷ []
-own_half (x ∷ code) (suc n) le bytes =
+two_bytes [] n two are long octets = absurd (let none : length two ≡ 0 = ap length (sym are) ∙ ap (λ l. length (take 2 l)) (drop_none n) in omega (arith, none, long))
+  where
+    drop_none : (m : ℕ) → drop {A = ℕ} m [] ≡ []
+    drop_none zero = refl
+    drop_none (suc m) = refl
+two_bytes (x ∷ []) zero two are long octets = absurd (let one : length two ≡ 1 = ap length (sym are) in omega (arith, one, long))
+two_bytes (x ∷ y ∷ code) zero two are long octets =
+    let bx : x < 256 = subst (λ l. get_or l 0 0 < 256) (sym are) (octets 0) in
+    let by : y < 256 = subst (λ l. get_or l 1 0 < 256) (sym are) (octets 1) in
+    let low : x ≡ (x + 256 * y) % 256 = omega (arith, bx, by) in
+    let high : y ≡ (x + 256 * y) / 256 % 256 = omega (arith, bx, by) in
+    (omega (arith, bx, by), sym are ∙ (λ i. low i ∷ high i ∷ []))
+two_bytes (x ∷ code) (suc n) two are long octets =
     let next : suc (n + 1) ≡ suc n + 1 = omega arith in
-    own_half code n (omega (arith, le)) (λ k. bytes (suc k))
-    ∙ ap (λ m. half_bytes (get_or (x ∷ code) (suc n) 0 + 256 * get_or (x ∷ code) m 0)) next
+    let rest = two_bytes code n two are long octets in
+    let same : half_in code n ≡ half_in (x ∷ code) (suc n) = ap (λ m. get_or (x ∷ code) (suc n) 0 + 256 * get_or (x ∷ code) m 0) next in
+    (subst (λ h. h < 2 ^ 16) same rest.0, rest.1 ∙ ap half_bytes same)
+
+-- so are those of a list of bytes
+pub own_half : (code : List ℕ) (n : ℕ) → n + 2 ≤ length code → AreBytes code → bytes_from code n 2 ≡ half_bytes (half_in code n)
+own_half code n le bytes = (two_bytes code n (bytes_from code n 2) refl (length-bytes_from code n 2 le) (take_are 2 (drop n code) (drop_are n code bytes))).1

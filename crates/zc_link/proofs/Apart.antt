@@ -17,7 +17,7 @@ use Rattle.zc_link.proofs.Bare.{bare_apart, bares_no_access}
 use Rattle.zc_link.proofs.Cuts.{stack_within}
 use Rattle.zc_link.proofs.GroupWay.{group_commits_apart, group_cuts_apart}
 use Rattle.zc_link.proofs.NoAccess.{NoAccess, cut_writes}
-use Rattle.zc_link.proofs.OnWay.{IsNoGroup, pair_bare, pair_group, pair_no_access, pair_short}
+use Rattle.zc_link.proofs.OnWay.{IsNoGroup, pair_bare, pair_group, pair_no_access, pair_expansion}
 use Rattle.zc_link.proofs.Start.{lead_bare}
 use Rattle.zc_link.proofs.WithByte.{all_dirtied_with, with_byte}
 
@@ -52,7 +52,7 @@ module _ {p : Program} {Named : Place → Type 0} {e : Image} {stretch : Place �
     where
       by_item : IsNoGroup (stretch r.core.place) → (o : Option (List Instr)) → item_expansion (p.item r.core.place) ≡ o → CutsApart p (FromPair p Named e (pace_of p stretch) r)
       by_item other None one = cuts_apart_from (pair_no_access laid r other one)
-      by_item other (Some is) are = group_cuts_apart laid.room (pair_short laid r other is are)
+      by_item other (Some is) are = group_cuts_apart laid.room (pair_expansion laid r other is are)
 
   pub lead_cuts_apart : CutsApart p (FromLoad p e)
   lead_cuts_apart = cuts_apart_from (bares_no_access laid.room (lead_bare laid))

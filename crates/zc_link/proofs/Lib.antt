@@ -46,9 +46,9 @@ pub mod TableJumps
 pub mod Stretches
 pub mod NoAccess
 pub mod Bare
-pub mod ShortKinds
-pub mod ShortsCome
-pub mod ShortsFrom
+pub mod ExpansionKinds
+pub mod ExpansionsCome
+pub mod ExpansionsFrom
 pub mod OnWay
 pub mod Apart
 pub mod Stub
@@ -90,7 +90,7 @@ pub mod ItemRegisters
 pub mod SizedPieces
 pub mod TablesLaid
 pub mod HalfNormals
-pub mod ShortItems
+pub mod CopiedHalves
 pub mod StretchesLaid
 pub mod Within
 pub mod ImageData

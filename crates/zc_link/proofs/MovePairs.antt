@@ -102,6 +102,10 @@ pub moves_straight : (order : MoveOrder) (a b : ℕ × ℕ) → a.1 < 32 → b.1
 moves_straight A0First a b low_a low_b = (low_a, (low_b, tt))
 moves_straight A1First a b low_a low_b = (low_b, (low_a, tt))
 
+pub moves_some : (order : MoveOrder) (a b : ℕ × ℕ) → 0 < length (move_ops order a b)
+moves_some A0First a b = omega arith
+moves_some A1First a b = omega arith
+
 module _ {p : Program} {Named : Place → Type 0} {e : Image} (room : Room p e) {r r' : PlainState} {cuts : ℕ → List Interrupt} {z : ZcState} (from : FromPlace p Named e r cuts z) where
   -- the program came to a place by both, whichever way
   moves_end :

@@ -34,8 +34,9 @@ use Rattle.zc_link.proofs.GroupFrom.{group_from}
 use Rattle.zc_link.proofs.GroupWay.{OnGroup}
 use Rattle.zc_link.proofs.Longs.{goes_over, known_taken}
 use Rattle.zc_link.proofs.NoAccess.{NoAccess, NoAccessAt, base_at, one_no_access}
-use Rattle.zc_link.proofs.ShortsCome.{one_turn, short_known}
-use Rattle.zc_link.proofs.ShortsFrom.{short_from}
+use Rattle.zc_link.proofs.ExpansionsCome.{expansion_laid}
+use Rattle.zc_link.proofs.ExpansionsFrom.{expansion_from}
+use Rattle.zc_link.proofs.Straight.{one_turn}
 
 -- ---- what the program goes on from
 
@@ -145,9 +146,9 @@ module _ {p : Program} {Named : Place → Type 0} {e : Image} {stretch : Place �
         (cases_lt 1 (commits_of p r.core (stretch r.core.place)))
 
     -- a push, a pop or two moves that the objects have as one halfword stands there, with its accesses in the stack
-    pub pair_short :
+    pub pair_expansion :
         IsNoGroup (stretch r.core.place) → (is : List Instr) → item_expansion (p.item r.core.place) ≡ Some is → (k : ℕ) (z : ZcState) → From k z → 0 < k → OnGroup laid.room k z.core
-    pair_short other is are k z from some =
+    pair_expansion other is are k z from some =
         by (stretch r.core.place) other (laid.each r.core.place z.core.pc from.sound.place) from.steps from.commits
       where
         no : {A : Type 0} (item : Item) → p.item r.core.place ≡ Some item → item_expansion (Some item) ≡ None → A
@@ -162,10 +163,10 @@ module _ {p : Program} {Named : Place → Type 0} {e : Image} {stretch : Place �
             → OnGroup laid.room k z.core
         by Alone single item steps one =
             let r1 = all_poked from.cells r in
-            let known = short_known p r.core.place (p.item r.core.place) is item are in
+            let known = expansion_laid p r.core.place (p.item r.core.place) is item are in
             let turn = one_turn p r1 from.after steps in
             subst (λ n. OnGroup laid.room n z.core) (sym one)
-            (short_from laid.room r from.after z from.cells from.sound from.are known.short is known.kind known.laid
+            (expansion_from laid.room r from.after z from.cells from.sound from.are known.short is known.kind known.laid
             (stepped_expansion p is r1 from.after (poked_exit from.cells r ∙ from.sound.alike.running) (ap (λ q. item_expansion (p.item q)) (poked_place from.cells r) ∙ are) turn))
         by (AlignOf count) single align steps one = no _ align.item refl
         by CallOf single call steps one = no _ call.item refl

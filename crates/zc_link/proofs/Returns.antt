@@ -34,7 +34,7 @@ use Rattle.zc_link.proofs.Pops.{Before, PopRun, split_before, whole_before}
 use Rattle.zc_link.proofs.Ready.{alike_moved, ready_moved}
 use Rattle.zc_link.proofs.Singles.{below_top}
 use Rattle.zc_link.proofs.Slots.{FrameFacts}
-use Rattle.zc_link.proofs.Straight.{AreStraight, CameTo, Follow, all_follow, on_way, ops_first, ops_last, straight_both}
+use Rattle.zc_link.proofs.Straight.{AreStraight, CameTo, Follow, all_follow, on_way, one_turn, ops_first, ops_last, straight_both}
 use Rattle.zc_link.proofs.Zeroed.{WithoutZero, final_regs, without_zero}
 
 -- ---- the items
@@ -72,6 +72,16 @@ pub record Lands (p : Program) (Named : Place → Type 0) (e : Image) (m r' : Pl
   pub came : CameTo to m r'
   pub address : e.address to ≡ Some (reg_in y 1)
   pub alike : (commits : ℕ) → Alike p Named e r'.core (record y { pc = reg_in y 1 / 2 * 2; commits = commits })
+
+-- where a pop that returns leads
+pub return_ended :
+    (ending : Ending) → return_ops ending ≡ return_to_ra ∷ [] → (z : ZcCore) (size : ℕ) (regs : List ℕ)
+    → (let y = record z { regs = final_regs ending regs } in ended ending (onward z size regs) ≡ record y { pc = reg_in y 1 / 2 * 2; commits = z.commits + 1 })
+return_ended GoesOn is z size regs = absurd cc
+return_ended Returns is z size regs = refl
+return_ended ZeroFirst is z size regs = refl
+return_ended ZeroBeforeRaise is z size regs = refl
+return_ended ZeroBeforeReturn is z size regs = refl
 
 module _ {p : Program} {Named : Place → Type 0} {e : Image} (room : Room p e) where
   -- by the change of its step
@@ -141,9 +151,7 @@ module _ {p : Program} {Named : Place → Type 0} {e : Image} (room : Room p e) 
         → p.item q ≡ Some (Op return_to_ra) → iterate (plain_turn p) 1 m ≡ Ok r' → Comes p Named e cuts k z r'
     return_ends end item h =
         let y : ZcCore = record b.now { regs = final_regs ending b.done.regs } in
-        let first = bind_ok (plain_turn p m) (iterate (plain_turn p) 0) r' h in
-        let last : first.0 ≡ r' = (let g = first.2 in cc) in
-        lands_ends end (return_lands m r' y b.done.alike (ap p.item came.place ∙ item) (first.1 ∙ ap Ok last))
+        lands_ends end (return_lands m r' y b.done.alike (ap p.item came.place ∙ item) (one_turn p m r' h))
 
 -- ---- all ends
 

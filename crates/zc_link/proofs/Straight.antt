@@ -113,6 +113,13 @@ pub record CameTo (q : Place) (r r' : PlainState) : Type 0 where
   pub input : r'.core.input ≡ r.core.input
   pub running : r'.core.exit ≡ None
 
+-- one turn is one step
+pub one_turn : (p : Program) (r r' : PlainState) → iterate (plain_turn p) 1 r ≡ Ok r' → plain_turn p r ≡ Ok r'
+one_turn p r r' h =
+    let first = bind_ok (plain_turn p r) (iterate (plain_turn p) 0) r' h in
+    let last : first.0 ≡ r' = (let rest = first.2 in cc) in
+    first.1 ∙ ap Ok last
+
 -- a step of one of them
 pub record StepOf (p : Program) (i : Instr) (r r1 : PlainState) : Type 0 where
   pub step : Stepped p r r1

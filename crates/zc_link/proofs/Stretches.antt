@@ -23,8 +23,9 @@ use Rattle.zc_link.proofs.GroupsCome.{group_comes, group_inside}
 use Rattle.zc_link.proofs.Items.{item_comes}
 use Rattle.zc_link.proofs.Longs.{long_comes}
 use Rattle.zc_link.proofs.Padding.{align_comes}
-use Rattle.zc_link.proofs.ShortsCome.{one_turn, short_comes, short_known}
+use Rattle.zc_link.proofs.ExpansionsCome.{expansion_comes, expansion_laid}
 use Rattle.zc_link.proofs.Singles.{FromSound}
+use Rattle.zc_link.proofs.Straight.{one_turn}
 use Rattle.zc_link.proofs.TableJumps.{table_comes}
 
 pub stretch_comes :
@@ -44,8 +45,8 @@ stretch_comes {p} {Named} {e} {r} {r'} {z} x room leads cuts are so same laid h 
     alone : (o : Option (List Instr)) → item_expansion (p.item r.core.place) ≡ o → ItemLaid p e r.core.place z.core.pc (p.item r.core.place) → iterate (plain_turn p) 1 r ≡ Ok r' → Comes p Named e cuts 1 z r'
     alone None single item g = item_comes room leads (from single g) (p.item r.core.place) refl item (from single g).step.does
     alone (Some is) expands item g =
-        let known = short_known p r.core.place (p.item r.core.place) is item expands in
-        short_comes room (record { sound = so; same = same; are = are }) known.short is known.kind known.laid
+        let known = expansion_laid p r.core.place (p.item r.core.place) is item expands in
+        expansion_comes room (record { sound = so; same = same; are = are }) known.short is known.kind known.laid
         (stepped_expansion p is r r' so.alike.running expands (one_turn p r r' g))
 
     by : (y : Stretch) → StretchLaid p e r.core.place z.core.pc y → iterate (plain_turn p) (span_of y) r ≡ Ok r' → Comes p Named e cuts (commits_of p r.core y) z r'

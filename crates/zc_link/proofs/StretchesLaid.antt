@@ -46,7 +46,7 @@ use Rattle.zc_link.specs.TextLayout.{TextLayout, behind, size_in, stretch_in}
 use Rattle.zc_link.specs.Written.{HoldsFront, HoldsPlace, HoldsUnit, IsCopied, IsLongBranch, IsLongCall, IsSpelled, IsWritten, SpellsMeant, WithWay}
 use Rattle.zc_link.specs.Meant.{meant}
 use Rattle.zc_link.specs.Values.{way}
-use Rattle.zc_link.proofs.Adds.{drop_are, take_are}
+use Rattle.zc_link.proofs.Adds.{drop_are, take_are, two_bytes}
 use Rattle.zc_link.proofs.WayLaws.{way_leads}
 use Rattle.zc_link.proofs.Fetched.{StandAt, half_at_address, nops_at, one_at, spelled_at, stand_at, stand_first, stand_next}
 use Rattle.zc_link.proofs.FrontLaws.{stub_elsewhere}
@@ -58,7 +58,7 @@ use Rattle.zc_link.proofs.LaidLaws.{address_small}
 use Rattle.zc_link.proofs.Lookup.{found_holds}
 use Rattle.zc_link.proofs.HalfNormals.{IsHalfNormal, half_normal}
 use Rattle.zc_link.proofs.PartLaws.{call_reaches}
-use Rattle.zc_link.proofs.ShortItems.{short_half, two_bytes}
+use Rattle.zc_link.proofs.CopiedHalves.{copied_half}
 use Rattle.zc_link.proofs.SizedPieces.{behind_item, size_is}
 use Rattle.zc_link.proofs.TablesLaid.{slot_holds}
 
@@ -345,7 +345,7 @@ module _ (L : TextLayout) (is_map : IsMap L.inputs.map) (laid : IsLaidOut L) (pr
       let bytes : List ℕ = bytes_from parts.text from h.size in
       let long : length bytes ≡ 2 =
       length-take-le h.size (drop from parts.text) (omega (arith, length-drop from parts.text, h.low, h.within)) ∙ size in
-      let number = short_half p q h.section half lies.is h.here in
+      let number = copied_half p q h.section half lies.is h.here in
       let two = two_bytes h.section.bytes q.offset bytes (sym h.written) long (take_are h.size (drop from parts.text) (drop_are from parts.text out.text_are)) in
       (size, subst (λ n. n < 2 ^ 16) (sym number) two.0, two.1 ∙ ap half_bytes (sym number))
 

@@ -1,6 +1,7 @@
--- The instructions that a halfword of Zcmp stands for are those of a group, which this halfword is, with no rest: its list is one of
--- those of pushes and pops, it moves sp by what this list may be moved by, and two registers that it sets are different (HasOperands).
-use Rattle.std.proofs.Common.{◌≡◌, ℕ, ◌-◌, List, [], ◌∷◌, ◌++◌, Some, refl, ap, ◌∙◌, arith}
+-- The instructions that a halfword of Zcmp expands to are those of a group without a rest, and the halfword is the one that is written
+-- for that group: its list is one that pushes and pops have, it moves sp by what one halfword may with that list, and two registers that
+-- it sets differ (HasOperands).
+use Rattle.std.proofs.Common.{◌≡◌, ℕ, ◌-◌, List, [], ◌∷◌, ◌++◌, Some, refl, sym, ap, ◌∙◌, arith}
 use Rattle.std.proofs.lemmas.Option.{none-some, same_Some}
 use Rattle.std.proofs.lemmas.List.{append_assoc}
 use Rattle.rv_decode.specs.declared.instr.Instr.{Instr}
@@ -11,15 +12,22 @@ use Rattle.zc_decode.specs.Operands.{HasOperands, IsFrameSize}
 use Rattle.zc_decode.specs.declared.short.Short.{Short}
 use Rattle.zc_decode.specs.declared.short.Short.TheVariants.{Base, Push, Pop, PopRet, PopRetz, MoveSa, MoveAs, TableJump}
 use Rattle.zc_decode.proofs.OperandLaws.{frame_range, spelled_operands}
+use Rattle.zc_machine.specs.Fetch.{Found}
+use Rattle.zc_link.specs.Image.{Image}
+use Rattle.zc_link.specs.Stretches.{OneAt}
 use Rattle.zc_link.specs.Groups.{A0First, GoesOn, GroupKind, IsFrame, IsGroup, MovesFromSaved, MovesToSaved, PopOf, PushOf, Returns, Slot, ZeroBeforeRaise, adjust_of, group_half, group_ops, group_rest, loads_of, lower_sp, raise_sp, rest_of, return_to_ra, slots_below, stores_of, zero_a0}
 
--- the instructions are those of a group without a rest, which the halfword is
-pub record IsShortKind (short : Short) (is : List Instr) : Type 0 where
+-- the instructions are those of a group without a rest, and the halfword is the group's
+pub record IsExpansionKind (short : Short) (is : List Instr) : Type 0 where
   pub kind : GroupKind
   pub group : IsGroup kind
   pub ops : group_ops kind ≡ is
   pub half : group_half kind ≡ short
   pub rest : group_rest kind ≡ 0
+
+-- where the halfword stands, the group's stands
+abbrev pub kind_at : {e : Image} {a : ℕ} {short : Short} {is : List Instr} → (k : IsExpansionKind short is) → OneAt e a short → OneAt e a (group_half k.kind)
+kind_at k at = record { size = at.size; here = at.here ∙ ap (λ s. Found s at.size) (sym k.half); small = at.small }
 
 stores_are : (top : ℕ) (rs : List ℕ) → stores_of (slots_below top rs) ≡ saves top rs
 stores_are top [] = refl
@@ -60,7 +68,7 @@ module _ (list adjust : ℕ) (size : IsFrameSize list adjust) where
 
 -- ---- kinds
 
-kind_of : (short : Short) → HasOperands short → (is : List Instr) → expansion short ≡ Some is → IsShortKind short is
+kind_of : (short : Short) → HasOperands short → (is : List Instr) → expansion short ≡ Some is → IsExpansionKind short is
 kind_of (Push list adjust) size is are = record {
   kind = PushOf list adjust (slots_below adjust (registers_of list));
   group = is_frame list adjust size;
@@ -94,6 +102,6 @@ kind_of (MoveAs first second) moved is are = record { kind = MovesFromSaved A0Fi
 kind_of (Base i) any is are = absurd (none-some is are)
 kind_of (TableJump index) any is are = absurd (none-some is are)
 
--- what a halfword spells, if it stands for several instructions
-pub short_kind : (half : ℕ) (short : Short) (is : List Instr) → decoded16 half ≡ Some short → expansion short ≡ Some is → IsShortKind short is
-short_kind half short is spells are = kind_of short (spelled_operands half short spells) is are
+-- what a halfword spells, if it expands to instructions
+pub expansion_kind : (half : ℕ) (short : Short) (is : List Instr) → decoded16 half ≡ Some short → expansion short ≡ Some is → IsExpansionKind short is
+expansion_kind half short is spells are = kind_of short (spelled_operands half short spells) is are

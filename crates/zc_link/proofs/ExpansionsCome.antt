@@ -24,7 +24,6 @@ use Rattle.sym_machine.proofs.StepLaws.{Ended, ended}
 use Rattle.zc_decode.specs.Halfwords.{decoded16}
 use Rattle.zc_decode.specs.declared.short.Short.{Short}
 use Rattle.zc_decode.specs.declared.short.Short.TheVariants.{Push}
-use Rattle.zc_machine.specs.Fetch.{Found}
 use Rattle.zc_link.specs.Groups.{A0First, A1First, Ending, GoesOn, GroupKind, IsGroup, MoveOrder, MovesFromSaved, MovesToSaved, PopOf, PushOf, Returns, Slot, ZeroBeforeRaise, ZeroBeforeReturn, ZeroFirst, adjust_of, group_half, group_ops, group_rest, loads_of, move_ops, ops_before_return, pop_kind, pop_ops, push_ops, raise_sp, rest_of, return_ops, return_to_ra, zero_a0}
 use Rattle.zc_link.specs.Image.{Image}
 use Rattle.zc_link.specs.IsSimulation.{Comes}
@@ -34,11 +33,11 @@ use Rattle.zc_link.specs.Stretches.{ItemLaid, OneAt, ShortLaid}
 use Rattle.zc_link.proofs.Commits.{zc_turns-one}
 use Rattle.zc_link.proofs.GroupEnds.{FromPlace, arrives}
 use Rattle.zc_link.proofs.InTurn.{AllDone, OneFirst, all_done, in_turn-apart, in_turn-silent, one_first, went_same}
-use Rattle.zc_link.proofs.MovePairs.{from_saved_end, moves_straight, saved_facts, to_saved_end}
+use Rattle.zc_link.proofs.MovePairs.{from_saved_end, moves_some, moves_straight, saved_facts, to_saved_end}
 use Rattle.zc_link.proofs.Pops.{Before, PopRun, whole_before}
 use Rattle.zc_link.proofs.Pushes.{Pushed, push_straight, pushed, whole_alike}
-use Rattle.zc_link.proofs.Returns.{Lands, before_straight, goes_ends, jump_lands, lands_ends}
-use Rattle.zc_link.proofs.ShortKinds.{IsShortKind, short_kind}
+use Rattle.zc_link.proofs.Returns.{Lands, before_straight, goes_ends, jump_lands, lands_ends, return_ended}
+use Rattle.zc_link.proofs.ExpansionKinds.{IsExpansionKind, expansion_kind, kind_at}
 use Rattle.zc_link.proofs.Slots.{FrameFacts, frame_facts}
 use Rattle.zc_link.proofs.Straight.{AreStraight, CameTo, Follow}
 use Rattle.zc_link.proofs.Zeroed.{final_regs, without_zero}
@@ -141,6 +140,16 @@ module _ {p : Program} {Named : Place → Type 0} {e : Image} (room : Room p e) 
       → Comes p Named e cuts 1 z r'
   pop_turns {list} {frame} {order} facts none ending half h listed = by ending half h listed
     where
+      -- one that returns
+      landed :
+          (k : Ending) (at : OneAt e z.core.pc (pop_kind k list (adjust_of list frame))) → return_ops k ≡ return_to_ra ∷ []
+          → in_turn p.map (ops_before_return k frame order ++ return_to_ra ∷ []) next r.core ≡ Went r'.core made → Comes p Named e cuts 1 z r'
+      landed k at is g =
+          let parts = in_turn-apart p.map (ops_before_return k frame order) (return_to_ra ∷ []) next r.core r'.core made g in
+          let b = pop_before room from next facts none k at parts.middle parts.first in
+          lands_ends room from k at (came room from next facts none k at parts.middle parts.first) b (return_ended k is b.now at.size b.done.regs)
+          (turn_lands parts.middle (record b.now { regs = final_regs k b.done.regs }) b.done.alike parts.rest)
+
       by :
           (k : Ending) → (at : OneAt e z.core.pc (pop_kind k list (adjust_of list frame))) → in_turn p.map (ops_before_return k frame order ++ return_ops k) next r.core ≡ Went r'.core made
           → e.address next ≡ Some (z.core.pc + at.size) → Comes p Named e cuts 1 z r'
@@ -149,26 +158,10 @@ module _ {p : Program} {Named : Place → Type 0} {e : Image} (room : Room p e) 
           let last = went_same parts.middle r'.core [] made parts.rest in
           goes_ends room from GoesOn at (came room from next facts none GoesOn at parts.middle parts.first) (pop_before room from next facts none GoesOn at parts.middle parts.first) refl refl
           (λ j. record { core = last j; events = sym (none_made [] parts.middle parts.rest) j }) to
-      by Returns at g to =
-          let parts = in_turn-apart p.map (ops_before_return Returns frame order) (return_to_ra ∷ []) next r.core r'.core made g in
-          let b = pop_before room from next facts none Returns at parts.middle parts.first in
-          lands_ends room from Returns at (came room from next facts none Returns at parts.middle parts.first) b refl
-          (turn_lands parts.middle (record b.now { regs = final_regs Returns b.done.regs }) b.done.alike parts.rest)
-      by ZeroFirst at g to =
-          let parts = in_turn-apart p.map (ops_before_return ZeroFirst frame order) (return_to_ra ∷ []) next r.core r'.core made g in
-          let b = pop_before room from next facts none ZeroFirst at parts.middle parts.first in
-          lands_ends room from ZeroFirst at (came room from next facts none ZeroFirst at parts.middle parts.first) b refl
-          (turn_lands parts.middle (record b.now { regs = final_regs ZeroFirst b.done.regs }) b.done.alike parts.rest)
-      by ZeroBeforeRaise at g to =
-          let parts = in_turn-apart p.map (ops_before_return ZeroBeforeRaise frame order) (return_to_ra ∷ []) next r.core r'.core made g in
-          let b = pop_before room from next facts none ZeroBeforeRaise at parts.middle parts.first in
-          lands_ends room from ZeroBeforeRaise at (came room from next facts none ZeroBeforeRaise at parts.middle parts.first) b refl
-          (turn_lands parts.middle (record b.now { regs = final_regs ZeroBeforeRaise b.done.regs }) b.done.alike parts.rest)
-      by ZeroBeforeReturn at g to =
-          let parts = in_turn-apart p.map (ops_before_return ZeroBeforeReturn frame order) (return_to_ra ∷ []) next r.core r'.core made g in
-          let b = pop_before room from next facts none ZeroBeforeReturn at parts.middle parts.first in
-          lands_ends room from ZeroBeforeReturn at (came room from next facts none ZeroBeforeReturn at parts.middle parts.first) b refl
-          (turn_lands parts.middle (record b.now { regs = final_regs ZeroBeforeReturn b.done.regs }) b.done.alike parts.rest)
+      by Returns at g to = landed Returns at refl g
+      by ZeroFirst at g to = landed ZeroFirst at refl g
+      by ZeroBeforeRaise at g to = landed ZeroBeforeRaise at refl g
+      by ZeroBeforeReturn at g to = landed ZeroBeforeReturn at refl g
 
   -- ---- all kinds
 
@@ -180,61 +173,44 @@ module _ {p : Program} {Named : Place → Type 0} {e : Image} (room : Room p e) 
   kind_turns (MovesToSaved order first second) is none half h listed =
       let ops = move_ops order (first, 10) (second, 11) in
       let straight = moves_straight order (first, 10) (second, 11) (omega arith) (omega arith) in
-      let some : 0 < length ops = two order in
+      let some = moves_some order (first, 10) (second, 11) in
       to_saved_end room from order first second is.0 is.1 is.2 (record { half = half; ends = refl }) (turn_follow ops straight some h) next (turn_came ops straight some h) listed
-    where
-      two : (o : MoveOrder) → 0 < length (move_ops o (first, 10) (second, 11))
-      two A0First = omega arith
-      two A1First = omega arith
   kind_turns (MovesFromSaved order first second) is none half h listed =
       let ops = move_ops order (10, first) (11, second) in
       let straight = moves_straight order (10, first) (11, second) (saved_facts first is.0).low (saved_facts second is.1).low in
-      let some : 0 < length ops = two order in
+      let some = moves_some order (10, first) (11, second) in
       from_saved_end room from order first second is.0 is.1 (record { half = half; ends = refl }) (turn_follow ops straight some h) next (turn_came ops straight some h) listed
-    where
-      two : (o : MoveOrder) → 0 < length (move_ops o (10, first) (11, second))
-      two A0First = omega arith
-      two A1First = omega arith
 
--- the step of an item alone
-pub one_turn : (p : Program) (r r' : PlainState) → iterate (plain_turn p) 1 r ≡ Ok r' → plain_turn p r ≡ Ok r'
-one_turn p r r' h =
-    let first = bind_ok (plain_turn p r) (iterate (plain_turn p) 0) r' h in
-    let last : first.0 ≡ r' = (let rest = first.2 in cc) in
-    first.1 ∙ ap Ok last
-
--- what is laid of an item that is several instructions
-pub record ShortKnown (p : Program) (e : Image) (q : Place) (a : ℕ) (is : List Instr) : Type 0 where
+-- what is laid of an item that expands to instructions
+pub record ExpansionLaid (p : Program) (e : Image) (q : Place) (a : ℕ) (is : List Instr) : Type 0 where
   pub short : Short
-  pub kind : IsShortKind short is
+  pub kind : IsExpansionKind short is
   pub laid : ShortLaid p e q a short
 
-pub short_known : (p : Program) {e : Image} {a : ℕ} (q : Place) (o : Option Item) (is : List Instr) → ItemLaid p e q a o → item_expansion o ≡ Some is → ShortKnown p e q a is
-short_known p q None is laid are = absurd (none-some is are)
-short_known p q (Some (Op i)) is laid are = absurd (none-some is are)
-short_known p q (Some (Hi i t)) is laid are = absurd (none-some is are)
-short_known p q (Some (Lo i t)) is laid are = absurd (none-some is are)
-short_known p q (Some (PcHi i t)) is laid are = absurd (none-some is are)
-short_known p q (Some (PcLo i from)) is laid are = absurd (none-some is are)
-short_known p q (Some (Branch op first second to)) is laid are = absurd (none-some is are)
-short_known p q (Some (Jump rd to)) is laid are = absurd (none-some is are)
-short_known p q (Some (Call rd temp to)) is laid are = absurd (none-some is are)
-short_known p q (Some (Align bytes)) is laid are = absurd (none-some is are)
-short_known p q (Some (Word t)) is laid are = absurd (none-some is are)
-short_known p q (Some (Raw word)) is laid are = absurd (none-some is are)
-short_known p {e} {a} q (Some (RawShort half)) is laid are = by (decoded16 half) refl are
+pub expansion_laid : (p : Program) {e : Image} {a : ℕ} (q : Place) (o : Option Item) (is : List Instr) → ItemLaid p e q a o → item_expansion o ≡ Some is → ExpansionLaid p e q a is
+expansion_laid p q None is laid are = absurd (none-some is are)
+expansion_laid p q (Some (Op i)) is laid are = absurd (none-some is are)
+expansion_laid p q (Some (Hi i t)) is laid are = absurd (none-some is are)
+expansion_laid p q (Some (Lo i t)) is laid are = absurd (none-some is are)
+expansion_laid p q (Some (PcHi i t)) is laid are = absurd (none-some is are)
+expansion_laid p q (Some (PcLo i from)) is laid are = absurd (none-some is are)
+expansion_laid p q (Some (Branch op first second to)) is laid are = absurd (none-some is are)
+expansion_laid p q (Some (Jump rd to)) is laid are = absurd (none-some is are)
+expansion_laid p q (Some (Call rd temp to)) is laid are = absurd (none-some is are)
+expansion_laid p q (Some (Align bytes)) is laid are = absurd (none-some is are)
+expansion_laid p q (Some (Word t)) is laid are = absurd (none-some is are)
+expansion_laid p q (Some (Raw word)) is laid are = absurd (none-some is are)
+expansion_laid p {e} {a} q (Some (RawShort half)) is laid are = by (decoded16 half) refl are
   where
-    by : (d : Option Short) → decoded16 half ≡ d → option_and_then expansion d ≡ Some is → ShortKnown p e q a is
+    by : (d : Option Short) → decoded16 half ≡ d → option_and_then expansion d ≡ Some is → ExpansionLaid p e q a is
     by None spells h = absurd (none-some is h)
-    by (Some short) spells h = record { short = short; kind = short_kind half short is spells h; laid = laid short spells }
-short_known p q (Some (RawPair first second)) is laid are = absurd (none-some is are)
+    by (Some short) spells h = record { short = short; kind = expansion_kind half short is spells h; laid = laid short spells }
+expansion_laid p q (Some (RawPair first second)) is laid are = absurd (none-some is are)
 
--- the step of such an item
-pub short_comes :
+-- its step
+pub expansion_comes :
     {p : Program} {Named : Place → Type 0} {e : Image} (room : Room p e) {r r' : PlainState} {cuts : ℕ → List Interrupt} {z : ZcState} → FromPlace p Named e r cuts z
-    → (short : Short) (is : List Instr) → IsShortKind short is → ShortLaid p e r.core.place z.core.pc short → SteppedExpansion p is r r' → Comes p Named e cuts 1 z r'
-short_comes {p} {Named} {e} room {r} {r'} {cuts} {z} from short is k laid step =
-    let half : OneAt e z.core.pc (group_half k.kind) =
-    record { size = laid.at.size; here = laid.at.here ∙ ap (λ s. Found s laid.at.size) (sym k.half); small = laid.at.small } in
-    kind_turns room from (p.next r.core.place) step.made step.events k.kind k.group k.rest half
+    → (short : Short) (is : List Instr) → IsExpansionKind short is → ShortLaid p e r.core.place z.core.pc short → SteppedExpansion p is r r' → Comes p Named e cuts 1 z r'
+expansion_comes {p} {Named} {e} room {r} {r'} {cuts} {z} from short is k laid step =
+    kind_turns room from (p.next r.core.place) step.made step.events k.kind k.group k.rest (kind_at k laid.at)
     (ap (λ l. in_turn p.map l (p.next r.core.place) r.core) k.ops ∙ step.went) laid.next

@@ -1,9 +1,8 @@
--- Two bytes that are copied: the item that they are holds their number, and a section's two bytes that stand in an image as bytes are
--- those of their number.
-use Rattle.std.proofs.Common.{◌≡◌, ℕ, ℤ, zero, suc, ◌+◌, ◌*◌, ◌/◌, ◌%◌, ◌^◌, ◌<◌, List, [], ◌∷◌, length, Option, Some, None, Bool, true, false, cond, refl, sym, ap, ◌∙◌, subst, arith, eqb, get_or, take, drop}
+-- Two bytes of the objects that are copied: the item there holds the number of these bytes.
+use Rattle.std.proofs.Common.{◌≡◌, ℕ, ℤ, ◌+◌, List, Option, Some, None, Bool, true, false, cond, refl, sym, ap, ◌∙◌, subst, eqb}
 use Rattle.std.specs.Option.{option_map_or}
 use Rattle.std.proofs.lemmas.Option.{same_Some}
-use Rattle.zc_base.specs.Fields.{half_bytes, half_in, word_in}
+use Rattle.zc_base.specs.Fields.{half_in, word_in}
 use Rattle.zc_base.specs.declared.place.Place.{Place}
 use Rattle.elf32_read.specs.Parts.{ObjectParts, SectionParts}
 use Rattle.elf32_read.specs.declared.reloc.Reloc.{Reloc}
@@ -22,7 +21,7 @@ use Rattle.block_cut.specs.declared.item.Item.TheVariants.{Op, Hi, Lo, PcHi, PcL
 use Rattle.block_cut.proofs.ItemLaws.{item_found}
 
 module _ (bytes : List ℕ) (n : ℕ) where
-  -- what is said of the number of two bytes
+  -- what is said of an item at an offset of these bytes: if it is two bytes that are copied, it holds their number
   abbrev Holds : Item → Type 0
   Holds (RawShort half) = half ≡ half_in bytes n
   Holds other = Unit {0}
@@ -134,34 +133,11 @@ item_holds inputs q None size bytes =
     spelled_holds bytes q.offset inputs.objects q (instr_in size bytes q.offset) (raw_in size bytes q.offset) (raw_holds bytes q.offset size)
 item_holds inputs q (Some r) size bytes = known_holds bytes q.offset (kind_of r.kind) r.addend (target_of inputs q.object r)
 
--- the number is that of the bytes there
-pub short_half :
+-- by a place's item and its section
+pub copied_half :
     (inputs : ParsedInputs) (q : Place) (s : SectionParts) (half : ℕ) → item_at inputs q ≡ Some (RawShort half) → code_at inputs.objects q ≡ Some s → half ≡ half_in s.bytes q.offset
-short_half inputs q s half is code =
+copied_half inputs q s half is code =
     let found = item_found inputs q (RawShort half) is in
     let same : found.section ≡ s = same_Some found.section s (sym found.code ∙ code) in
     let here = subst (Holds found.section.bytes q.offset) found.item (item_holds inputs q (reloc_on found.section q.offset) (size_on found.section q.offset) found.section.bytes) in
     here ∙ ap (λ (t : SectionParts). half_in t.bytes q.offset) same
-
--- two bytes of a list that are bytes
-pub two_bytes :
-    (code : List ℕ) (n : ℕ) (two : List ℕ) → take 2 (drop n code) ≡ two → length two ≡ 2 → ((k : ℕ) → get_or two k 0 < 256)
-    → (half_in code n < 2 ^ 16) × (two ≡ half_bytes (half_in code n))
-unfolding half_in
-two_bytes [] n two are long octets = absurd (let none : length two ≡ 0 = ap length (sym are) ∙ ap (λ l. length (take 2 l)) (drop_none n) in omega (arith, none, long))
-  where
-    drop_none : (m : ℕ) → drop {A = ℕ} m [] ≡ []
-    drop_none zero = refl
-    drop_none (suc m) = refl
-two_bytes (x ∷ []) zero two are long octets = absurd (let one : length two ≡ 1 = ap length (sym are) in omega (arith, one, long))
-two_bytes (x ∷ y ∷ code) zero two are long octets =
-    let bx : x < 256 = subst (λ l. get_or l 0 0 < 256) (sym are) (octets 0) in
-    let by : y < 256 = subst (λ l. get_or l 1 0 < 256) (sym are) (octets 1) in
-    let low : x ≡ (x + 256 * y) % 256 = omega (arith, bx, by) in
-    let high : y ≡ (x + 256 * y) / 256 % 256 = omega (arith, bx, by) in
-    (omega (arith, bx, by), sym are ∙ (λ i. low i ∷ high i ∷ []))
-two_bytes (x ∷ code) (suc n) two are long octets =
-    let next : suc (n + 1) ≡ suc n + 1 = omega arith in
-    let rest = two_bytes code n two are long octets in
-    let same : half_in code n ≡ half_in (x ∷ code) (suc n) = ap (λ m. get_or (x ∷ code) (suc n) 0 + 256 * get_or (x ∷ code) m 0) next in
-    (subst (λ h. h < 2 ^ 16) same rest.0, rest.1 ∙ ap half_bytes same)

@@ -1,5 +1,5 @@
--- From a sound pair where a push, a pop or two moves stand as one halfword, that is left, with its accesses in the stack: the program's
--- step, with whatever cells of data written, shows that its frame lies there.
+-- From a sound pair, where the objects have a push, a pop or two moves as one halfword, this one instruction is left to commit, with its
+-- accesses in the stack: the program's step, whatever was written to cells of data before it, shows that the frame lies there.
 use Rattle.std.proofs.Common.{◌≡◌, ℕ, ◌+◌, ◌^◌, ◌<◌, List, [], ◌++◌, refl, sym, ap, ◌∙◌, subst, arith}
 use Rattle.std.specs.Prelude.{All}
 use Rattle.zc_base.specs.declared.place.Place.{Place}
@@ -12,7 +12,6 @@ use Rattle.sym_machine.specs.Step.{Went, in_turn}
 use Rattle.sym_machine.proofs.RunLaws.{SteppedExpansion}
 use Rattle.zc_decode.specs.declared.short.Short.{Short}
 use Rattle.zc_decode.specs.declared.short.Short.TheVariants.{MoveAs, MoveSa, Push}
-use Rattle.zc_machine.specs.Fetch.{Found}
 use Rattle.zc_link.specs.DataApart.{IsCell, all_poked}
 use Rattle.zc_link.specs.Groups.{GroupKind, IsGroup, MovesFromSaved, MovesToSaved, PopOf, PushOf, adjust_of, group_half, group_ops, group_rest, ops_before_return, pop_kind, push_ops, rest_of, return_ops}
 use Rattle.zc_link.specs.Image.{Image}
@@ -26,7 +25,7 @@ use Rattle.zc_link.proofs.InTurn.{all_done, in_turn-apart}
 use Rattle.zc_link.proofs.Pops.{pop_top}
 use Rattle.zc_link.proofs.Pushes.{push_deep, push_straight}
 use Rattle.zc_link.proofs.Returns.{before_straight}
-use Rattle.zc_link.proofs.ShortKinds.{IsShortKind}
+use Rattle.zc_link.proofs.ExpansionKinds.{IsExpansionKind, kind_at}
 use Rattle.zc_link.proofs.Slots.{frame_facts}
 use Rattle.zc_link.proofs.Zeroed.{final_sp, without_zero}
 
@@ -54,15 +53,13 @@ module _ {p : Program} {Named : Place → Type 0} {e : Image} (room : Room p e) 
   left_by (MovesFromSaved order first second) is none s r' made y next pc at h al = one_left room (MoveAs first second) (reg_in y 2) pc at (AMoveAs first second)
 
   -- from a sound pair, if the program isn't stuck on the way with these cells written
-  pub short_from :
-      (r after : PlainState) (z : ZcState) (cells : List (ℕ × ℕ)) → Sound p Named e r.core z → All (λ c. IsCell p c.0 × (c.1 < 256)) cells → (short : Short) (is : List Instr) → IsShortKind short is
+  pub expansion_from :
+      (r after : PlainState) (z : ZcState) (cells : List (ℕ × ℕ)) → Sound p Named e r.core z → All (λ c. IsCell p c.0 × (c.1 < 256)) cells → (short : Short) (is : List Instr) → IsExpansionKind short is
       → ShortLaid p e r.core.place z.core.pc short → SteppedExpansion p is (all_poked cells r) after → OnGroup room 1 z.core
-  short_from r after z cells so are short is k laid step =
+  expansion_from r after z cells so are short is k laid step =
       let q = all_poked_alike room cells r z.core are so.alike in
-      let half : OneAt e z.core.pc (group_half k.kind) =
-      record { size = laid.at.size; here = laid.at.here ∙ ap (λ s. Found s laid.at.size) (sym k.half); small = laid.at.small } in
       let next = p.next (all_poked cells r).core.place in
-      let left = left_by k.kind k.group k.rest (all_poked cells r).core after step.made q.y next z.core.pc half
+      let left = left_by k.kind k.group k.rest (all_poked cells r).core after step.made q.y next z.core.pc (kind_at k laid.at)
       (ap (λ l. in_turn p.map l next (all_poked cells r).core) k.ops ∙ step.went) q.alike in
       record {
         ready = alike_ready room so.alike;
