@@ -72,21 +72,22 @@ HasDataRoom p = data_end p ≤ p.map.data_low + 0x40_0000
 -- ---- what is copied
 
 -- where bytes are those of the objects, or an address, they are copied as they should be
-copied_item : (A B : Place → Option ℕ) (items : Place → Option Item) (own bytes : ℕ → List ℕ) (a size n : ℕ) (item : Item) → A ≡ B → HasForm A a size n item
-    → IsWritten A items own a n item (bytes n) → ItemCopied B own bytes item
-copied_item A B items own bytes a size n (Op i) same form w = tt
-copied_item A B items own bytes a size n (Hi i t) same form w = tt
-copied_item A B items own bytes a size n (Lo i t) same form w = tt
-copied_item A B items own bytes a size n (PcHi i t) same form w = tt
-copied_item A B items own bytes a size n (PcLo i from) same form w = tt
-copied_item A B items own bytes a size n (Branch op first second to) same form w = tt
-copied_item A B items own bytes a size n (Jump rd to) same form w = tt
-copied_item A B items own bytes a size n (Call rd temp to) same form w = tt
-copied_item A B items own bytes a size n (Align k) same form w = tt
-copied_item A B items own bytes a size n (Word t) same form w = (w.0, ap (λ f. target_value f t) (sym same) ∙ w.1, ap bytes (sym form) ∙ w.2)
-copied_item A B items own bytes a size n (Raw word) same form w = ap bytes (sym form) ∙ w
-copied_item A B items own bytes a size n (RawShort half) same form w = ap bytes (sym form) ∙ w
-copied_item A B items own bytes a size n (RawPair first second) same form w = ap bytes (sym form) ∙ w
+copied_item :
+    (L : TextLayout) (B : Place → Option ℕ) (own bytes : ℕ → List ℕ) (a size n : ℕ) (item : Item) → L.address ≡ B → HasForm L.address a size n item
+    → IsWritten L own a n item (bytes n) → ItemCopied B own bytes item
+copied_item L B own bytes a size n (Op i) same form w = tt
+copied_item L B own bytes a size n (Hi i t) same form w = tt
+copied_item L B own bytes a size n (Lo i t) same form w = tt
+copied_item L B own bytes a size n (PcHi i t) same form w = tt
+copied_item L B own bytes a size n (PcLo i from) same form w = tt
+copied_item L B own bytes a size n (Branch op first second to) same form w = tt
+copied_item L B own bytes a size n (Jump rd to) same form w = tt
+copied_item L B own bytes a size n (Call rd temp to) same form w = tt
+copied_item L B own bytes a size n (Align k) same form w = tt
+copied_item L B own bytes a size n (Word t) same form w = (w.0, ap (λ f. target_value f t) (sym same) ∙ w.1, ap bytes (sym form) ∙ w.2)
+copied_item L B own bytes a size n (Raw word) same form w = ap bytes (sym form) ∙ w
+copied_item L B own bytes a size n (RawShort half) same form w = ap bytes (sym form) ∙ w
+copied_item L B own bytes a size n (RawPair first second) same form w = ap bytes (sym form) ∙ w
 
 -- so are jumps and calls, of which nothing is copied
 jump_copied :
@@ -392,9 +393,9 @@ module _ (L : TextLayout) (ready : IsReady L.inputs) (lies : IsLaidOut L) (flags
           let same : h.section ≡ s = cc (sym h.here ∙ at) in
           let one : i ≡ item = cc (sym form.is ∙ is) in
           subst (ItemCopied (listed_address (place_list (image_bytes parts))) (bytes_from s.bytes q.offset) (bytes_from text (a - inputs.map.text))) one
-          (copied_item A (listed_address (place_list (image_bytes parts))) (item_at p3) (bytes_from s.bytes q.offset) (bytes_from text (a - inputs.map.text)) a (size_at p3.objects q) h.size i addresses
+          (copied_item L (listed_address (place_list (image_bytes parts))) (bytes_from s.bytes q.offset) (bytes_from text (a - inputs.map.text)) a (size_at p3.objects q) h.size i addresses
           (subst (λ n. HasForm A a (size_at p3.objects q) n i) size form.form)
-          (subst (λ t. IsWritten A (item_at p3) (bytes_from t.bytes q.offset) a h.size i (bytes_from text (a - inputs.map.text) h.size)) same h.written))
+          (subst (λ t. IsWritten L (bytes_from t.bytes q.offset) a h.size i (bytes_from text (a - inputs.map.text) h.size)) same h.written))
       of q a s item (OneGroup g) at is form h =
           let first = group_op inputs none q g form.is in
           let one : Op first.0 ≡ item = cc (sym first.1 ∙ is) in

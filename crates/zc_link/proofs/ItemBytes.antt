@@ -35,7 +35,7 @@ use Rattle.zc_link.specs.Meant.{meant, way_on}
 use Rattle.zc_link.specs.TextLayout.{TextLayout}
 use Rattle.zc_link.specs.Values.{target_value, way}
 use Rattle.zc_link.specs.Codes.{IsBranchSpelled}
-use Rattle.zc_link.specs.Written.{IsCopied, IsLongBranch, IsSpelled, IsWritten, SpellsMeant, SpellsWord, padding}
+use Rattle.zc_link.specs.Written.{IsCopied, IsLongBranch, IsOpWritten, IsSpelled, IsWritten, SpellsMeant, SpellsWord, padding}
 use Rattle.zc_link.proofs.HalfNormals.{normal_in}
 use Rattle.zc_link.proofs.Adds.{AreBytes, bytes_append, drop_are, half_are, half_small, length-bytes_from, length-padding, own_half, padding_are, take_are, word_are}
 
@@ -81,17 +81,17 @@ module _ (L : TextLayout) (code : List ℕ) (q : Place) (item : Item) (a n : ℕ
   abbrev Here : List ℕ → Type 0
   Here bytes = WrittenHere L code q (OneItem item) a n bytes
 
-  made : (bytes : List ℕ) → AreSized n bytes → IsWritten L.address it own a n item bytes → Here bytes
+  made : (bytes : List ℕ) → AreSized n bytes → IsWritten L own a n item bytes → Here bytes
   made bytes sized written = record { long = sized.0; written = written; octets = sized.1 }
 
   -- an ALIGN's padding
   pub align_written : (k : ℕ) → item ≡ Align k → Here (padding n)
   align_written k is =
-      made (padding n) (length-padding n here.even, padding_are n) (subst (λ i. IsWritten L.address it own a n i (padding n)) (sym is) refl)
+      made (padding n) (length-padding n here.even, padding_are n) (subst (λ i. IsWritten L own a n i (padding n)) (sym is) refl)
 
   -- what is copied unread
   copied :
-      (m : ℕ) (bytes : List ℕ) → n ≡ m → size ≡ m → IsWritten L.address it own a n item bytes → bytes ≡ own m → AreBytes code
+      (m : ℕ) (bytes : List ℕ) → n ≡ m → size ≡ m → IsWritten L own a n item bytes → bytes ≡ own m → AreBytes code
       → Here bytes
   copied m bytes takes sized written are octets =
       made bytes (
@@ -104,28 +104,28 @@ module _ (L : TextLayout) (code : List ℕ) (q : Place) (item : Item) (a n : ℕ
     pub raw_written : (w : ℕ) → item ≡ Raw w → bytes ≡ own 4 → Here bytes
     raw_written w is are =
         copied 4 bytes (subst (HasForm L.address a size n) is here.form) (subst (λ i. HasOwnSize i size) is here.size)
-        (subst (λ i. IsWritten L.address it own a n i bytes) (sym is) are) are octets
+        (subst (λ i. IsWritten L own a n i bytes) (sym is) are) are octets
 
     pub short_written : (h : ℕ) → item ≡ RawShort h → bytes ≡ own 2 → Here bytes
     short_written h is are =
         copied 2 bytes (subst (HasForm L.address a size n) is here.form) (subst (λ i. HasOwnSize i size) is here.size)
-        (subst (λ i. IsWritten L.address it own a n i bytes) (sym is) are) are octets
+        (subst (λ i. IsWritten L own a n i bytes) (sym is) are) are octets
 
     pub pair_written : (w v : ℕ) → item ≡ RawPair w v → bytes ≡ own 8 → Here bytes
     pair_written w v is are =
         copied 8 bytes (subst (HasForm L.address a size n) is here.form) (subst (λ i. HasOwnSize i size) is here.size)
-        (subst (λ i. IsWritten L.address it own a n i bytes) (sym is) are) are octets
+        (subst (λ i. IsWritten L own a n i bytes) (sym is) are) are octets
 
   -- ---- one word
 
   -- a word that spells what the item is here
   pub word_written :
       (j : Item) (i : Instr) (word : ℕ) → item ≡ j
-      → ((bytes : List ℕ) → SpellsMeant L.address it a n j bytes → IsWritten L.address it own a n j bytes) → meant L.address it a j ≡ Some i
+      → ((bytes : List ℕ) → SpellsMeant L a n j bytes → IsWritten L own a n j bytes) → meant L.address it a j ≡ Some i
       → n ≡ 4 → word < 2 ^ 32 → decoded word ≡ Some i → Here (word_bytes word)
   word_written j i word is row means four small spells =
       made (word_bytes word) (sym four, word_are word)
-      (subst (λ k. IsWritten L.address it own a n k (word_bytes word)) (sym is)
+      (subst (λ k. IsWritten L own a n k (word_bytes word)) (sym is)
       (row (word_bytes word)
       (record { instr = i; is = means; spelled = inl (four, record { word = word; small = small; are = refl; spells = spells }) })))
 
@@ -148,12 +148,12 @@ module _ (L : TextLayout) (code : List ℕ) (q : Place) (item : Item) (a n : ℕ
     pub branch_written :
         (d : ℤ) (bytes : List ℕ) → ((b : ℕ) → L.address to ≡ Some b → d ≡ as_signed (way a b)) → IsBranchSpelled n bytes op first second d → Here bytes
     branch_written d bytes far spelled =
-        made bytes (branch_sized n bytes op first second d spelled) (subst (λ i. IsWritten L.address it own a n i bytes) (sym is) (by spelled))
+        made bytes (branch_sized n bytes op first second d spelled) (subst (λ i. IsWritten L own a n i bytes) (sym is) (by spelled))
       where
         same : d ≡ as_signed (way a branch_stands.address)
         same = far branch_stands.address branch_stands.listed
 
-        by : IsBranchSpelled n bytes op first second d → IsWritten L.address it own a n (Branch op first second to) bytes
+        by : IsBranchSpelled n bytes op first second d → IsWritten L own a n (Branch op first second to) bytes
         by (inl one) =
             inl (record { instr = instr.Branch op first second d; is = leads_by (instr.Branch op first second) to branch_stands.address d branch_stands.listed same; spelled = one })
         by (inr long) =
@@ -168,7 +168,7 @@ module _ (L : TextLayout) (code : List ℕ) (q : Place) (item : Item) (a n : ℕ
     jump_written d bytes far spelled =
         let same = far jump_stands.address jump_stands.listed in
         made bytes (spelled_sized n bytes (instr.Jal rd d) spelled)
-        (subst (λ i. IsWritten L.address it own a n i bytes) (sym is)
+        (subst (λ i. IsWritten L own a n i bytes) (sym is)
         (record { instr = instr.Jal rd d; is = leads_by (instr.Jal rd) to jump_stands.address d jump_stands.listed same; spelled = spelled }))
 
   module _ (rd temp : ℕ) (to : Place) (is : item ≡ Call rd temp to) where
@@ -185,7 +185,7 @@ module _ (L : TextLayout) (code : List ℕ) (q : Place) (item : Item) (a n : ℕ
     call_jump_written d bytes far spelled =
         let same = far call_stands.address call_stands.listed in
         made bytes (spelled_sized n bytes (instr.Jal rd d) spelled)
-        (subst (λ i. IsWritten L.address it own a n i bytes) (sym is)
+        (subst (λ i. IsWritten L own a n i bytes) (sym is)
         (inl (record { instr = instr.Jal rd d; is = leads_by (instr.Jal rd) to call_stands.address d call_stands.listed same; spelled = spelled })))
 
     -- as its two words
@@ -195,7 +195,7 @@ module _ (L : TextLayout) (code : List ℕ) (q : Place) (item : Item) (a n : ℕ
     call_written bytes eight upper lower =
         let both : bytes ≡ take 4 bytes ++ drop 4 bytes = sym (take-append-drop 4 bytes) in
         made bytes (both_sized n bytes (take 4 bytes) (drop 4 bytes) _ _ eight both upper lower)
-        (subst (λ i. IsWritten L.address it own a n i bytes) (sym is)
+        (subst (λ i. IsWritten L own a n i bytes) (sym is)
         (inr (
           eight,
           (
@@ -235,12 +235,21 @@ module _ (L : TextLayout) (code : List ℕ) (q : Place) (item : Item) (a n : ℕ
 
     pub op_written : (word : ℕ) → word < 2 ^ 32 → (n ≡ 2 → ⊥) → decoded word ≡ Some i → Here (word_bytes word)
     op_written word small long spells =
-        word_written (Op i) i word is (λ bytes m. inl m) refl (by (subst (HasForm L.address a size n) is here.form)) small spells
+        let four = four_long in
+        let w : SpellsWord (word_bytes word) i = record { word = word; small = small; are = refl; spells = spells } in
+        made (word_bytes word) (sym four, word_are word) (subst (λ j. IsWritten L own a n j (word_bytes word)) (sym is) (either L.keeps_halfwords (four, w)))
       where
-        by : (n ≡ size) ⊎ HasSize (Op i) n → n ≡ 4
-        by (inl same) = let longer : size ≡ 2 → ⊥ = λ two. long (same ∙ two) in same ∙ long_own longer
-        by (inr (inl four)) = four
-        by (inr (inr two)) = absurd (long two.0)
+        either : (b : Bool) → (n ≡ 4) × SpellsWord (word_bytes word) i → IsOpWritten b own n i (word_bytes word)
+        either true w = inl w
+        either false w = inl w
+
+        four_long : n ≡ 4
+        four_long = by (subst (HasForm L.address a size n) is here.form)
+          where
+            by : (n ≡ size) ⊎ HasSize (Op i) n → n ≡ 4
+            by (inl same) = let longer : size ≡ 2 → ⊥ = λ two. long (same ∙ two) in same ∙ long_own longer
+            by (inr (inl four)) = four
+            by (inr (inr two)) = absurd (long two.0)
 
   -- one whose instruction is known before the layout has its own bytes, of which there are two at least
   patched_size : (i : Item) → is_patched i ≡ true → HasOwnSize i size → 2 ≤ size
@@ -313,7 +322,7 @@ module _ (L : TextLayout) (code : List ℕ) (q : Place) (item : Item) (a n : ℕ
     word_target t is taken =
         let k = subst Known is stands in
         made (word_bytes word) (sym four, word_are word)
-        (subst (λ j. IsWritten L.address it own a n j (word_bytes word)) (sym is) (word, value (target_value L.address t) word k taken, refl))
+        (subst (λ j. IsWritten L own a n j (word_bytes word)) (sym is) (word, value (target_value L.address t) word k taken, refl))
 
   -- but an instruction without relocation these have four bytes
   patched_four : (i : Item) → ((j : Instr) → i ≡ Op j → ⊥) → is_patched i ≡ true → HasOwnSize i size → size ≡ 4
@@ -335,17 +344,17 @@ module _ (L : TextLayout) (code : List ℕ) (q : Place) (item : Item) (a n : ℕ
     unfixed (inr has) = absurd cc
 
     -- the halfword that was found before the layout
-    pub half_written : (half : ℕ) → IsHalfHere size item (Some half) → Here (half_bytes half)
-    half_written half found = made (half_bytes half) (sym two, half_are half) (by item patched here.form found.1)
+    pub half_written : (half : ℕ) → IsHalfHere L.keeps_halfwords size item (Some half) → Here (half_bytes half)
+    half_written half found = made (half_bytes half) (sym two, half_are half) (by item patched here.form found.2)
       where
         short :
             (i : Instr) → ((j : Instr) → Some i ≡ Some j → (encoded16 (Base j) ≡ Some half) × HasEffectOf j half) → IsSpelled n (half_bytes half) i
-        short i each = let got = each i refl in inr (two, record { half = half; small = found.0; are = refl; first = got.0; same = got.1 })
+        short i each = let got = each i refl in inr (two, record { half = half; small = found.1; are = refl; first = got.0; same = got.1 })
 
         by :
             (i : Item) → is_patched i ≡ true → HasForm L.address a size n i
-            → ((j : Instr) → fixed_instr i ≡ Some j → (encoded16 (Base j) ≡ Some half) × HasEffectOf j half) → IsWritten L.address it own a n i (half_bytes half)
-        by (Op i) p form each = inl (record { instr = i; is = refl; spelled = short i each })
+            → ((j : Instr) → fixed_instr i ≡ Some j → (encoded16 (Base j) ≡ Some half) × HasEffectOf j half) → IsWritten L own a n i (half_bytes half)
+        by (Op i) p form each = subst (λ b. IsOpWritten b own n i (half_bytes half)) (sym found.0) (short i each)
         by (Hi i (Number x)) p form each = record { instr = with_upper i (hi20_of x); is = refl; spelled = short (with_upper i (hi20_of x)) each }
         by (Hi i (Absent x)) p form each = record { instr = with_upper i (hi20_of x); is = refl; spelled = short (with_upper i (hi20_of x)) each }
         by (Hi i (Code to)) p form each = unfixed form
@@ -360,8 +369,8 @@ module _ (L : TextLayout) (code : List ℕ) (q : Place) (item : Item) (a n : ℕ
         by i p form each = absurd cc
 
     -- or its own bytes
-    pub own_written : (bytes : List ℕ) → bytes ≡ own 2 → AreBytes code → IsHalfHere size item None → Here bytes
-    own_written bytes are octets found = by item refl patched here.form found
+    pub own_written : (bytes : List ℕ) → bytes ≡ own 2 → AreBytes code → IsHalfHere L.keeps_halfwords size item None → Here bytes
+    own_written bytes are octets found = by item refl patched here.form found.1
       where
         half : ℕ
         half = half_in code q.offset
@@ -375,12 +384,15 @@ module _ (L : TextLayout) (code : List ℕ) (q : Place) (item : Item) (a n : ℕ
             let copies : IsCopied own bytes i =
             record { copies = are; half = half; small = half_small code q.offset octets; are = halved; spelled = normal.spelled; spells = normal.spells; normal = normal.normal } in
             made bytes (ap length halved ∙ sym two, subst AreBytes (sym halved) (half_are half))
-            (subst (λ x. IsWritten L.address it own a n x bytes) (sym is) (inr (two, copies)))
+            (subst (λ x. IsWritten L own a n x bytes) (sym is) (subst (λ b. IsOpWritten b own n i bytes) (sym found.0) (inr (two, copies))))
 
-        other : {X : Type 0} → (i : Item) (j : Instr) → fixed_instr i ≡ Some j → ((k : Instr) → i ≡ Op k → ⊥) → IsHalfHere size i None → X
+        abbrev IsOwn : Item → Type 0
+        IsOwn i = (j : Instr) → fixed_instr i ≡ Some j → (size ≡ 2) × (i ≡ Op j)
+
+        other : {X : Type 0} → (i : Item) (j : Instr) → fixed_instr i ≡ Some j → ((k : Instr) → i ≡ Op k → ⊥) → IsOwn i → X
         other i j fixed unlike each = absurd (unlike j (each j fixed).1)
 
-        by : (i : Item) → item ≡ i → is_patched i ≡ true → HasForm L.address a size n i → IsHalfHere size i None → Here bytes
+        by : (i : Item) → item ≡ i → is_patched i ≡ true → HasForm L.address a size n i → IsOwn i → Here bytes
         by (Op i) is p form each = op i is (each i refl).0
         by (Hi i (Number x)) is p form each = other (Hi i (Number x)) (with_upper i (hi20_of x)) refl (λ k same. cc) each
         by (Hi i (Absent x)) is p form each = other (Hi i (Absent x)) (with_upper i (hi20_of x)) refl (λ k same. cc) each

@@ -1,5 +1,5 @@
 -- The text that was written lies in its image as a layout owes: at each listed place stand the instructions of its item.
-use Rattle.std.proofs.Common.{◌≡◌, ℕ, ℤ, pos, negsuc, ◌+◌, ◌-◌, ◌-ℤ◌, ◌%◌, ◌^◌, ◌<◌, ◌≤◌, ◌⊎◌, inl, inr, zero, suc, List, length, Option, Some, None, true, false, cond, eqb, refl, sym, ap, ◌∙◌, subst, arith, drop}
+use Rattle.std.proofs.Common.{◌≡◌, ℕ, ℤ, pos, negsuc, ◌+◌, ◌-◌, ◌-ℤ◌, ◌%◌, ◌^◌, ◌<◌, ◌≤◌, ◌⊎◌, inl, inr, zero, suc, List, length, Option, Some, None, Bool, true, false, cond, eqb, refl, sym, ap, ◌∙◌, subst, arith, drop}
 use Rattle.std.specs.Prelude.{All, ◌&&◌}
 use Rattle.std.specs.Option.{is_some, option_map_or}
 use Rattle.std.proofs.Math.IntN.{+ℤ-neg_ℤ_cancel}
@@ -43,7 +43,7 @@ use Rattle.zc_link.specs.LaidOut.{IsLaidOut}
 use Rattle.zc_link.specs.Pace.{Alone, CallOf, LongOf, commits_in, stretch_of}
 use Rattle.zc_link.specs.Stretches.{AloneLaid, ByCall, ByJump, CallLaid, GoesTo, GroupLaid, ItemLaid, LongLaid, OneLaid, StretchLaid, TableLaid, linked_by, place_on}
 use Rattle.zc_link.specs.TextLayout.{TextLayout, behind, size_in, stretch_in}
-use Rattle.zc_link.specs.Written.{HoldsFront, HoldsPlace, HoldsUnit, IsCopied, IsLongBranch, IsLongCall, IsSpelled, IsWritten, SpellsMeant, WithWay}
+use Rattle.zc_link.specs.Written.{HoldsFront, HoldsPlace, HoldsUnit, IsLongBranch, IsLongCall, IsOpWritten, IsSpelled, IsWritten, SpellsMeant, WithWay}
 use Rattle.zc_link.specs.Meant.{meant}
 use Rattle.zc_link.specs.Values.{way}
 use Rattle.zc_link.proofs.Adds.{drop_are, take_are, two_bytes}
@@ -212,7 +212,7 @@ module _ (L : TextLayout) (is_map : IsMap L.inputs.map) (laid : IsLaidOut L) (pr
     pub at : A q ≡ Some a
     pub next : A (next_at p.objects q) ≡ Some (a + n)
     pub stands : StandAt program parts out a bytes
-    pub written : IsWritten A (item_at p) own a n item bytes
+    pub written : IsWritten L own a n item bytes
     pub short : (half : ℕ) → item ≡ RawShort half → (n ≡ 2) × (half < 2 ^ 16) × (bytes ≡ half_bytes half)
 
   -- the program has the objects' items
@@ -226,7 +226,7 @@ module _ (L : TextLayout) (is_map : IsMap L.inputs.map) (laid : IsLaidOut L) (pr
   -- one instruction that is spelled
   one_laid :
       (q : Place) (a n : ℕ) (item : Item) (bytes : List ℕ) → item_at p q ≡ Some item → A (next_at p.objects q) ≡ Some (a + n) → StandAt program parts out a bytes
-      → SpellsMeant A (item_at p) a n item bytes → OneLaid program here q a item
+      → SpellsMeant L a n item bytes → OneLaid program here q a item
   one_laid q a n item bytes is next stands m =
       record {
         instr = m.instr;
@@ -240,7 +240,7 @@ module _ (L : TextLayout) (is_map : IsMap L.inputs.map) (laid : IsLaidOut L) (pr
       → StretchLaid program here q a (stretch_of n (Some (OneItem (Branch op first second to))))
   branch_laid q a n op first second to bytes w = by w.written
     where
-      by : IsWritten A (item_at p) w.own a n (Branch op first second to) bytes → StretchLaid program here q a (stretch_of n (Some (OneItem (Branch op first second to))))
+      by : IsWritten L w.own a n (Branch op first second to) bytes → StretchLaid program here q a (stretch_of n (Some (OneItem (Branch op first second to))))
       by (inl m) =
           subst (λ b. StretchLaid program here q a (cond b (LongOf op first second) Alone)) (sym (spelled_short n bytes m.instr m.spelled))
           (item_laid q a (Branch op first second to) w.is (one_laid q a n (Branch op first second to) bytes w.is w.next w.stands m))
@@ -253,7 +253,7 @@ module _ (L : TextLayout) (is_map : IsMap L.inputs.map) (laid : IsLaidOut L) (pr
   calling_laid : (q : Place) (a n rd temp : ℕ) (to : Place) (bytes : List ℕ) → WrittenAt q a n (Call rd temp to) bytes → StretchLaid program here q a (stretch_of n (Some (OneItem (Call rd temp to))))
   calling_laid q a n rd temp to bytes w = by w.written
     where
-      by : IsWritten A (item_at p) w.own a n (Call rd temp to) bytes → StretchLaid program here q a (stretch_of n (Some (OneItem (Call rd temp to))))
+      by : IsWritten L w.own a n (Call rd temp to) bytes → StretchLaid program here q a (stretch_of n (Some (OneItem (Call rd temp to))))
       by (inl m) =
           subst (λ b. StretchLaid program here q a (cond b CallOf Alone)) (sym (spelled_short n bytes m.instr m.spelled))
           (item_laid q a (Call rd temp to) w.is (one_laid q a n (Call rd temp to) bytes w.is w.next w.stands m))
@@ -265,11 +265,15 @@ module _ (L : TextLayout) (is_map : IsMap L.inputs.map) (laid : IsLaidOut L) (pr
   -- an instruction without relocation is spelled, or a halfword of the object that spells it is copied
   op_laid : (q : Place) (a n : ℕ) (i : Instr) (bytes : List ℕ) → WrittenAt q a n (Op i) bytes → OneLaid program here q a (Op i)
   unfolding alone half_at_address
-  op_laid q a n i bytes w = by w.written
+  op_laid q a n i bytes w = by L.keeps_halfwords w.written
     where
-      by : IsWritten A (item_at p) w.own a n (Op i) bytes → OneLaid program here q a (Op i)
-      by (inl m) = one_laid q a n (Op i) bytes w.is w.next w.stands m
-      by (inr two) =
+      one : IsSpelled n bytes i → OneLaid program here q a (Op i)
+      one sp = one_laid q a n (Op i) bytes w.is w.next w.stands (record { instr = i; is = refl; spelled = sp })
+
+      by : (keeps : Bool) → IsOpWritten keeps w.own n i bytes → OneLaid program here q a (Op i)
+      by false sp = one sp
+      by true (inl word) = one (inl word)
+      by true (inr two) =
           let c = two.1 in
           record {
             instr = i;

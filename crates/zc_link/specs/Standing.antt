@@ -119,12 +119,12 @@ HasOwnSize (RawShort copied) own = own ≡ 2
 HasOwnSize (RawPair first second) own = own ≡ 8
 HasOwnSize other own = own ≡ 4
 
--- the halfword of an instruction that is known before the layout, which does what the instruction does; none if its own two bytes are
--- copied
-abbrev pub IsHalfHere : ℕ → Item → Option ℕ → Type 0
-IsHalfHere own item None = (i : Instr) → fixed_instr item ≡ Some i → (own ≡ 2) × (item ≡ Op i)
-IsHalfHere own item (Some half) =
-    (half < 2 ^ 16) × ((i : Instr) → fixed_instr item ≡ Some i → (encoded16 (Base i) ≡ Some half) × HasEffectOf i half)
+-- the halfword of an instruction that is known before the layout, which does what the instruction does; none if the layout keeps the
+-- halfwords of the objects, and it has one there
+abbrev pub IsHalfHere : Bool → (own : ℕ) → Item → Option ℕ → Type 0
+IsHalfHere keeps own item None = (keeps ≡ true) × ((i : Instr) → fixed_instr item ≡ Some i → (own ≡ 2) × (item ≡ Op i))
+IsHalfHere keeps own item (Some half) =
+    (keeps ≡ false) × (half < 2 ^ 16) × ((i : Instr) → fixed_instr item ≡ Some i → (encoded16 (Base i) ≡ Some half) × HasEffectOf i half)
 
 -- an item stands at a place of code with these bytes, in which it lies, and is written by itself at an address in n bytes
 pub record StandsHere (L : TextLayout) (code : List ℕ) (q : Place) (item : Item) (a n : ℕ) : Type 0 where
@@ -163,7 +163,7 @@ HasHalf short = HasNoWord short × IsTrue (is_some (encoded16 short))
 -- these bytes are what is written in one piece
 pub record WrittenHere (L : TextLayout) (code : List ℕ) (q : Place) (u : CodeUnit) (a n : ℕ) (bytes : List ℕ) : Type 0 where
   pub long : length bytes ≡ n
-  pub written : UnitWritten L.address (item_at (parsed L.inputs)) (bytes_from code q.offset) a n u bytes
+  pub written : UnitWritten L (bytes_from code q.offset) a n u bytes
   pub octets : (k : ℕ) → slice_index bytes k < 256
 
 -- an item starts at a place of a section of code with these bytes, which has this number among all

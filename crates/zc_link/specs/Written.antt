@@ -1,6 +1,6 @@
 -- What is written in a layout: each item in so many bytes, with what its relocation asks for (RISC-V ELF psABI, "Relocations"), a
 -- group of items as a push, a pop or two moves, or a jump or call through the table (RISC-V Zc specification 1.0, "Zcmp" and "Zcmt").
-use Rattle.std.specs.Prelude.{◌≡◌, ℕ, ℤ, pos, ◌-ℤ◌, ◌+◌, ◌-◌, ◌/◌, ◌%◌, ◌^◌, ◌<◌, ◌≤◌, ◌⊎◌, ◌==◌, if◌then◌else◌, List, [], ◌++◌, length, replicate, slice_index, take, All, Option, Some}
+use Rattle.std.specs.Prelude.{◌≡◌, ℕ, ℤ, pos, ◌-ℤ◌, ◌+◌, ◌-◌, ◌/◌, ◌%◌, ◌^◌, ◌<◌, ◌≤◌, ◌⊎◌, ◌==◌, if◌then◌else◌, List, [], ◌++◌, Bool, true, false, length, replicate, slice_index, take, All, Option, Some}
 use Rattle.std.specs.List.{flat_map}
 use Rattle.zc_base.specs.Fields.{half_bytes, word_bytes}
 use Rattle.zc_base.specs.declared.place.Place.{Place}
@@ -89,11 +89,17 @@ padding n = (if n % 4 == 2 then half_bytes short_nop else []) ++ copies nop (n /
 
 -- ---- items
 
--- these n bytes spell the instruction that an item is at an address, if A gives the addresses of places
-pub record SpellsMeant (A : Place → Option ℕ) (items : Place → Option Item) (a n : ℕ) (item : Item) (bytes : List ℕ) : Type 0 where
+-- these n bytes spell the instruction that an item is at an address
+pub record SpellsMeant (L : TextLayout) (a n : ℕ) (item : Item) (bytes : List ℕ) : Type 0 where
   pub instr : Instr
-  pub is : meant A items a item ≡ Some instr
+  pub is : meant L.address (item_at (parsed L.inputs)) a item ≡ Some instr
   pub spelled : IsSpelled n bytes instr
+
+-- the n bytes of an instruction without relocation, in a layout that keeps halfwords of the objects or not: a word; or two bytes, which
+-- are the object's own, or its short form
+abbrev pub IsOpWritten : Bool → (ℕ → List ℕ) → ℕ → Instr → List ℕ → Type 0
+IsOpWritten true own n i bytes = ((n ≡ 4) × SpellsWord bytes i) ⊎ ((n ≡ 2) × IsCopied own bytes i)
+IsOpWritten false own n i bytes = IsSpelled n bytes i
 
 -- a branch of the opposite condition over eight bytes, and a jump whose distance is less by the four bytes before it
 pub record IsLongBranch (op : BranchOp) (one two : ℕ) (distance : ℤ) (bytes : List ℕ) : Type 0 where
@@ -117,18 +123,18 @@ pub record IsLongCall (rd temp w : ℕ) (bytes : List ℕ) : Type 0 where
 abbrev pub WithWay : (Place → Option ℕ) → ℕ → Place → (ℕ → Type 0) → Type 0
 WithWay A a to P = (b : ℕ) × (A to ≡ Some b) × P (way a b)
 
--- these n bytes are what is written for an item at an address, if A gives the addresses of places; `own` gives the object's own
-abbrev pub IsWritten : (Place → Option ℕ) → (Place → Option Item) → (ℕ → List ℕ) → ℕ → ℕ → Item → List ℕ → Type 0
-IsWritten A items own a n (Op i) bytes = SpellsMeant A items a n (Op i) bytes ⊎ ((n ≡ 2) × IsCopied own bytes i)
-IsWritten A items own a n (Branch op one two to) bytes =
-    SpellsMeant A items a n (Branch op one two to) bytes ⊎ ((n ≡ 8) × WithWay A a to (λ w. IsLongBranch op one two (as_signed w) bytes))
-IsWritten A items own a n (Call rd temp to) bytes = SpellsMeant A items a n (Call rd temp to) bytes ⊎ ((n ≡ 8) × WithWay A a to (λ w. IsLongCall rd temp w bytes))
-IsWritten A items own a n (Align k) bytes = bytes ≡ padding n
-IsWritten A items own a n (Word t) bytes = (x : ℕ) × (target_value A t ≡ Some x) × (bytes ≡ word_bytes x)
-IsWritten A items own a n (Raw word) bytes = bytes ≡ own 4
-IsWritten A items own a n (RawShort half) bytes = bytes ≡ own 2
-IsWritten A items own a n (RawPair first second) bytes = bytes ≡ own 8
-IsWritten A items own a n item bytes = SpellsMeant A items a n item bytes
+-- these n bytes are what is written for an item at an address; `own` gives the object's own
+abbrev pub IsWritten : TextLayout → (own : ℕ → List ℕ) → (a n : ℕ) → Item → List ℕ → Type 0
+IsWritten L own a n (Op i) bytes = IsOpWritten L.keeps_halfwords own n i bytes
+IsWritten L own a n (Branch op one two to) bytes =
+    SpellsMeant L a n (Branch op one two to) bytes ⊎ ((n ≡ 8) × WithWay L.address a to (λ w. IsLongBranch op one two (as_signed w) bytes))
+IsWritten L own a n (Call rd temp to) bytes = SpellsMeant L a n (Call rd temp to) bytes ⊎ ((n ≡ 8) × WithWay L.address a to (λ w. IsLongCall rd temp w bytes))
+IsWritten L own a n (Align k) bytes = bytes ≡ padding n
+IsWritten L own a n (Word t) bytes = (x : ℕ) × (target_value L.address t ≡ Some x) × (bytes ≡ word_bytes x)
+IsWritten L own a n (Raw word) bytes = bytes ≡ own 4
+IsWritten L own a n (RawShort half) bytes = bytes ≡ own 2
+IsWritten L own a n (RawPair first second) bytes = bytes ≡ own 8
+IsWritten L own a n item bytes = SpellsMeant L a n item bytes
 
 -- ---- groups
 
@@ -147,10 +153,10 @@ IsGroupWritten n g bytes = ((g.rest ≡ 0) × SpellsHalf bytes g.kind) ⊎ ((0 <
 -- ---- units
 
 -- what is written at a place in n bytes
-abbrev pub UnitWritten : (Place → Option ℕ) → (Place → Option Item) → (ℕ → List ℕ) → ℕ → ℕ → CodeUnit → List ℕ → Type 0
-UnitWritten A item own a n (OneItem i) bytes = IsWritten A item own a n i bytes
-UnitWritten A item own a n (OneGroup g) bytes = IsGroupWritten n g bytes
-UnitWritten A item own a n (OneSite slot) bytes = SpellsHalf bytes (TableJump slot)
+abbrev pub UnitWritten : TextLayout → (own : ℕ → List ℕ) → (a n : ℕ) → CodeUnit → List ℕ → Type 0
+UnitWritten L own a n (OneItem i) bytes = IsWritten L own a n i bytes
+UnitWritten L own a n (OneGroup g) bytes = IsGroupWritten n g bytes
+UnitWritten L own a n (OneSite slot) bytes = SpellsHalf bytes (TableJump slot)
 
 -- ---- text
 
@@ -163,8 +169,7 @@ pub record HoldsUnit (L : TextLayout) (text : List ℕ) (e : Place × ℕ) (u : 
   pub section : SectionParts
   pub here : code_at (parsed L.inputs).objects e.0 ≡ Some section
   pub written :
-      UnitWritten L.address (item_at (parsed L.inputs)) (bytes_from section.bytes e.0.offset) e.1 size u
-      (bytes_from text (e.1 - L.inputs.map.text) size)
+      UnitWritten L (bytes_from section.bytes e.0.offset) e.1 size u (bytes_from text (e.1 - L.inputs.map.text) size)
 
 abbrev pub HoldsPlace : TextLayout → List ℕ → Place × ℕ → Type 0
 HoldsPlace L text e = (u : CodeUnit) → L.unit e.0 ≡ Some u → HoldsUnit L text e u

@@ -14,7 +14,7 @@ module _ (g : given.Over) (c : After-half_at g) where
   abbrev L : TextLayout
   L = g.L.Layout.layout c.args.layout.now
 
-  half_of : IsHalfHere (size_at (parsed L.inputs).objects c.args.extent.at) c.args.item c.half_at.result
+  half_of : IsHalfHere L.keeps_halfwords (size_at (parsed L.inputs).objects c.args.extent.at) c.args.item c.half_at.result
   half_of = c.half_at.ensures c.args.extent.at c.args.item c.requires.stands.unit c.requires.number (c.requires.stands.takes ∙ c.requires.two)
 
 pub half_at-requires : goal.half_at-requires
@@ -32,11 +32,11 @@ returns-in-Some g c =
     let e = c.args.extent in
     let a = (goal.at.returns-in-Some g c).After-half_at in
     half_written (L g a) e.code.now e.at c.args.item e.address e.size c.requires.stands c.requires.patched c.requires.two c.in-Some.half
-    (subst (IsHalfHere (size_at (parsed (L g a).inputs).objects e.at) c.args.item) c.in-Some.is (half_of g a))
+    (subst (IsHalfHere (L g a).keeps_halfwords (size_at (parsed (L g a).inputs).objects e.at) c.args.item) c.in-Some.is (half_of g a))
 
 pub returns-in-None : goal.returns-in-None
 returns-in-None g c =
     let e = c.args.extent in
     let a = (goal.at.returns-in-None g c).After-half_at in
     own_written (L g a) e.code.now e.at c.args.item e.address e.size c.requires.stands c.requires.patched c.requires.two _ c.own_bytes.ensures.own
-    c.own_bytes.ensures.octets (subst (IsHalfHere (size_at (parsed (L g a).inputs).objects e.at) c.args.item) c.in-None.is (half_of g a))
+    c.own_bytes.ensures.octets (subst (IsHalfHere (L g a).keeps_halfwords (size_at (parsed (L g a).inputs).objects e.at) c.args.item) c.in-None.is (half_of g a))

@@ -11,6 +11,7 @@ returns c = λ q item is number two.
     let slots = c.args.self.now.slots in
     let cut = c.cut-cut.ensures in
     let at = unit_address (zc_layout inputs slots) cut.laid q (OneItem item) is in (
+      refl,
       c.half_at.type_inv,
       λ i known.
           c.half_at.ensures q item is number i known (item_short inputs cut.ready.faultless cut.ready.is_map slots cut.laid.few q at.0 item i is at.1 two known),
