@@ -20,7 +20,7 @@ use Rattle.psabi_sym.specs.declared.link_fault.LinkFault.TheVariants.{Object, Ou
 use Rattle.block_cut.specs.Faults.{entry_fault, first_fault, range_fault, relocs_fault}
 use Rattle.rv_decode.specs.State.{ZcCore}
 use Rattle.zc_machine.specs.Load.{first_core, first_core_of}
-use Rattle.zc_machine.specs.Run.{interrupts_by, zc_after}
+use Rattle.zc_machine.specs.Run.{interrupts_by, machine_after}
 use Rattle.zc_machine.specs.RunEnd.{Ran, zc_course}
 use Rattle.zc_machine.specs.declared.reason.Reason.{Reason}
 use Rattle.zc_machine.specs.declared.run.RunEnd.TheVariants as end
@@ -117,8 +117,8 @@ eventually_exits files elf preserves count exit traced plan is_plan =
     let follows = preserves.follows [] count traced.exits.last (All-nil (λ b. b < 256)) traced.exits.state in
     let under = follows.2 plan is_plan in
     let core = image_core elf standard_map preserves.image preserves.read in
-    let after : zc_after (first_core_of elf standard_map) [] plan follows.0 ≡ Ok under.0 =
-    ap (λ z. zc_after z [] plan follows.0) (sym core) ∙ under.1 in
+    let after : machine_after (first_core_of elf standard_map) [] (interrupts_by plan) follows.0 ≡ Ok under.0 =
+    ap (λ z. machine_after z [] (interrupts_by plan) follows.0) (sym core) ∙ under.1 in
     let told =
     exit_told (first_core_of elf standard_map) [] (interrupts_by plan) (plan_keeps plan) follows.0 under.0 traced.events exit.status after
     (under.2.events ∙ traced.event) in

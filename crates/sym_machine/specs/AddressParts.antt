@@ -7,7 +7,7 @@ use Rattle.psabi_sym.specs.declared.target.Target.{Target}
 use Rattle.psabi_sym.specs.declared.target.Target.TheVariants as target
 use Rattle.psabi_reloc.specs.Parts.{hi20_of, lo12_of}
 use Rattle.block_cut.specs.declared.item.Item.{Item}
-use Rattle.block_cut.specs.declared.item.Item.TheVariants.{Op, Hi, Lo, PcHi, PcLo, Branch, Jump, Call, Align, Word, Raw, RawShort, RawPair}
+use Rattle.block_cut.specs.declared.item.Item.TheVariants.{PcHi}
 use Rattle.sym_machine.specs.declared.word.SymByte.{SymByte}
 use Rattle.sym_machine.specs.declared.word.SymWord.{SymWord}
 use Rattle.sym_machine.specs.declared.word.Value.TheVariants as value
@@ -47,20 +47,8 @@ low_sum target.Nowhere base = undef_word
 
 -- what the relocation of an `auipc` resolves to
 abbrev pub pc_target : Option Item → Option Target
-pc_target None = None
-pc_target (Some (Op i)) = None
-pc_target (Some (Hi i t)) = None
-pc_target (Some (Lo i t)) = None
 pc_target (Some (PcHi i t)) = Some t
-pc_target (Some (PcLo i from)) = None
-pc_target (Some (Branch op first second to)) = None
-pc_target (Some (Jump rd to)) = None
-pc_target (Some (Call rd temp to)) = None
-pc_target (Some (Align bytes)) = None
-pc_target (Some (Word t)) = None
-pc_target (Some (Raw word)) = None
-pc_target (Some (RawShort half)) = None
-pc_target (Some (RawPair first second)) = None
+pc_target other = None
 
 -- the sum of a base's word and the lower part that goes with the `auipc` at a place, by what its relocation resolves to: the word of
 -- that, if the base is what the `auipc` gives

@@ -7,8 +7,7 @@ use Rattle.rv_decode.specs.declared.instr.Instr.TheVariants.{Upper, Jal, Jalr, L
 use Rattle.rv_decode.specs.declared.instr.Instr.TheVariants as instr
 use Rattle.rv_decode.specs.declared.instr.UpperOp.{UpperOp}
 use Rattle.rv_decode.specs.declared.instr.UpperOp.TheVariants.{Lui, Auipc}
-use Rattle.rv_decode.specs.declared.instr.ImmOp.{ImmOp}
-use Rattle.rv_decode.specs.declared.instr.ImmOp.TheVariants.{Addi, Slti, Sltiu, Xori, Ori, Andi, Slli, Srli, Srai}
+use Rattle.rv_decode.specs.declared.instr.ImmOp.TheVariants.{Addi}
 use Rattle.rv_decode.specs.declared.instr.LoadOp.{LoadOp}
 use Rattle.rv_decode.specs.declared.instr.LoadOp.TheVariants.{Lb, Lh, Lw, Lbu, Lhu}
 use Rattle.rv_decode.specs.declared.instr.StoreOp.{StoreOp}
@@ -22,7 +21,7 @@ use Rattle.sym_machine.specs.declared.arguments.Arguments.{Arguments}
 use Rattle.sym_machine.specs.declared.why.Why.{Why}
 use Rattle.sym_machine.specs.declared.why.Why.TheVariants.{AddressUnknown, ConditionUnknown, TargetUnknown, ArgumentUnknown, BadAddress, Misaligned, NoInstruction, UnknownCall}
 use Rattle.sym_machine.specs.declared.word.SymByte.{SymByte}
-use Rattle.sym_machine.specs.declared.word.SymByte.TheVariants.{Num, Part, Undef}
+use Rattle.sym_machine.specs.declared.word.SymByte.TheVariants.{Num, Undef}
 use Rattle.sym_machine.specs.declared.word.SymWord.{SymWord}
 use Rattle.sym_machine.specs.declared.word.Value.TheVariants as value
 use Rattle.sym_machine.specs.AddressParts.{bytes_of, high_word, low_sum, pc_low_sum, pc_target}
@@ -140,10 +139,8 @@ read_does s next c =
 
 -- a byte before others, if all are numbers
 abbrev pub then_number : SymByte → Option (List ℕ) → Option (List ℕ)
-then_number (Num b) None = None
 then_number (Num b) (Some bytes) = Some (b ∷ bytes)
-then_number (Part v i) bytes = None
-then_number Undef bytes = None
+then_number byte bytes = None
 
 -- the n bytes of memory from an address on, if all are numbers
 abbrev pub numbers_at : List (Region SymByte) → ℕ → ℕ → Option (List ℕ)
@@ -171,47 +168,21 @@ call_does (Some a7) s next =
 
 -- ---- items
 
--- of the operations with an immediate, `addi` alone is a sum
-abbrev pub addi_does : ImmOp → ℕ → SymWord → Place → Does
-addi_does Addi rd w next = Goes (sets rd w next)
-addi_does Slti rd w next = Stops NoInstruction
-addi_does Sltiu rd w next = Stops NoInstruction
-addi_does Xori rd w next = Stops NoInstruction
-addi_does Ori rd w next = Stops NoInstruction
-addi_does Andi rd w next = Stops NoInstruction
-addi_does Slli rd w next = Stops NoInstruction
-addi_does Srli rd w next = Stops NoInstruction
-addi_does Srai rd w next = Stops NoInstruction
-
 -- `addi`, a load, a store or `jalr`, by the word of the sum of its base and its immediate
 abbrev pub by_sum : Instr → SymWord → PlainCore → Place → Does
-by_sum (Upper op rd imm) w s next = Stops NoInstruction
-by_sum (Jal rd distance) w s next = Stops NoInstruction
 by_sum (Jalr rd base imm) w s next = jump_does (code_of w) rd next
-by_sum (instr.Branch op first second distance) w s next = Stops NoInstruction
 by_sum (Load op rd base imm) w s next = load_does op rd (number_of w) s next
 by_sum (Store op source base imm) w s next = store_does op (reg_of s source) (number_of w) s next
-by_sum (WithImm op rd first imm) w s next = addi_does op rd w next
-by_sum (WithReg op rd first second) w s next = Stops NoInstruction
-by_sum (Fence rest) w s next = Stops NoInstruction
-by_sum Ecall w s next = Stops NoInstruction
-by_sum Ebreak w s next = Stops NoInstruction
-by_sum (Csrrw rd source) w s next = Stops NoInstruction
+by_sum (WithImm Addi rd first imm) w s next = Goes (sets rd w next)
+by_sum other w s next = Stops NoInstruction
 
 -- the register whose word such a sum begins with
 abbrev pub base_of : Instr → ℕ
-base_of (Upper op rd imm) = 0
-base_of (Jal rd distance) = 0
 base_of (Jalr rd base imm) = base
-base_of (instr.Branch op first second distance) = 0
 base_of (Load op rd base imm) = base
 base_of (Store op source base imm) = base
 base_of (WithImm op rd first imm) = first
-base_of (WithReg op rd first second) = 0
-base_of (Fence rest) = 0
-base_of Ecall = 0
-base_of Ebreak = 0
-base_of (Csrrw rd source) = 0
+base_of other = 0
 
 -- an instruction without relocation, by its format, with the place after it; a branch or a `jal` is an item of its own
 abbrev pub op_does : Instr → PlainCore → Place → Does
@@ -231,20 +202,8 @@ op_does (Csrrw rd source) s next = Stops NoInstruction
 -- the upper part of an address for a register: a `lui` or an `auipc`, as the relocation asks
 abbrev pub upper_does : UpperOp → Instr → SymWord → Place → Does
 upper_does Lui (Upper Lui rd imm) w next = Goes (sets rd w next)
-upper_does Lui (Upper Auipc rd imm) w next = Stops NoInstruction
-upper_does Auipc (Upper Lui rd imm) w next = Stops NoInstruction
 upper_does Auipc (Upper Auipc rd imm) w next = Goes (sets rd w next)
-upper_does op (Jal rd distance) w next = Stops NoInstruction
-upper_does op (Jalr rd base imm) w next = Stops NoInstruction
-upper_does op (instr.Branch kind first second distance) w next = Stops NoInstruction
-upper_does op (Load kind rd base imm) w next = Stops NoInstruction
-upper_does op (Store kind source base imm) w next = Stops NoInstruction
-upper_does op (WithImm kind rd first imm) w next = Stops NoInstruction
-upper_does op (WithReg kind rd first second) w next = Stops NoInstruction
-upper_does op (Fence rest) w next = Stops NoInstruction
-upper_does op Ecall w next = Stops NoInstruction
-upper_does op Ebreak w next = Stops NoInstruction
-upper_does op (Csrrw rd source) w next = Stops NoInstruction
+upper_does op other w next = Stops NoInstruction
 
 -- a call to a place: what its first register holds afterwards isn't known, and then the link register gets the next place's
 -- address. Register 0 takes no part of an address, so a call by it goes to no place

@@ -38,21 +38,15 @@ is_solid (Some (RawPair first second)) = true
 abbrev pub equal_words : Program → Known → Known → Option Bool
 equal_words p (Number m) (Number n) = Some (m == n)
 equal_words p (Number m) (Code q) = if m == 0 then Some false else None
-equal_words p (Number m) Unknown = None
 equal_words p (Code q) (Number n) = if n == 0 then Some false else None
 equal_words p (Code q) (Code r) =
     if same_place q r then Some true else (if is_solid (p.item q) && is_solid (p.item r) then Some false else None)
-equal_words p (Code q) Unknown = None
-equal_words p Unknown (Number n) = None
-equal_words p Unknown (Code q) = None
-equal_words p Unknown Unknown = None
+equal_words p a b = None
 
 -- a condition on two words, if both are numbers
 abbrev pub numeric_condition : BranchOp → Option ℕ → Option ℕ → Option Bool
-numeric_condition op None None = None
-numeric_condition op None (Some n) = None
-numeric_condition op (Some m) None = None
 numeric_condition op (Some m) (Some n) = Some (is_taken op m n)
+numeric_condition op a b = None
 
 -- whether a branch is taken, by the words of its two registers
 abbrev pub condition : Program → BranchOp → SymWord → SymWord → Option Bool

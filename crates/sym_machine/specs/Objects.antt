@@ -6,23 +6,16 @@ use Rattle.psabi_sym.specs.Data.{data_end, data_file_end}
 use Rattle.psabi_sym.specs.Inputs.{ParsedInputs}
 use Rattle.block_cut.specs.DataWords.{data_words}
 use Rattle.block_cut.specs.Items.{entry_of, item_at, next_at}
-use Rattle.block_cut.specs.declared.data_word.DataWord.{DataWord}
 use Rattle.sym_machine.specs.declared.word.SymByte.{SymByte}
 use Rattle.sym_machine.specs.declared.word.SymByte.TheVariants.{Num}
 use Rattle.sym_machine.specs.AddressParts.{bytes_of, target_word}
 use Rattle.sym_machine.specs.Program.{Program}
 
--- the bytes of data as files hold them, and zeros from there to the data's end
-abbrev pub unfilled_bytes : ParsedInputs → List SymByte
-unfilled_bytes inputs = map Num (data_contents inputs ++ replicate (data_end inputs - data_file_end inputs) 0)
-
--- bytes from the map's start of data on, with those of a word over them
-abbrev pub with_target_word : ParsedInputs → List SymByte → DataWord → List SymByte
-with_target_word inputs bytes w = overlaid (w.at - inputs.map.data_low) (bytes_of (target_word w.target)) bytes
-
--- the bytes of data, with each word that holds an address filled in
+-- the bytes of data: as files hold them, with zeros from there to the data's end, and then each word that holds an address over them
 unfoldable pub data_bytes : ParsedInputs → List SymByte
-data_bytes inputs = fold (with_target_word inputs) (unfilled_bytes inputs) (data_words inputs)
+data_bytes inputs =
+    fold (λ bytes w. overlaid (w.at - inputs.map.data_low) (bytes_of (target_word w.target)) bytes)
+    (map Num (data_contents inputs ++ replicate (data_end inputs - data_file_end inputs) 0)) (data_words inputs)
 
 -- the objects' own items, one after another, and their data
 unfoldable pub program_of : ParsedInputs → Program

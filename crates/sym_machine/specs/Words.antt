@@ -50,20 +50,14 @@ code_word q = value_word (Code q)
 -- whether two values are one
 abbrev pub same_value : Value → Value → Bool
 same_value (Code q) (Code r) = same_place q r
-same_value (Code q) (AbsHi r) = false
-same_value (Code q) (PcHi r) = false
-same_value (AbsHi q) (Code r) = false
 same_value (AbsHi q) (AbsHi r) = same_place q r
-same_value (AbsHi q) (PcHi r) = false
-same_value (PcHi q) (Code r) = false
-same_value (PcHi q) (AbsHi r) = false
 same_value (PcHi q) (PcHi r) = same_place q r
+same_value v w = false
 
 -- whether a byte is this part of a value
 abbrev pub is_part : Value → ℕ → SymByte → Bool
-is_part v i (Num n) = false
 is_part v i (Part w j) = same_value v w && i == j
-is_part v i Undef = false
+is_part v i other = false
 
 -- whether a word is a value: its bytes are the parts, in order
 abbrev pub is_value : Value → SymWord → Bool
@@ -71,11 +65,8 @@ is_value v w = is_part v 0 w.b0 && (is_part v 1 w.b1 && (is_part v 2 w.b2 && is_
 
 -- the place whose address a word is, by its first byte
 abbrev pub code_from : SymByte → SymWord → Option Place
-code_from (Num n) w = None
 code_from (Part (Code q) i) w = if is_value (Code q) w then Some q else None
-code_from (Part (AbsHi q) i) w = None
-code_from (Part (PcHi q) i) w = None
-code_from Undef w = None
+code_from other w = None
 
 -- the place whose address a word is, if it is one
 abbrev pub code_of : SymWord → Option Place
@@ -155,8 +146,7 @@ upper_word Auipc imm = undef_word
 -- the bytes above a byte with a sign, which isn't known of all
 abbrev pub sign_of : SymByte → SymByte
 sign_of (Num b) = Num (if nat_lt b 128 then 0 else 255)
-sign_of (Part v i) = Undef
-sign_of Undef = Undef
+sign_of other = Undef
 
 -- a byte, or two, with this one above
 abbrev pub byte_word : SymByte → SymByte → SymWord

@@ -1,13 +1,15 @@
 // The bytes of data at a program's start.
 
-ghost use Rattle.std.specs.Prelude.{◌≡◌, ◌≤◌, IfOk, length};
+ghost use Rattle.std.specs.Prelude.{◌≡◌, ◌-◌, ◌≤◌, ◌++◌, IfOk, length, map, replicate};
 ghost use Rattle.std.specs.List.{fold};
-ghost use Rattle.psabi_sym.specs.Contents.{overlaid};
+ghost use Rattle.psabi_sym.specs.Contents.{data_contents, overlaid};
+ghost use Rattle.psabi_sym.specs.Data.{data_end, data_file_end};
 ghost use Rattle.psabi_sym.specs.Inputs.{parsed};
 ghost use Rattle.block_cut.specs.DataWords.{data_words};
 ghost use Rattle.sym_machine.specs.AddressParts as parts;
 ghost use Rattle.sym_machine.specs.AddressParts.{bytes_of};
-ghost use Rattle.sym_machine.specs.Objects.{data_bytes, unfilled_bytes, with_target_word};
+ghost use Rattle.sym_machine.specs.Objects.{data_bytes};
+ghost use Rattle.sym_machine.specs.declared.word.SymByte.TheVariants.{Num};
 
 use crate::address_parts::target_word;
 use crate::pages::Pages;
@@ -30,7 +32,8 @@ pub fn first_data(alloc: Global, cut: &Cut) -> Result<Pages, AllocError>
 
 // The bytes of data that files hold, and zeros from there to the data's end.
 fn unfilled(alloc: Global, objects: &Objects) -> Result<Pages, AllocError>
-    ensures bytes { IfOk result (λ bytes. bytes ≡ unfilled_bytes (parsed objects.now)) }
+    ensures bytes { let inputs = parsed objects.now in IfOk result (λ bytes.
+        bytes ≡ map Num (data_contents inputs ++ replicate (data_end inputs - data_file_end inputs) 0)) }
     ensures most { IfOk result (λ bytes. length bytes ≤ 0x40_0000) }
 {
     let contents = objects.data_contents(alloc)?;
@@ -41,7 +44,9 @@ fn unfilled(alloc: Global, objects: &Objects) -> Result<Pages, AllocError>
 // Puts the words of data over bytes.
 fn fill(cut: &Cut, bytes: &mut Pages)
     ensures len { length bytes.new ≡ length bytes.old }
-    ensures words { bytes.new ≡ fold (with_target_word (parsed cut.now)) bytes.old (data_words (parsed cut.now)) }
+    ensures words { let inputs = parsed cut.now in
+        bytes.new ≡ fold (λ bytes w. overlaid (w.at - inputs.map.data_low) (bytes_of (parts.target_word w.target)) bytes)
+            bytes.old (data_words inputs) }
 {
     let low = cut.objects().map().data_low;
     for word in cut.data_words() {

@@ -15,7 +15,7 @@ use Rattle.sym_machine.specs.State.{PlainCore, cell_of}
 use Rattle.zc_decode.specs.Accesses.{accesses_of}
 use Rattle.zc_decode.specs.declared.short.Short.{Short}
 use Rattle.zc_machine.specs.Fetch.{Found, fetched_at}
-use Rattle.zc_machine.specs.Interrupt.{all_dirtied, all_interrupted, dirtied, done_all, done_of, interrupted, is_free}
+use Rattle.zc_machine.specs.Interrupt.{all_dirtied, all_interrupted, dirtied, done_all, done_of, interrupted}
 use Rattle.zc_machine.specs.Load.{first_core}
 use Rattle.zc_machine.proofs.LoadLaws.{stack_bounds}
 use Rattle.zc_link.specs.Image.{Image, loaded_core}
@@ -95,7 +95,7 @@ module _ (low : ℕ) (y : ZcCore) (stack : (a : ℕ) → lies_in is_stack (exten
     are_bytes = written_are at m given z are k.are_bytes;
   }
 
-  free_below : (a : ℕ) (z : ZcCore) → IsSpoiled z → is_free z a ≡ true → (low ≤ a) × (a + 1 ≤ reg_in y 2)
+  free_below : (a : ℕ) (z : ZcCore) → IsSpoiled z → (lies_in is_stack (extents_of z.memory) a 1 && ltb a (reg_in z 2)) ≡ true → (low ≤ a) × (a + 1 ≤ reg_in y 2)
   free_below a z k free =
       let q = and_parts (lies_in is_stack (extents_of z.memory) a 1) (ltb a (reg_in z 2)) free in
       let under = ltb-true a (reg_in z 2) q.1 in
@@ -103,7 +103,7 @@ module _ (low : ℕ) (y : ZcCore) (stack : (a : ℕ) → lies_in is_stack (exten
       (stack a (ap (λ es. lies_in is_stack es a 1) (sym k.extents) ∙ q.0), omega (arith, under, sp))
 
   dirtied_spoiled : (d : ℕ × ℕ) (z : ZcCore) → d.1 < 256 → IsSpoiled z → IsSpoiled (dirtied d z)
-  dirtied_spoiled d z is_byte k = cond_both (is_free z d.0) (record z { memory = changed (written d.0 1 (λ i. d.1)) z.memory }) z IsSpoiled
+  dirtied_spoiled d z is_byte k = cond_both (lies_in is_stack (extents_of z.memory) d.0 1 && ltb d.0 (reg_in z 2)) (record z { memory = changed (written d.0 1 (λ i. d.1)) z.memory }) z IsSpoiled
       (λ free. let at = free_below d.0 z k free in written_spoiled d.0 1 (λ i. d.1) z (λ i. is_byte) at.0 at.1 k)
       (λ _. k)
 

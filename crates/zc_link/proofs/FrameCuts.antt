@@ -2,7 +2,7 @@
 -- the registers of a pop's slots, which it has loaded; all else is as before (SpoiledSlots). So the instruction still stands at pc, and
 -- its commit follows from the state behind the interrupts (Behind).
 use Rattle.std.specs.Option.{option_map_or}
-use Rattle.std.specs.Prelude.{◌⊎◌, All, slice_get}
+use Rattle.std.specs.Prelude.{◌⊎◌, All, slice_get, ◌&&◌}
 use Rattle.std.proofs.Common.{◌≡◌, ◌≢◌, ℕ, zero, suc, ◌+◌, ◌-◌, ◌*◌, ◌/◌, ◌%◌, ◌^◌, ◌<◌, ◌≤◌, List, [], ◌∷◌, length, Option, Some, None, true, refl, sym, ap, ap₂, ◌∙◌, subst, arith, ltb, negsuc, ⊎_elim, inl, inr}
 use Rattle.std.proofs.lemmas.Bool.{and_parts, cases_lt, cond_both, ltb-true}
 use Rattle.std.proofs.lemmas.List.Elements.{All-head, All-tail}
@@ -24,7 +24,8 @@ use Rattle.zc_decode.specs.Lists.{registers_of}
 use Rattle.zc_decode.specs.declared.short.Short.{Short}
 use Rattle.zc_decode.specs.declared.short.Short.TheVariants.{Push}
 use Rattle.zc_machine.specs.Fetch.{Found, fetched_at}
-use Rattle.zc_machine.specs.Interrupt.{all_dirtied, all_interrupted, dirtied, done_all, done_of, done_one, interrupted, is_free, is_possible}
+use Rattle.zc_machine.specs.Interrupt.{all_dirtied, all_interrupted, dirtied, done_all, done_of, done_one, interrupted}
+use Rattle.zc_machine.proofs.FrameLaws.{is_possible}
 use Rattle.zc_machine.specs.Run.{committed, zc_turn}
 use Rattle.zc_machine.specs.Step.{Ended, effect_step, made, zc_step}
 use Rattle.zc_machine.proofs.FetchLaws.{SameText, fetched_same}
@@ -129,7 +130,7 @@ module _ (low : ℕ) (ds : List Slot) (no_sp : AvoidSp ds) (y : ZcCore) (stack :
   }
 
   byte_kept : (d : ℕ × ℕ) (z : ZcCore) → d.1 < 256 → K z → K (dirtied d z)
-  byte_kept d z is_byte k = cond_both (is_free z d.0) (record z { memory = changed (written d.0 1 (λ i. d.1)) z.memory }) z K
+  byte_kept d z is_byte k = cond_both (lies_in is_stack (extents_of z.memory) d.0 1 && ltb d.0 (reg_in z 2)) (record z { memory = changed (written d.0 1 (λ i. d.1)) z.memory }) z K
       (λ free.
       let q = and_parts (lies_in is_stack (extents_of z.memory) d.0 1) (ltb d.0 (reg_in z 2)) free in
       let under = ltb-true d.0 (reg_in z 2) q.1 in

@@ -26,8 +26,7 @@ use Rattle.block_cut.specs.Relocs.{is_ignored, is_word}
 use Rattle.block_cut.proofs.ListedLaws.{listed}
 use Rattle.block_cut.specs.declared.data_word.DataWord.{DataWord}
 use Rattle.sym_machine.specs.AddressParts.{bytes_of, target_word}
-use Rattle.sym_machine.specs.Objects.{data_bytes, unfilled_bytes}
-use Rattle.sym_machine.specs.Objects as objects
+use Rattle.sym_machine.specs.Objects.{data_bytes}
 use Rattle.sym_machine.specs.declared.word.SymByte.{SymByte}
 use Rattle.sym_machine.specs.declared.word.SymByte.TheVariants.{Num, Undef}
 use Rattle.sym_machine.specs.declared.word.Value.{Value}
@@ -109,6 +108,10 @@ module _ (p : ParsedInputs) (A : Place → Option ℕ) where
       let v = word_bytes (data_value A w) in
       filled_append ws (with_data_word p A bytes w) more (All-tail (IsWithin p) w ws within) (length-overlaid at v bytes ∙ size)
       ∙ ap (λ b. fold (with_data_word p A) b ws) (sym (over_append at v bytes (omega (arith, here.0, here.1, size)) more))
+
+-- the program's bytes with those of a target's word over them
+abbrev with_target_word : ParsedInputs → List SymByte → DataWord → List SymByte
+with_target_word inputs bytes w = overlaid (w.at - inputs.map.data_low) (bytes_of (target_word w.target)) bytes
 
 -- ---- bytes that stand for others
 
@@ -195,7 +198,7 @@ module _ (p : ParsedInputs) (A : Place → Option ℕ) (Named : Place → Type 0
     pub named : NamesTarget Named w.target
 
   filled_fine : (ws : List DataWord) (ss : List SymByte) (bs : List ℕ) → All IsFineWord ws → data_file_end p - p.map.data_low ≤ length bs → AreFine ss bs
-      → AreFine (fold (objects.with_target_word p) ss ws) (fold (with_data_word p A) bs ws)
+      → AreFine (fold (with_target_word p) ss ws) (fold (with_data_word p A) bs ws)
   filled_fine [] ss bs fine size are = are
   filled_fine (w ∷ ws) ss bs fine size are =
       let here = All-head IsFineWord w ws fine in
@@ -203,7 +206,7 @@ module _ (p : ParsedInputs) (A : Place → Option ℕ) (Named : Place → Type 0
       let v = word_bytes (data_value A w) in
       let low = here.within.0 in
       let high = here.within.1 in
-      filled_fine ws (objects.with_target_word p ss w) (with_data_word p A bs w) (All-tail IsFineWord w ws fine) (omega (arith, size, length-overlaid at v bs))
+      filled_fine ws (with_target_word p ss w) (with_data_word p A bs w) (All-tail IsFineWord w ws fine) (omega (arith, size, length-overlaid at v bs))
       (over_fine at ss (bytes_of (target_word w.target)) bs v (omega (arith, low, high, size)) are (target_fine w.target here.has here.named))
 
 -- ---- the objects' words
@@ -243,7 +246,7 @@ module _ (inputs : Inputs) (none : first_fault inputs ≡ None) where
         let cs = data_contents p0 in
         let size = length-data_contents p0 in
         let whole : fold (with_data_word p0 A) cs (data_words p0) ++ zeros ≡ fold (with_data_word p0 A) (cs ++ zeros) (data_words p0) = filled_append p0 A (data_words p0) cs zeros (words_within inputs none) size in
-        subst (AreFine p0 A (IsNamed p0) V place (fold (objects.with_target_word p0) (unfilled_bytes p0) (data_words p0))) (sym whole)
+        subst (AreFine p0 A (IsNamed p0) V place (fold (with_target_word p0) (map Num (data_contents p0 ++ replicate (data_end p0 - data_file_end p0) 0)) (data_words p0))) (sym whole)
         (filled_fine p0 A (IsNamed p0) V place (data_words p0) (map Num (cs ++ zeros)) (cs ++ zeros) words_fine (omega (arith, size, length-append cs zeros)) (numbers_fine p0 A (IsNamed p0) V place (cs ++ zeros)))
 
 -- ---- in the code

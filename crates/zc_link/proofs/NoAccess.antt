@@ -13,7 +13,7 @@ use Rattle.zc_decode.specs.Accesses.{accesses_of}
 use Rattle.zc_decode.specs.declared.short.Short.{Short}
 use Rattle.zc_decode.specs.declared.short.Short.TheVariants.{Base}
 use Rattle.zc_machine.specs.Fetch.{Found, fetched_at}
-use Rattle.zc_machine.specs.Interrupt.{all_dirtied, dirtied, interrupted, is_free}
+use Rattle.zc_machine.specs.Interrupt.{all_dirtied, dirtied, interrupted}
 use Rattle.zc_machine.proofs.FetchLaws.{SameText, fetched_same}
 use Rattle.zc_link.specs.Image.{Image, loaded_core}
 use Rattle.zc_link.specs.Stretches.{OneAt}
@@ -83,7 +83,7 @@ module _ {p : Program} {e : Image} (room : Room p e) where
 
   dirtied_kept : (d : ℕ × ℕ) (y : ZcCore) → SameText (loaded_core e) y → KeepsText e y (dirtied d y)
   dirtied_kept d y same =
-      cond_both (is_free y d.0) (record y { memory = changed (written d.0 1 (λ i. d.1)) y.memory }) y (KeepsText e y)
+      cond_both (lies_in is_stack (extents_of y.memory) d.0 1 && ltb d.0 (reg_in y 2)) (record y { memory = changed (written d.0 1 (λ i. d.1)) y.memory }) y (KeepsText e y)
       (λ free.
       let stack = (and_parts (lies_in is_stack (extents_of y.memory) d.0 1) (ltb d.0 (reg_in y 2)) free).0 in
       let held = ap (λ es. lies_in is_data es d.0 1) (sym same.extents) ∙ stack_is_data (extents_of y.memory) d.0 1 stack in

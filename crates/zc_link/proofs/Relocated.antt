@@ -19,7 +19,7 @@ use Rattle.block_cut.specs.Leaders.{is_jalr}
 use Rattle.sym_machine.specs.declared.word.SymWord.{SymWord}
 use Rattle.sym_machine.specs.declared.word.Value.TheVariants.{PcHi}
 use Rattle.sym_machine.specs.AddressParts.{high_word, low_sum, pc_low_sum, pc_target}
-use Rattle.sym_machine.specs.Change.{Change, Goes, addi_does, base_of, by_sum, upper_does}
+use Rattle.sym_machine.specs.Change.{Change, Goes, base_of, by_sum, upper_does}
 use Rattle.sym_machine.specs.Program.{Program}
 use Rattle.sym_machine.specs.State.{PlainCore, reg_of}
 use Rattle.sym_machine.specs.Words.{value_word}
@@ -97,18 +97,18 @@ module _ {p : Program} {Named : Place → Type 0} {e : Image} {s : PlainCore} {z
   module _ (listed : e.address next ≡ Some (after z size)) where
     -- `addi`
     addi_moves :
-        (op : ImmOp) (rd first : ℕ) (k : ℤ) (w : SymWord) → WordStands (value_in p e.address) w (add32 (reg_in z first) k) → NamesWord Named w
-        → addi_does op rd w next ≡ Goes c → Moves p Named e (instr.WithImm op rd first k) size c s z
-    addi_moves Addi rd first k w stands names h =
+        (op : ImmOp) (rd first : ℕ) (imm k : ℤ) (w : SymWord) → WordStands (value_in p e.address) w (add32 (reg_in z first) k) → NamesWord Named w
+        → by_sum (instr.WithImm op rd first imm) w s next ≡ Goes c → Moves p Named e (instr.WithImm op rd first k) size c s z
+    addi_moves Addi rd first imm k w stands names h =
         moves_on listed (register_goes room ready size c next (instr.WithImm Addi rd first k) rd (add32 (reg_in z first) k) w refl (omega arith) stands names h)
-    addi_moves Slti rd first k w stands names h = absurd cc
-    addi_moves Sltiu rd first k w stands names h = absurd cc
-    addi_moves Xori rd first k w stands names h = absurd cc
-    addi_moves Ori rd first k w stands names h = absurd cc
-    addi_moves Andi rd first k w stands names h = absurd cc
-    addi_moves Slli rd first k w stands names h = absurd cc
-    addi_moves Srli rd first k w stands names h = absurd cc
-    addi_moves Srai rd first k w stands names h = absurd cc
+    addi_moves Slti rd first imm k w stands names h = absurd cc
+    addi_moves Sltiu rd first imm k w stands names h = absurd cc
+    addi_moves Xori rd first imm k w stands names h = absurd cc
+    addi_moves Ori rd first imm k w stands names h = absurd cc
+    addi_moves Andi rd first imm k w stands names h = absurd cc
+    addi_moves Slli rd first imm k w stands names h = absurd cc
+    addi_moves Srli rd first imm k w stands names h = absurd cc
+    addi_moves Srai rd first imm k w stands names h = absurd cc
 
     -- any sum, by its word
     pub sum_moves :
@@ -121,7 +121,7 @@ module _ {p : Program} {Named : Place → Type 0} {e : Image} {s : PlainCore} {z
     sum_moves (instr.Branch op first second distance) k w registers named stands names h = absurd cc
     sum_moves (instr.Load op rd base imm) k w registers named stands names h = moves_on listed (load_goes room ready size c next op rd base k w stands h)
     sum_moves (instr.Store op source base imm) k w registers named stands names h = moves_on listed (store_goes room ready size c next op source base k w registers.0 stands h)
-    sum_moves (instr.WithImm op rd first imm) k w registers named stands names h = addi_moves op rd first k w stands names h
+    sum_moves (instr.WithImm op rd first imm) k w registers named stands names h = addi_moves op rd first imm k w stands names h
     sum_moves (instr.WithReg op rd first second) k w registers named stands names h = absurd cc
     sum_moves (instr.Fence rest) k w registers named stands names h = absurd cc
     sum_moves instr.Ecall k w registers named stands names h = absurd cc

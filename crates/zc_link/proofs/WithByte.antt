@@ -12,7 +12,8 @@ use Rattle.zc_decode.specs.Effect.{accessed, all_accessed, framed, reaching_all,
 use Rattle.zc_decode.specs.declared.short.Short.{Short}
 use Rattle.zc_decode.specs.declared.short.Short.TheVariants.{Base, MoveAs, MoveSa, Pop, PopRet, PopRetz, Push, TableJump}
 use Rattle.zc_machine.specs.Fetch.{Found}
-use Rattle.zc_machine.specs.Interrupt.{all_dirtied, dirtied, done_all, done_of, done_one, is_free, is_possible}
+use Rattle.zc_machine.specs.Interrupt.{all_dirtied, dirtied, done_all, done_of, done_one}
+use Rattle.zc_machine.proofs.FrameLaws.{is_possible}
 use Rattle.zc_link.proofs.Effects.{commits_same}
 
 -- ---- changes of different cells
@@ -133,18 +134,18 @@ module _ (a b : ℕ) where
 
   dirtied_outside : (d : ℕ × ℕ) (y : ZcCore) → IsOutside y → IsOutside (dirtied d y)
   dirtied_outside d y outside =
-      cond_both (is_free y d.0) (record y { memory = changed (written d.0 1 (λ i. d.1)) y.memory }) y IsOutside
+      cond_both (lies_in is_stack (extents_of y.memory) d.0 1 && ltb d.0 (reg_in y 2)) (record y { memory = changed (written d.0 1 (λ i. d.1)) y.memory }) y IsOutside
       (λ _. rw (extents-changed (written d.0 1 (λ i. d.1)) y.memory) outside) (λ _. outside)
 
   dirtied_with : (d : ℕ × ℕ) (y : ZcCore) → IsOutside y → dirtied d (w y) ≡ w (dirtied d y)
   dirtied_with d y outside =
       ap (λ (es : List Extent). cond (lies_in is_stack es d.0 1 && ltb d.0 (reg_in y 2)) (dirt (w y)) (w y)) (with_extents y)
-      ∙ either (is_free y d.0) refl
+      ∙ either (lies_in is_stack (extents_of y.memory) d.0 1 && ltb d.0 (reg_in y 2)) refl
     where
       dirt : ZcCore → ZcCore
       dirt x = record x { memory = changed (written d.0 1 (λ i. d.1)) x.memory }
 
-      either : (t : Bool) → is_free y d.0 ≡ t → cond t (dirt (w y)) (w y) ≡ w (cond t (dirt y) y)
+      either : (t : Bool) → (lies_in is_stack (extents_of y.memory) d.0 1 && ltb d.0 (reg_in y 2)) ≡ t → cond t (dirt (w y)) (w y) ≡ w (cond t (dirt y) y)
       either true free =
           let in_stack = (and_parts (lies_in is_stack (extents_of y.memory) d.0 1) (ltb d.0 (reg_in y 2)) free).0 in
           ap {A = List (Region ℕ)} {B = ZcCore} (λ memory. record y { memory = memory })

@@ -7,7 +7,7 @@ use Rattle.sym_machine.specs.Program.{Program}
 use Rattle.sym_machine.specs.State.{PlainState}
 use Rattle.sym_machine.specs.Run.{program_after}
 use Rattle.sym_machine.specs.Objects.{program_of}
-use Rattle.zc_machine.specs.Run.{zc_after}
+use Rattle.zc_machine.specs.Run.{interrupts_by, machine_after}
 use Rattle.zc_link.specs.Image.{Image, image_in, loaded_core}
 use Rattle.zc_link.specs.Stands.{Stands}
 
@@ -23,7 +23,7 @@ abbrev pub FollowsAlways : Program → Image → Type 0
 FollowsAlways p e =
     (input : List ℕ) (n : ℕ) (s : PlainState) → All (λ b. b < 256) input → program_after p input n ≡ Ok s →
     (m : ℕ) × (m ≤ 64 * n + 3)
-    × ((plan : List Entry) → IsPlan plan → (z : ZcState) × (zc_after (loaded_core e) input plan m ≡ Ok z) × Follows p e s z)
+    × ((plan : List Entry) → IsPlan plan → (z : ZcState) × (machine_after (loaded_core e) input (interrupts_by plan) m ≡ Ok z) × Follows p e s z)
 
 -- ---- files
 

@@ -1,10 +1,10 @@
 -- What accesses and interrupts keep.
-use Rattle.std.proofs.Common.{◌≡◌, ◌≢◌, ℕ, zero, suc, ◌-◌, List, [], ◌∷◌, drop, Bool, true, false, cond, eqb, refl, sym, ◌∙◌, Option, Some, None, arith}
-use Rattle.std.specs.Prelude.{All, negsuc, slice_get}
+use Rattle.std.proofs.Common.{◌≡◌, ◌≢◌, ℕ, zero, suc, ◌-◌, List, [], ◌∷◌, drop, Bool, true, false, cond, eqb, refl, sym, ◌∙◌, Option, Some, None, arith, ltb}
+use Rattle.std.specs.Prelude.{All, negsuc, slice_get, ◌&&◌}
 use Rattle.std.proofs.lemmas.List.Elements.{All-drop, All-from_recursion, All-head, All-tail}
 use Rattle.interrupt_plan.specs.Plan.{Interrupt}
 use Rattle.rv_decode.specs.Bits.{add32}
-use Rattle.rv_decode.specs.Memory.{changed, written}
+use Rattle.rv_decode.specs.Memory.{changed, written, extents_of, is_stack, lies_in}
 use Rattle.rv_decode.specs.State.{ZcCore, reg_in, word_at}
 use Rattle.rv_decode.proofs.RegisterLaws.{reads-set_reg_other}
 use Rattle.rv_decode.specs.declared.instr.Instr.{Instr}
@@ -14,7 +14,8 @@ use Rattle.zc_decode.specs.Lists.{registers_of, saved_registers}
 use Rattle.zc_decode.specs.declared.short.Short.{Short}
 use Rattle.zc_decode.specs.declared.short.Short.TheVariants.{Base, Push, Pop, PopRet, PopRetz, MoveSa, MoveAs, TableJump}
 use Rattle.zc_machine.specs.Fetch.{Fetched, Found, Missing, fetched_at}
-use Rattle.zc_machine.specs.Interrupt.{all_dirtied, all_interrupted, dirtied, done_all, done_of, done_one, interrupted, is_free, is_possible}
+use Rattle.zc_machine.specs.Interrupt.{all_dirtied, all_interrupted, dirtied, done_all, done_of, done_one, interrupted}
+use Rattle.zc_machine.proofs.FrameLaws.{is_possible}
 
 -- pc, the number of commits, and the exit
 pub record Keeps (y z : ZcCore) : Type 0 where
@@ -73,7 +74,7 @@ done_of-base i size done z = none done
 -- ---- interrupts
 
 dirtied_keeps : (d : ℕ × ℕ) (z : ZcCore) → Keeps z (dirtied d z)
-dirtied_keeps d z = either (is_free z d.0)
+dirtied_keeps d z = either (lies_in is_stack (extents_of z.memory) d.0 1 && ltb d.0 (reg_in z 2))
   where
     either : (b : Bool) → Keeps z (cond b (record z { memory = changed (written d.0 1 (λ i. d.1)) z.memory }) z)
     either true = record { pc = refl; commits = refl; exit = refl }
@@ -153,7 +154,7 @@ done_of_sp (Missing reason) done z = refl
 
 all_dirtied_sp : (ds : List (ℕ × ℕ)) (z : ZcCore) → reg_in (all_dirtied ds z) 2 ≡ reg_in z 2
 all_dirtied_sp [] z = refl
-all_dirtied_sp (d ∷ ds) z = all_dirtied_sp ds (dirtied d z) ∙ either (is_free z d.0)
+all_dirtied_sp (d ∷ ds) z = all_dirtied_sp ds (dirtied d z) ∙ either (lies_in is_stack (extents_of z.memory) d.0 1 && ltb d.0 (reg_in z 2))
   where
     either : (b : Bool) → reg_in (cond b (record z { memory = changed (written d.0 1 (λ i. d.1)) z.memory }) z) 2 ≡ reg_in z 2
     either true = refl

@@ -11,7 +11,7 @@ use Rattle.zc_machine.specs.declared.reason.Reason.TheVariants.{Illegal}
 use Rattle.zc_machine.specs.Step.{zc_step}
 use Rattle.zc_machine.specs.Answer.{core_after}
 use Rattle.zc_machine.specs.Interrupt.{interrupted, all_interrupted}
-use Rattle.zc_machine.specs.Run.{machine_after, turn, zc_after}
+use Rattle.zc_machine.specs.Run.{interrupts_by, machine_after, turn}
 use Rattle.zc_machine.specs.Load.{first_core}
 
 -- the machine with this text at 0x10000, of this size in memory, and with 16 bytes of stack
@@ -25,7 +25,7 @@ shown (Ok r) = Ok (r.events, r.core.commits)
 shown (Err e) = Err e
 
 ran : List ℕ → ℕ → List Entry → ℕ → Result (List Event × ℕ) Reason
-ran text size plan m = shown (zc_after (loaded text size) [] plan m)
+ran text size plan m = shown (machine_after (loaded text size) [] (interrupts_by plan) m)
 
 -- c.li a0, 3; addi a7, x0, 93; ecall
 three : List ℕ

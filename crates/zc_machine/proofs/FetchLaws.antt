@@ -12,7 +12,11 @@ use Rattle.zc_decode.specs.declared.short.Short.{Short}
 use Rattle.zc_decode.specs.declared.short.Short.TheVariants.{Base}
 use Rattle.zc_decode.specs.Halfwords.{decoded16}
 use Rattle.zc_machine.specs.declared.reason.Reason.TheVariants.{BadAccess}
-use Rattle.zc_machine.specs.Fetch.{Found, Missing, found, fetched_word, fetched_at}
+use Rattle.zc_machine.specs.Fetch.{Found, Missing, found, fetched_at, Fetched}
+
+-- an instruction of four bytes
+abbrev pub fetched_word : ZcCore → ℕ → Fetched
+fetched_word z a = cond (lies_in is_text (extents_of z.memory) a 4) (found (option_map Base (decoded (word_at z a))) 4) (Missing BadAccess)
 
 -- two machines with one text: their regions lie alike, and their bytes of code are the same
 pub record SameText (y z : ZcCore) : Type 0 where

@@ -22,7 +22,6 @@ use Rattle.zc_machine.specs.Answer.{answer_of, core_after}
 use Rattle.zc_machine.specs.declared.answer.Step.{Step}
 use Rattle.zc_machine.specs.declared.answer.Step.TheVariants as answer
 use Rattle.zc_machine.specs.Frames.{all_made, obstacle, popped, pushed, word_obstacle, words_put, words_taken}
-use Rattle.zc_machine.specs.Interrupt.{is_possible}
 use Rattle.zc_machine.specs.Memory.{Reaches}
 use Rattle.zc_machine.specs.Step.{ZcStep, Committed, Stopped, effect_step}
 use Rattle.zc_machine.specs.declared.reason.Reason.{Reason}
@@ -94,7 +93,10 @@ pub rest_free : (p q : Option Reason) → is_none (option_or p q) ≡ true → i
 rest_free None q free = free
 rest_free (Some reason) q free = absurd cc
 
--- then an access is possible
+-- then a word can be loaded and stored there
+abbrev pub is_possible : Access → ZcCore → Bool
+is_possible a z = eqb (a.at % 4) 0 && lies_in is_data (extents_of z.memory) a.at 4
+
 pub free_possible : (a : Access) (z : ZcCore) → is_none (word_obstacle a.at z) ≡ true → is_possible a z ≡ true
 free_possible a z free = either (eqb (a.at % 4) 0) (lies_in is_data (extents_of z.memory) a.at 4) free
   where

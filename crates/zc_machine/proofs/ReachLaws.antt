@@ -13,7 +13,8 @@ use Rattle.zc_decode.specs.Effect.{entry_at}
 use Rattle.zc_decode.specs.Halfwords.{decoded16}
 use Rattle.zc_decode.specs.declared.short.Short.TheVariants.{Base}
 use Rattle.zc_machine.specs.Cells.{first_byte, first_half, first_word, half_spells, instruction, loaded, word_spells}
-use Rattle.zc_machine.specs.Fetch.{Fetched, Missing, fetched_at, fetched_word, found}
+use Rattle.zc_machine.specs.Fetch.{Fetched, Missing, fetched_at, found}
+use Rattle.zc_machine.proofs.FetchLaws.{fetched_word}
 use Rattle.zc_machine.specs.Memory.{Reaches, most_at_once}
 use Rattle.zc_machine.specs.Region.{allowed}
 use Rattle.zc_machine.specs.declared.reason.Reason.TheVariants.{BadAccess}

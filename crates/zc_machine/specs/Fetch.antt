@@ -21,16 +21,11 @@ abbrev pub found : Option Short → ℕ → Fetched
 found None size = Missing Illegal
 found (Some s) size = Found s size
 
--- an instruction of four bytes, which must lie in text too
-abbrev pub fetched_word : ZcCore → ℕ → Fetched
-fetched_word z a =
-    if lies_in is_text (extents_of z.memory) a 4
-    then found (option_map Base (decoded (word_at z a))) 4
-    else Missing BadAccess
-
--- what stands at an address of code: an instruction of two bytes, or of four if its low two bits are 11
+-- what stands at an address of code: an instruction of two bytes, or of four, which must lie in text too, if its low two bits are 11
 abbrev pub fetched_at : ZcCore → ℕ → Fetched
 fetched_at z a =
     if lies_in is_text (extents_of z.memory) a 2
-    then (if field (half_at z a) 0 2 == 0b11 then fetched_word z a else found (decoded16 (half_at z a)) 2)
+    then (if field (half_at z a) 0 2 == 0b11
+        then (if lies_in is_text (extents_of z.memory) a 4 then found (option_map Base (decoded (word_at z a))) 4 else Missing BadAccess)
+        else found (decoded16 (half_at z a)) 2)
     else Missing BadAccess

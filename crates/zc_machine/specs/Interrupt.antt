@@ -12,14 +12,10 @@ use Rattle.zc_machine.specs.Fetch.{Fetched, Found, Missing, fetched_at}
 
 -- ---- accesses that were done
 
--- whether a word at an address can be loaded and stored
-abbrev pub is_possible : Access → ZcCore → Bool
-is_possible a z = a.at % 4 == 0 && lies_in is_data (extents_of z.memory) a.at 4
-
--- one access of an instruction, if it has it; one that isn't possible is passed over
+-- one access of an instruction, if it has it; one of a word that can't be loaded and stored is passed over
 abbrev pub done_one : Short → Option Access → ZcCore → ZcCore
 done_one s None z = z
-done_one s (Some a) z = if is_possible a z then accessed s a z else z
+done_one s (Some a) z = if a.at % 4 == 0 && lies_in is_data (extents_of z.memory) a.at 4 then accessed s a z else z
 
 -- the accesses with these numbers, one after another as they are listed; a number may come twice
 abbrev pub done_all : Short → List Access → List ℕ → ZcCore → ZcCore
@@ -33,13 +29,12 @@ done_of (Missing reason) done z = z
 
 -- ---- bytes that are written
 
--- an address that an interrupt may write: in the stack, below sp
-abbrev pub is_free : ZcCore → ℕ → Bool
-is_free z a = lies_in is_stack (extents_of z.memory) a 1 && nat_lt a (reg_in z 2)
-
--- one byte that is written; at any other address it is passed over
+-- one byte that is written, in the stack below sp; at any other address it is passed over
 abbrev pub dirtied : ℕ × ℕ → ZcCore → ZcCore
-dirtied d z = if is_free z d.0 then record z { memory = changed (written d.0 1 (λ i. d.1)) z.memory } else z
+dirtied d z =
+    if lies_in is_stack (extents_of z.memory) d.0 1 && nat_lt d.0 (reg_in z 2)
+    then record z { memory = changed (written d.0 1 (λ i. d.1)) z.memory }
+    else z
 
 -- the bytes that are written, in order
 abbrev pub all_dirtied : List (ℕ × ℕ) → ZcCore → ZcCore

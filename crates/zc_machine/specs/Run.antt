@@ -61,7 +61,3 @@ zc_turns cuts m r = turns (λ k. all_interrupted (cuts k)) m r
 -- what happens by a plan: all its interrupts before the commit with this number, in order
 abbrev pub interrupts_by : List Entry → ℕ → ZcCore → ZcCore
 interrupts_by plan k = all_interrupted (interrupts_at plan k)
-
--- the state after m commits under a plan
-abbrev pub zc_after : ZcCore → List ℕ → List Entry → ℕ → Result ZcState Reason
-zc_after first input plan m = machine_after first input (interrupts_by plan) m

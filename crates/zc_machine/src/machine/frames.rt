@@ -1,6 +1,7 @@
 // Pushes and pops.
 
-ghost use Rattle.std.specs.Prelude.{◌≡◌, ◌<◌, ◌≤◌, ◌*◌, ◌+◌, ◌-◌, ◌^◌, ◌%◌, All, if◌then◌else◌, is_none, true, length};
+ghost use Rattle.std.specs.Prelude.{◌≡◌, ◌<◌, ◌≤◌, ◌*◌, ◌+◌, ◌-◌, ◌^◌, ◌%◌, ◌==◌, ◌&&◌, All, if◌then◌else◌, is_none, true, length};
+ghost use Rattle.rv_decode.specs.Memory.{extents_of, is_data, lies_in};
 ghost use Rattle.rv_decode.specs.State.{reg_in};
 ghost use Rattle.zc_decode.specs.Accesses.{sp_after, words_below};
 ghost use Rattle.zc_decode.specs.Effect.{restored, returned, saved, short_effect, zeroed};
@@ -8,7 +9,6 @@ ghost use Rattle.zc_decode.specs.Lists.{registers_of};
 ghost use Rattle.zc_decode.specs.declared.short.Short.TheVariants.{Push, Pop, PopRet, PopRetz};
 ghost use Rattle.zc_machine.specs.Answer.{answer_of, core_after};
 ghost use Rattle.zc_machine.specs.Frames.{all_made, obstacle, popped, pushed, word_obstacle, words_put, words_taken};
-ghost use Rattle.zc_machine.specs.Interrupt.{is_possible};
 ghost use Rattle.zc_machine.specs.Step.{effect_step};
 
 use super::Machine;
@@ -174,7 +174,7 @@ impl Machine {
     // Saves a register to a word, if it can be stored there.
     pub(super) fn save_one(&mut self, at: u32, register: u8)
         requires { register < 32 }
-        ensures { self.new ≡ (if is_possible (record { at = at; register = register }) self.old
+        ensures { self.new ≡ (if at % 4 == 0 && lies_in is_data (extents_of self.old.memory) at 4
             then saved (record { at = at; register = register }) self.old else self.old) }
     {
         if at % 4 == 0 {
@@ -239,7 +239,7 @@ impl Machine {
     // Restores a register from a word, if it can be loaded.
     pub(super) fn restore_one(&mut self, at: u32, register: u8)
         requires { (0 < register) × (register < 32) }
-        ensures { self.new ≡ (if is_possible (record { at = at; register = register }) self.old
+        ensures { self.new ≡ (if at % 4 == 0 && lies_in is_data (extents_of self.old.memory) at 4
             then restored (record { at = at; register = register }) self.old else self.old) }
     {
         if at % 4 != 0 {
