@@ -21,7 +21,7 @@ use Rattle.sym_machine.specs.Program.{Program}
 use Rattle.sym_machine.specs.State.{PlainCore, cell_of}
 use Rattle.sym_machine.specs.Words.{byte_word, half_word, number_of, sign_of}
 use Rattle.zc_link.specs.Image.{Image}
-use Rattle.zc_link.specs.Room.{Room, SpansMemory}
+use Rattle.zc_link.specs.Invariants.Room.{Room, SpansMemory}
 use Rattle.zc_link.specs.Sound.{NamesByte, NamesWord, Ready}
 use Rattle.zc_link.specs.Stands.{ByteStands, WordStands}
 use Rattle.zc_link.specs.Values.{value_in}

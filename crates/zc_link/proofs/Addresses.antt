@@ -19,8 +19,8 @@ use Rattle.sym_machine.specs.AddressParts.{high_word, low_sum, pc_low_sum, pc_ta
 use Rattle.sym_machine.specs.Program.{Program}
 use Rattle.sym_machine.specs.Words.{code_from, code_of, code_word, is_part, is_value, number_word, same_value, undef_word, value_word}
 use Rattle.zc_link.specs.Image.{Image}
-use Rattle.zc_link.specs.Leads.{NamesTarget}
-use Rattle.zc_link.specs.Room.{Room}
+use Rattle.zc_link.specs.Invariants.Leads.{NamesTarget}
+use Rattle.zc_link.specs.Invariants.Room.{Room}
 use Rattle.zc_link.specs.Sound.{NamesWord}
 use Rattle.zc_link.specs.Stands.{ByteStands, WordStands}
 use Rattle.zc_link.specs.Values.{target_value, value_in, way}

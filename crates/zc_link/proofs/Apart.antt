@@ -10,7 +10,7 @@ use Rattle.sym_machine.specs.Program.{Program}
 use Rattle.sym_machine.specs.Expansions.{item_expansion}
 use Rattle.sym_machine.specs.State.{PlainState}
 use Rattle.zc_link.specs.Image.{Image}
-use Rattle.zc_link.specs.Laid.{Laid}
+use Rattle.zc_link.specs.Invariants.Laid.{Laid}
 use Rattle.zc_link.specs.Pace.{AlignOf, Alone, CallOf, GroupOf, LongOf, Stretch, TableOf, commits_of, pace_of, span_of}
 use Rattle.zc_link.specs.DataApart.{CommitsApart, CutsApart, FromLoad, FromPair, OnWay, Pokes, poked}
 use Rattle.zc_link.proofs.Bare.{bare_apart, bares_no_access}

@@ -19,8 +19,8 @@ use Rattle.zc_machine.specs.Step.{Ended, effect_step, made, zc_step}
 use Rattle.zc_machine.proofs.FetchLaws.{SameText, fetched_same}
 use Rattle.zc_machine.proofs.TurnLaws.{zc_turn-running}
 use Rattle.zc_link.specs.Image.{Image, loaded_core}
-use Rattle.zc_link.specs.Stretches.{Nops, OneAt, TwoAt}
-use Rattle.zc_link.specs.Room.{Room}
+use Rattle.zc_link.specs.Invariants.Stretches.{Nops, OneAt, TwoAt}
+use Rattle.zc_link.specs.Invariants.Room.{Room}
 use Rattle.zc_link.specs.DataApart.{CommitsApart, Cuts, IsCell, OnWay, Pokes, Starts, Turns, poked}
 use Rattle.zc_link.proofs.NoAccess.{KeepsText, NoAccess, base_at, cut_kept, here_fetched, poked_kept}
 use Rattle.zc_link.proofs.Singles.{below_top}

@@ -15,7 +15,7 @@ use Rattle.sym_machine.specs.Program.{Program, start_memory}
 use Rattle.sym_machine.specs.State.{PlainCore, cell_of}
 use Rattle.zc_machine.specs.Buffer.{bytes_at}
 use Rattle.zc_link.specs.Image.{Image}
-use Rattle.zc_link.specs.Room.{Room, SpansMemory}
+use Rattle.zc_link.specs.Invariants.Room.{Room, SpansMemory}
 use Rattle.zc_link.specs.Sound.{Ready}
 use Rattle.zc_link.specs.Stands.{ByteStands, IsMemory}
 use Rattle.zc_link.specs.Values.{value_in}

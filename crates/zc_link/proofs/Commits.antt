@@ -19,8 +19,8 @@ use Rattle.zc_machine.specs.Step.{Ended, effect_step, made, zc_step}
 use Rattle.zc_machine.proofs.FetchLaws.{fetched_same}
 use Rattle.zc_machine.proofs.TurnLaws.{zc_turn-running}
 use Rattle.zc_link.specs.Image.{Image, loaded_core}
-use Rattle.zc_link.specs.Stretches.{OneAt}
-use Rattle.zc_link.specs.Room.{Room}
+use Rattle.zc_link.specs.Invariants.Stretches.{OneAt}
+use Rattle.zc_link.specs.Invariants.Room.{Room}
 use Rattle.zc_link.specs.Sound.{Alike}
 use Rattle.zc_link.proofs.Cuts.{Spoiled, all_cuts_kept, all_dirtied_spoiled, cut-none, spoiled_below, stack_within, unspoiled}
 

@@ -19,7 +19,7 @@ use Rattle.zc_machine.specs.Interrupt.{all_dirtied, all_interrupted, dirtied, do
 use Rattle.zc_machine.specs.Load.{first_core}
 use Rattle.zc_machine.proofs.LoadLaws.{stack_bounds}
 use Rattle.zc_link.specs.Image.{Image, loaded_core}
-use Rattle.zc_link.specs.Room.{Room}
+use Rattle.zc_link.specs.Invariants.Room.{Room}
 use Rattle.zc_link.specs.Sound.{Alike}
 
 -- an instruction without accesses has none that an interrupt could do

@@ -11,7 +11,7 @@ use Rattle.rv_decode.specs.Memory.{Extent, byte_of, extents_of, is_data, lies_in
 use Rattle.rv_decode.specs.State.{ZcCore, reg_in, set_reg, word_at}
 use Rattle.rv_decode.proofs.MemoryLaws.{extents-changed}
 use Rattle.rv_decode.proofs.RegisterLaws.{length-set_reg, reads-set_reg_other}
-use Rattle.zc_link.specs.Groups.{Slot, loads_of, stores_of}
+use Rattle.zc_link.specs.Invariants.Groups.{Slot, loads_of, stores_of}
 use Rattle.zc_link.proofs.Slots.{IsOneOf}
 use Rattle.zc_link.proofs.SlotWords.{read_all, written_all}
 

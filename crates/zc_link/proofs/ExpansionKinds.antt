@@ -14,8 +14,8 @@ use Rattle.zc_decode.specs.declared.short.Short.TheVariants.{Base, Push, Pop, Po
 use Rattle.zc_decode.proofs.OperandLaws.{frame_range, spelled_operands}
 use Rattle.zc_machine.specs.Fetch.{Found}
 use Rattle.zc_link.specs.Image.{Image}
-use Rattle.zc_link.specs.Stretches.{OneAt}
-use Rattle.zc_link.specs.Groups.{A0First, GoesOn, GroupKind, IsFrame, IsGroup, MovesFromSaved, MovesToSaved, PopOf, PushOf, Returns, Slot, ZeroBeforeRaise, adjust_of, group_half, group_ops, group_rest, loads_of, lower_sp, raise_sp, rest_of, return_to_ra, slots_below, stores_of, zero_a0}
+use Rattle.zc_link.specs.Invariants.Stretches.{OneAt}
+use Rattle.zc_link.specs.Invariants.Groups.{A0First, GoesOn, GroupKind, IsFrame, IsGroup, MovesFromSaved, MovesToSaved, PopOf, PushOf, Returns, Slot, ZeroBeforeRaise, adjust_of, group_half, group_ops, group_rest, loads_of, lower_sp, raise_sp, rest_of, return_to_ra, slots_below, stores_of, zero_a0}
 
 -- the instructions are those of a group without a rest, and the halfword is the group's
 pub record IsExpansionKind (short : Short) (is : List Instr) : Type 0 where

@@ -24,12 +24,12 @@ use Rattle.sym_machine.proofs.StepLaws.{Ended, ended}
 use Rattle.zc_decode.specs.Halfwords.{decoded16}
 use Rattle.zc_decode.specs.declared.short.Short.{Short}
 use Rattle.zc_decode.specs.declared.short.Short.TheVariants.{Push}
-use Rattle.zc_link.specs.Groups.{A0First, A1First, Ending, GoesOn, GroupKind, IsGroup, MoveOrder, MovesFromSaved, MovesToSaved, PopOf, PushOf, Returns, Slot, ZeroBeforeRaise, ZeroBeforeReturn, ZeroFirst, adjust_of, group_half, group_ops, group_rest, loads_of, move_ops, ops_before_return, pop_kind, pop_ops, push_ops, raise_sp, rest_of, return_ops, return_to_ra, zero_a0}
+use Rattle.zc_link.specs.Invariants.Groups.{A0First, A1First, Ending, GoesOn, GroupKind, IsGroup, MoveOrder, MovesFromSaved, MovesToSaved, PopOf, PushOf, Returns, Slot, ZeroBeforeRaise, ZeroBeforeReturn, ZeroFirst, adjust_of, group_half, group_ops, group_rest, loads_of, move_ops, ops_before_return, pop_kind, pop_ops, push_ops, raise_sp, rest_of, return_ops, return_to_ra, zero_a0}
 use Rattle.zc_link.specs.Image.{Image}
 use Rattle.zc_link.specs.IsSimulation.{Comes}
-use Rattle.zc_link.specs.Room.{Room}
+use Rattle.zc_link.specs.Invariants.Room.{Room}
 use Rattle.zc_link.specs.Sound.{Alike}
-use Rattle.zc_link.specs.Stretches.{ItemLaid, OneAt, ShortLaid}
+use Rattle.zc_link.specs.Invariants.Stretches.{ItemLaid, OneAt, ShortLaid}
 use Rattle.zc_link.proofs.Commits.{zc_turns-one}
 use Rattle.zc_link.proofs.GroupEnds.{FromPlace, arrives}
 use Rattle.zc_link.proofs.InTurn.{AllDone, OneFirst, all_done, in_turn-apart, in_turn-silent, one_first, went_same}

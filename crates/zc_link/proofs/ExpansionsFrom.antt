@@ -13,11 +13,11 @@ use Rattle.sym_machine.proofs.RunLaws.{SteppedExpansion}
 use Rattle.zc_decode.specs.declared.short.Short.{Short}
 use Rattle.zc_decode.specs.declared.short.Short.TheVariants.{MoveAs, MoveSa, Push}
 use Rattle.zc_link.specs.DataApart.{IsCell, all_poked}
-use Rattle.zc_link.specs.Groups.{GroupKind, IsGroup, MovesFromSaved, MovesToSaved, PopOf, PushOf, adjust_of, group_half, group_ops, group_rest, ops_before_return, pop_kind, push_ops, rest_of, return_ops}
+use Rattle.zc_link.specs.Invariants.Groups.{GroupKind, IsGroup, MovesFromSaved, MovesToSaved, PopOf, PushOf, adjust_of, group_half, group_ops, group_rest, ops_before_return, pop_kind, push_ops, rest_of, return_ops}
 use Rattle.zc_link.specs.Image.{Image}
-use Rattle.zc_link.specs.Room.{Room}
+use Rattle.zc_link.specs.Invariants.Room.{Room}
 use Rattle.zc_link.specs.Sound.{Alike, Sound}
-use Rattle.zc_link.specs.Stretches.{OneAt, ShortLaid}
+use Rattle.zc_link.specs.Invariants.Stretches.{OneAt, ShortLaid}
 use Rattle.zc_link.proofs.FrameCuts.{alike_ready}
 use Rattle.zc_link.proofs.GroupFrom.{all_poked_alike, one_left}
 use Rattle.zc_link.proofs.GroupWay.{AMoveAs, AMoveSa, APop, APush, Left, OnGroup}

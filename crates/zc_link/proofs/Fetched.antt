@@ -26,7 +26,7 @@ use Rattle.zc_machine.proofs.FetchLaws.{fetched_long, fetched_short}
 use Rattle.zc_link.specs.Copied.{bytes_from}
 use Rattle.zc_link.specs.Image.{Image, loaded_core}
 use Rattle.zc_link.specs.Pace.{padding_commits}
-use Rattle.zc_link.specs.Stretches.{Nops, OneAt}
+use Rattle.zc_link.specs.Invariants.Stretches.{Nops, OneAt}
 use Rattle.zc_link.specs.Written.{IsSpelled, SpellsWord, copies, nop, padding, short_nop}
 use Rattle.zc_link.proofs.ImageMemory.{AreLaidOut, image_of, text_byte, text_lies}
 

@@ -30,11 +30,11 @@ use Rattle.zc_machine.specs.Run.{committed, zc_turn}
 use Rattle.zc_machine.specs.Step.{Ended, effect_step, made, zc_step}
 use Rattle.zc_machine.proofs.FetchLaws.{SameText, fetched_same}
 use Rattle.zc_machine.proofs.TurnLaws.{zc_turn-running}
-use Rattle.zc_link.specs.Groups.{Ending, GoesOn, Returns, Slot, ZeroBeforeRaise, ZeroBeforeReturn, ZeroFirst, adjust_of, pop_kind, slots_below}
+use Rattle.zc_link.specs.Invariants.Groups.{Ending, GoesOn, Returns, Slot, ZeroBeforeRaise, ZeroBeforeReturn, ZeroFirst, adjust_of, pop_kind, slots_below}
 use Rattle.zc_link.specs.Image.{Image, loaded_core}
-use Rattle.zc_link.specs.Room.{Room}
+use Rattle.zc_link.specs.Invariants.Room.{Room}
 use Rattle.zc_link.specs.Sound.{Alike}
-use Rattle.zc_link.specs.Stretches.{OneAt}
+use Rattle.zc_link.specs.Invariants.Stretches.{OneAt}
 use Rattle.zc_link.proofs.Cuts.{all_cuts_kept, done-none, others_kept, stack_within, written_are}
 use Rattle.zc_link.proofs.Slots.{FrameFacts, IsOneOf}
 

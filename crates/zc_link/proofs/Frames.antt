@@ -13,7 +13,7 @@ use Rattle.zc_decode.specs.Accesses.{Access, words_below}
 use Rattle.zc_decode.specs.Effect.{all_accessed, reaching_all, restored, returned, saved, short_effect, zeroed}
 use Rattle.zc_decode.specs.Lists.{registers_of}
 use Rattle.zc_decode.specs.declared.short.Short.TheVariants.{Pop, PopRet, PopRetz, Push}
-use Rattle.zc_link.specs.Groups.{Ending, GoesOn, Returns, Slot, ZeroBeforeRaise, ZeroBeforeReturn, ZeroFirst, adjust_of, loads_of, pop_kind, pop_ops, push_ops, raise_sp, slots_below, stores_of}
+use Rattle.zc_link.specs.Invariants.Groups.{Ending, GoesOn, Returns, Slot, ZeroBeforeRaise, ZeroBeforeReturn, ZeroFirst, adjust_of, loads_of, pop_kind, pop_ops, push_ops, raise_sp, slots_below, stores_of}
 use Rattle.zc_link.proofs.Effects.{AreReached, Effects, IsReached, KeepsRest, commits_same, effects_apart, keeps_both, keeps_same, loads_are, reaches, stores_are, sum_is}
 use Rattle.zc_link.proofs.Slots.{FrameFacts, IsOneOf, slots_apart}
 use Rattle.zc_link.proofs.SlotWords.{length-read_all, read_all, read_given, reads_out, reads_same, written_all, written_extents, written_given, written_same}

@@ -13,12 +13,12 @@ use Rattle.zc_decode.specs.Effect.{short_effect}
 use Rattle.zc_decode.specs.declared.short.Short.{Short}
 use Rattle.zc_machine.specs.Run.{committed, zc_turn, zc_turns}
 use Rattle.zc_machine.specs.Step.{effect_step}
-use Rattle.zc_link.specs.Groups.{frame_commits, rest_of}
+use Rattle.zc_link.specs.Invariants.Groups.{frame_commits, rest_of}
 use Rattle.zc_link.specs.Image.{Image}
 use Rattle.zc_link.specs.IsSimulation.{Comes}
-use Rattle.zc_link.specs.Room.{Room}
+use Rattle.zc_link.specs.Invariants.Room.{Room}
 use Rattle.zc_link.specs.Sound.{Alike, Sound}
-use Rattle.zc_link.specs.Stretches.{OneAt}
+use Rattle.zc_link.specs.Invariants.Stretches.{OneAt}
 use Rattle.zc_link.proofs.FrameCuts.{Behind, IsReady, SpoiledSlots, behind, without_accesses}
 use Rattle.zc_link.proofs.Straight.{CameTo}
 

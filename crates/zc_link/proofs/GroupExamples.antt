@@ -15,9 +15,9 @@ use Rattle.zc_decode.specs.Rows.{form_of}
 use Rattle.zc_decode.specs.declared.short.Short.TheVariants.{Base, MoveAs, PopRetz, Push}
 use Rattle.zc_machine.specs.Fetch.{Found, fetched_at}
 use Rattle.zc_machine.specs.Load.{first_core}
-use Rattle.zc_link.specs.Groups.{A1First, IsFrame, MovesFromSaved, PopOf, PushOf, Slot, ZeroBeforeRaise}
+use Rattle.zc_link.specs.Invariants.Groups.{A1First, IsFrame, MovesFromSaved, PopOf, PushOf, Slot, ZeroBeforeRaise}
 use Rattle.zc_link.specs.Image.{Image, loaded_core}
-use Rattle.zc_link.specs.Stretches.{GroupLaid, place_on}
+use Rattle.zc_link.specs.Invariants.Stretches.{GroupLaid, place_on}
 use Rattle.zc_link.proofs.Slots.{IsOneOf, contained_one, one_contained}
 
 abbrev place_at : ℕ → Place

@@ -24,11 +24,11 @@ use Rattle.zc_decode.specs.declared.short.Short.{Short}
 use Rattle.zc_decode.specs.declared.short.Short.TheVariants.{Base, MoveAs, MoveSa, Push}
 use Rattle.zc_machine.specs.Fetch.{fetched_at}
 use Rattle.zc_link.specs.DataApart.{IsCell, all_poked, poked_plain}
-use Rattle.zc_link.specs.Groups.{Ending, GroupKind, IsGroup, MovesFromSaved, MovesToSaved, PopOf, PushOf, Slot, adjust_of, frame_commits, group_commits, group_ops, lower_sp, ops_before_return, pop_kind, push_ops, raise_sp, rest_of, return_ops}
+use Rattle.zc_link.specs.Invariants.Groups.{Ending, GroupKind, IsGroup, MovesFromSaved, MovesToSaved, PopOf, PushOf, Slot, adjust_of, frame_commits, group_commits, group_ops, lower_sp, ops_before_return, pop_kind, push_ops, raise_sp, rest_of, return_ops}
 use Rattle.zc_link.specs.Image.{Image, loaded_core}
-use Rattle.zc_link.specs.Room.{Room}
+use Rattle.zc_link.specs.Invariants.Room.{Room}
 use Rattle.zc_link.specs.Sound.{Alike, Sound}
-use Rattle.zc_link.specs.Stretches.{AreOps, FormAt, GroupAt, GroupLaid, OneAt, PopAt, PushAt}
+use Rattle.zc_link.specs.Invariants.Stretches.{AreOps, FormAt, GroupAt, GroupLaid, OneAt, PopAt, PushAt}
 use Rattle.zc_link.proofs.Cuts.{stack_within}
 use Rattle.zc_link.proofs.Effects.{commits_same}
 use Rattle.zc_link.proofs.FrameCuts.{IsReady, SpoiledSlots, alike_ready, itself, push_all_kept, text_kept}

@@ -5,7 +5,7 @@ use Rattle.std.proofs.lemmas.Bool.{and_from, eqb-true, false_from_ne_true, le-le
 use Rattle.std.specs.Option.{is_some}
 use Rattle.zc_decode.specs.Lists.{base_of}
 use Rattle.zc_encode.specs.Halves.{move_half, s_code}
-use Rattle.zc_link.specs.Groups.{GoesOn, GroupKind, IsFrame, IsGroup, IsSaved, MovesFromSaved, MovesToSaved, PopOf, PushOf, Returns, Slot, ZeroBeforeRaise, ZeroBeforeReturn, ZeroFirst, adjust_of, group_half, group_rest}
+use Rattle.zc_link.specs.Invariants.Groups.{GoesOn, GroupKind, IsFrame, IsGroup, IsSaved, MovesFromSaved, MovesToSaved, PopOf, PushOf, Returns, Slot, ZeroBeforeRaise, ZeroBeforeReturn, ZeroFirst, adjust_of, group_half, group_rest}
 use Rattle.zc_link.specs.Standing.{HasHalf}
 
 -- a list's base is a multiple of 16

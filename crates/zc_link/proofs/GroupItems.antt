@@ -27,8 +27,8 @@ use Rattle.shrink_layout.proofs.RolePlaces.{own, role-code, roles_many}
 use Rattle.shrink_layout.proofs.SiteLaws.{drop_got}
 use Rattle.shrink_layout.proofs.UnitLaws.{role_found}
 use Rattle.sym_machine.specs.Program.{Program}
-use Rattle.zc_link.specs.Groups.{GroupKind, IsGroup, group_half, group_ops, group_rest}
-use Rattle.zc_link.specs.Stretches.{AreOps}
+use Rattle.zc_link.specs.Invariants.Groups.{GroupKind, IsGroup, group_half, group_ops, group_rest}
+use Rattle.zc_link.specs.Invariants.Stretches.{AreOps}
 use Rattle.zc_link.proofs.GroupsFound.{longest_is}
 
 -- ---- lists

@@ -9,11 +9,11 @@ use Rattle.rv_decode.specs.State.{ZcState}
 use Rattle.sym_machine.specs.Program.{Program}
 use Rattle.sym_machine.specs.Run.{plain_turn}
 use Rattle.sym_machine.specs.State.{PlainState}
-use Rattle.zc_link.specs.Groups.{Ending, GoesOn, GroupKind, IsGroup, MovesFromSaved, MovesToSaved, PopOf, PushOf, Returns, ZeroBeforeRaise, ZeroBeforeReturn, ZeroFirst, group_commits, group_ops, move_ops, ops_before_return, push_ops, return_ops}
+use Rattle.zc_link.specs.Invariants.Groups.{Ending, GoesOn, GroupKind, IsGroup, MovesFromSaved, MovesToSaved, PopOf, PushOf, Returns, ZeroBeforeRaise, ZeroBeforeReturn, ZeroFirst, group_commits, group_ops, move_ops, ops_before_return, push_ops, return_ops}
 use Rattle.zc_link.specs.Image.{Image}
 use Rattle.zc_link.specs.IsSimulation.{Comes, IsInside}
-use Rattle.zc_link.specs.Room.{Room}
-use Rattle.zc_link.specs.Stretches.{AreOps, GroupAt, GroupLaid, place_on}
+use Rattle.zc_link.specs.Invariants.Room.{Room}
+use Rattle.zc_link.specs.Invariants.Stretches.{AreOps, GroupAt, GroupLaid, place_on}
 use Rattle.zc_link.proofs.GroupEnds.{FromPlace}
 use Rattle.zc_link.proofs.MovePairs.{from_saved_comes, moves_straight, saved_facts, to_saved_comes}
 use Rattle.zc_link.proofs.Pushes.{push_comes, push_straight}

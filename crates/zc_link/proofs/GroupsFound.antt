@@ -24,7 +24,7 @@ use Rattle.frame_match.specs.declared.found.Move.{Move}
 use Rattle.frame_match.specs.declared.slot.Access.{Access}
 use Rattle.frame_match.specs.declared.slot.Access.TheVariants.{Saves, Restores}
 use Rattle.frame_match.specs.declared.slot.Slot.{Slot}
-use Rattle.zc_link.specs.Groups.{A0First, A1First, GroupKind, IsFrame, IsGroup, IsSaved, MovesFromSaved, MovesToSaved, PopOf, PushOf, SameSlots, group_half, group_ops, group_rest, loads_of, lower_sp, move_to, raise_sp, return_to_ra, stores_of, zero_a0}
+use Rattle.zc_link.specs.Invariants.Groups.{A0First, A1First, GroupKind, IsFrame, IsGroup, IsSaved, MovesFromSaved, MovesToSaved, PopOf, PushOf, SameSlots, group_half, group_ops, group_rest, loads_of, lower_sp, move_to, raise_sp, return_to_ra, stores_of, zero_a0}
 use Rattle.zc_link.proofs.Slots.{IsOneOf, contained_one, one_contained}
 
 -- ---- what is asked of an instruction

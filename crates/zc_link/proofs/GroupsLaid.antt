@@ -11,10 +11,10 @@ use Rattle.shrink_layout.specs.Units.{is_push, rest_instr}
 use Rattle.sym_machine.specs.Program.{Program}
 use Rattle.zc_decode.specs.declared.short.Short.{Short}
 use Rattle.zc_decode.specs.declared.short.Short.TheVariants.{MoveAs, MoveSa, Push}
-use Rattle.zc_link.specs.Groups.{Ending, GoesOn, GroupKind, MovesFromSaved, MovesToSaved, PopOf, PushOf, Returns, ZeroBeforeRaise, ZeroBeforeReturn, ZeroFirst, adjust_of, group_commits, group_half, group_rest, lower_sp, pop_kind, raise_sp, rest_of}
+use Rattle.zc_link.specs.Invariants.Groups.{Ending, GoesOn, GroupKind, MovesFromSaved, MovesToSaved, PopOf, PushOf, Returns, ZeroBeforeRaise, ZeroBeforeReturn, ZeroFirst, adjust_of, group_commits, group_half, group_rest, lower_sp, pop_kind, raise_sp, rest_of}
 use Rattle.zc_link.specs.Image.{Image}
 use Rattle.zc_link.specs.Pace.{commits_in}
-use Rattle.zc_link.specs.Stretches.{GroupAt, HalfAt, PopAt, PushAt}
+use Rattle.zc_link.specs.Invariants.Stretches.{GroupAt, HalfAt, PopAt, PushAt}
 use Rattle.zc_link.specs.Written.{IsGroupWritten, IsSpelled, SpellsHalf}
 use Rattle.zc_link.proofs.Fetched.{StandAt, half_at_address, spelled_at, stand_first, stand_next}
 use Rattle.zc_link.proofs.ImageMemory.{AreLaidOut, image_of}

@@ -32,7 +32,7 @@ use Rattle.sym_machine.specs.declared.word.SymByte.TheVariants.{Num, Undef}
 use Rattle.sym_machine.specs.declared.word.Value.{Value}
 use Rattle.sym_machine.specs.declared.word.Value.TheVariants as value
 use Rattle.zc_link.specs.LaidOut.{ListsLeaders}
-use Rattle.zc_link.specs.Leads.{NamesTarget}
+use Rattle.zc_link.specs.Invariants.Leads.{NamesTarget}
 use Rattle.zc_link.specs.ImageParts.{data_value, image_data, with_data_word}
 use Rattle.zc_link.specs.Standing.{HasValue}
 use Rattle.zc_link.specs.Sound.{IsNamed, NamesByte}

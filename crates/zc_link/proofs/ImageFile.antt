@@ -33,18 +33,17 @@ use Rattle.zc_link.specs.Copied.{IsCopiedTo, ItemCopied, bytes_from}
 use Rattle.zc_link.specs.Front.{image_entry, start_address}
 use Rattle.zc_link.specs.Image.{Image, image_in, loaded_core}
 use Rattle.zc_link.specs.ImageParts.{image_data, listed_places, parts_of}
-use Rattle.zc_link.specs.Laid.{AtEntry, Begins, BehindStub, Laid, StubLaid}
-use Rattle.zc_link.specs.LaidOut.{HasForm, IsLaidOut, LiesAt, text_end}
+use Rattle.zc_link.specs.Invariants.Laid.{AtEntry, Begins, BehindStub, Laid, StubLaid}
+use Rattle.zc_link.specs.LaidOut.{HasForm, IsLaidOut, LiesAt, text_end, linked_by}
 use Rattle.zc_link.specs.IsSimulation.{IsSimulation}
 use Rattle.zc_link.specs.Links.{IsImageOf}
 use Rattle.zc_link.specs.Pace.{pace_of}
 use Rattle.zc_link.specs.Places.{listed_address}
 use Rattle.zc_link.specs.Preserves.{Preserves}
-use Rattle.zc_link.specs.Room.{Room}
+use Rattle.zc_link.specs.Invariants.Room.{Room}
 use Rattle.zc_link.specs.Sound.{IsNamed, NamesByte}
 use Rattle.zc_link.specs.Standing.{IsReady}
 use Rattle.zc_link.specs.Stands.{ByteStands}
-use Rattle.zc_link.specs.Stretches.{linked_by}
 use Rattle.zc_link.specs.TextLayout.{TextLayout, behind, stretch_in}
 use Rattle.zc_link.specs.Values.{target_value, value_in}
 use Rattle.zc_link.specs.Written.{HoldsPlace, HoldsUnit, IsTextOf, IsWritten}

@@ -18,7 +18,7 @@ use Rattle.zc_machine.specs.Load.{first_core}
 use Rattle.zc_machine.proofs.LoadLaws.{code_byte, code_lies}
 use Rattle.zc_link.specs.Places.{listed_address}
 use Rattle.zc_link.specs.Image.{Image, loaded_core}
-use Rattle.zc_link.specs.Room.{SpansMemory}
+use Rattle.zc_link.specs.Invariants.Room.{SpansMemory}
 use Rattle.zc_link.proofs.Adds.{AreBytes, bytes_append}
 
 either_below : {x y : ℕ} (b : Bool) → x < 256 → y < 256 → cond b x y < 256

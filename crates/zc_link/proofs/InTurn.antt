@@ -12,7 +12,7 @@ use Rattle.sym_machine.specs.State.{PlainCore, PlainState}
 use Rattle.sym_machine.specs.Step.{PlainStep, Stuck, Went, after_change, and_then, applied, in_turn}
 use Rattle.sym_machine.proofs.StepLaws.{ended}
 use Rattle.zc_link.specs.Image.{Image}
-use Rattle.zc_link.specs.Room.{Room}
+use Rattle.zc_link.specs.Invariants.Room.{Room}
 use Rattle.zc_link.specs.Sound.{Alike}
 use Rattle.zc_link.proofs.Effects.{Effects}
 use Rattle.zc_link.proofs.Ends.{ends_alike}

@@ -26,7 +26,7 @@ use Rattle.sym_machine.specs.State.{PlainCore, reg_of}
 use Rattle.sym_machine.specs.Step.{after_change}
 use Rattle.sym_machine.specs.Words.{code_of, code_word, imm_word, number_of, reg_word, upper_word}
 use Rattle.zc_link.specs.Image.{Image}
-use Rattle.zc_link.specs.Room.{Room}
+use Rattle.zc_link.specs.Invariants.Room.{Room}
 use Rattle.zc_link.specs.Sound.{NamesWord, Ready}
 use Rattle.zc_link.specs.Stands.{WordStands}
 use Rattle.zc_link.specs.Values.{value_in}

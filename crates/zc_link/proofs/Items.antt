@@ -22,9 +22,9 @@ use Rattle.sym_machine.specs.Program.{Program}
 use Rattle.sym_machine.specs.State.{PlainState, reg_of}
 use Rattle.sym_machine.specs.Words.{sum_word}
 use Rattle.zc_link.specs.Image.{Image}
-use Rattle.zc_link.specs.Leads.{Leads, NamesTarget}
-use Rattle.zc_link.specs.Stretches.{AloneLaid, ItemLaid, OneLaid}
-use Rattle.zc_link.specs.Room.{Room}
+use Rattle.zc_link.specs.Invariants.Leads.{Leads, NamesTarget}
+use Rattle.zc_link.specs.Invariants.Stretches.{AloneLaid, ItemLaid, OneLaid}
+use Rattle.zc_link.specs.Invariants.Room.{Room}
 use Rattle.zc_link.specs.IsSimulation.{Comes}
 use Rattle.zc_link.specs.Sound.{Ready}
 use Rattle.zc_link.specs.Stands.{WordStands}

@@ -24,8 +24,8 @@ use Rattle.zc_machine.specs.Step.{effect_step}
 use Rattle.zc_machine.proofs.TurnLaws.{zc_turns-more}
 use Rattle.zc_link.specs.Image.{Image, loaded_core}
 use Rattle.zc_link.specs.Pace.{LongOf, commits_of, long_commits}
-use Rattle.zc_link.specs.Stretches.{LongLaid, OneAt}
-use Rattle.zc_link.specs.Room.{Room}
+use Rattle.zc_link.specs.Invariants.Stretches.{LongLaid, OneAt}
+use Rattle.zc_link.specs.Invariants.Room.{Room}
 use Rattle.zc_link.specs.IsSimulation.{Comes}
 use Rattle.zc_link.specs.Sound.{Alike, Ready}
 use Rattle.zc_link.proofs.Branches.{condition_is}

@@ -11,7 +11,7 @@ use Rattle.sym_machine.specs.AddressParts.{pc_target}
 use Rattle.sym_machine.specs.Program.{Program}
 use Rattle.zc_link.specs.Image.{Image}
 use Rattle.zc_link.specs.Meant.{way_on}
-use Rattle.zc_link.specs.Stretches.{AloneLaid, OneLaid}
+use Rattle.zc_link.specs.Invariants.Stretches.{AloneLaid, OneLaid}
 use Rattle.zc_link.specs.Values.{target_value, way}
 use Rattle.zc_link.proofs.WayLaws.{way_leads}
 

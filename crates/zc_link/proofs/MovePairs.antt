@@ -18,12 +18,12 @@ use Rattle.zc_decode.specs.Accesses.{accesses_of}
 use Rattle.zc_decode.specs.Effect.{short_effect}
 use Rattle.zc_decode.specs.declared.short.Short.{Short}
 use Rattle.zc_decode.specs.declared.short.Short.TheVariants.{MoveAs, MoveSa}
-use Rattle.zc_link.specs.Groups.{A0First, A1First, IsSaved, MoveOrder, move_ops, move_to}
+use Rattle.zc_link.specs.Invariants.Groups.{A0First, A1First, IsSaved, MoveOrder, move_ops, move_to}
 use Rattle.zc_link.specs.Image.{Image}
 use Rattle.zc_link.specs.IsSimulation.{Comes}
-use Rattle.zc_link.specs.Room.{Room}
+use Rattle.zc_link.specs.Invariants.Room.{Room}
 use Rattle.zc_link.specs.Sound.{Alike}
-use Rattle.zc_link.specs.Stretches.{AreOps, HalfAt, place_on}
+use Rattle.zc_link.specs.Invariants.Stretches.{AreOps, HalfAt, place_on}
 use Rattle.zc_link.proofs.Commits.{zc_turns-one}
 use Rattle.zc_link.proofs.Effects.{Effects, KeepsRest, keeps_both, keeps_same, sum_is}
 use Rattle.zc_link.proofs.FrameCuts.{LooksLike, alike_ready, looks_alike, spoiled_alike}

@@ -16,8 +16,8 @@ use Rattle.zc_machine.specs.Fetch.{Found, fetched_at}
 use Rattle.zc_machine.specs.Interrupt.{all_dirtied, dirtied, interrupted}
 use Rattle.zc_machine.proofs.FetchLaws.{SameText, fetched_same}
 use Rattle.zc_link.specs.Image.{Image, loaded_core}
-use Rattle.zc_link.specs.Stretches.{OneAt}
-use Rattle.zc_link.specs.Room.{Room}
+use Rattle.zc_link.specs.Invariants.Stretches.{OneAt}
+use Rattle.zc_link.specs.Invariants.Room.{Room}
 use Rattle.zc_link.specs.DataApart.{Cuts, IsCell, OnWay, Pokes, Starts, Turns, poked}
 use Rattle.zc_link.proofs.Cuts.{cut-none}
 

@@ -24,9 +24,9 @@ use Rattle.sym_machine.specs.State.{PlainCore, PlainState}
 use Rattle.sym_machine.proofs.RunLaws.{stepped, stepped_expansion}
 use Rattle.zc_decode.specs.declared.short.Short.TheVariants.{TableJump}
 use Rattle.zc_link.specs.Image.{Image}
-use Rattle.zc_link.specs.Laid.{Laid}
+use Rattle.zc_link.specs.Invariants.Laid.{Laid}
 use Rattle.zc_link.specs.Pace.{AlignOf, Alone, CallOf, GroupOf, LongOf, Stretch, TableOf, commits_of, pace_of, span_of}
-use Rattle.zc_link.specs.Stretches.{ByCall, ByJump, GoesTo, ItemLaid, LongLaid, StretchLaid}
+use Rattle.zc_link.specs.Invariants.Stretches.{ByCall, ByJump, GoesTo, ItemLaid, LongLaid, StretchLaid}
 use Rattle.zc_link.specs.DataApart.{FromPair, OnWay, all_poked, poked_plain}
 use Rattle.zc_link.specs.Sound.{Alike}
 use Rattle.zc_link.proofs.Bare.{Bares, OnBare, bares_no_access, nops_bare, two_bare}

@@ -15,7 +15,7 @@ use Rattle.sym_machine.specs.declared.word.Value.{Value}
 use Rattle.sym_machine.specs.Program.{Program}
 use Rattle.sym_machine.specs.Words.{code_of, imm_numeric, imm_word, is_one, number_of, reg_numeric, reg_word, upper_word}
 use Rattle.zc_link.specs.Image.{Image}
-use Rattle.zc_link.specs.Room.{Room}
+use Rattle.zc_link.specs.Invariants.Room.{Room}
 use Rattle.zc_link.specs.Sound.{NamesWord}
 use Rattle.zc_link.specs.Stands.{WordStands}
 use Rattle.zc_link.specs.Values.{value_in}

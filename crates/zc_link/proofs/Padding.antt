@@ -11,8 +11,8 @@ use Rattle.sym_machine.specs.State.{PlainCore, PlainState}
 use Rattle.sym_machine.specs.Step.{after_change}
 use Rattle.zc_machine.specs.Run.{zc_turns}
 use Rattle.zc_link.specs.Image.{Image}
-use Rattle.zc_link.specs.Stretches.{AlignLaid, Nops}
-use Rattle.zc_link.specs.Room.{Room}
+use Rattle.zc_link.specs.Invariants.Stretches.{AlignLaid, Nops}
+use Rattle.zc_link.specs.Invariants.Room.{Room}
 use Rattle.zc_link.specs.IsSimulation.{Comes}
 use Rattle.zc_link.specs.Sound.{Alike, Ready}
 use Rattle.zc_link.proofs.Commits.{after_cuts}

@@ -18,11 +18,11 @@ use Rattle.zc_decode.specs.declared.short.Short.TheVariants.{Base}
 use Rattle.zc_machine.specs.Fetch.{fetched_at}
 use Rattle.zc_machine.specs.Run.{zc_turn, zc_turns}
 use Rattle.zc_machine.proofs.TurnLaws.{zc_turns-more}
-use Rattle.zc_link.specs.Groups.{Ending, Slot, adjust_of, loads_of, pop_kind, pop_ops, raise_sp, rest_of, slots_below}
+use Rattle.zc_link.specs.Invariants.Groups.{Ending, Slot, adjust_of, loads_of, pop_kind, pop_ops, raise_sp, rest_of, slots_below}
 use Rattle.zc_link.specs.Image.{Image, loaded_core}
-use Rattle.zc_link.specs.Room.{Room}
+use Rattle.zc_link.specs.Invariants.Room.{Room}
 use Rattle.zc_link.specs.Sound.{Alike}
-use Rattle.zc_link.specs.Stretches.{FormAt, OneAt}
+use Rattle.zc_link.specs.Invariants.Stretches.{FormAt, OneAt}
 use Rattle.zc_link.proofs.Commits.{zc_turns-one}
 use Rattle.zc_link.proofs.Cuts.{stack_within}
 use Rattle.zc_link.proofs.Effects.{Effects, KeepsRest, effects_apart, loads_sp, sum_is}

@@ -33,7 +33,7 @@ use Rattle.shrink_layout.proofs.PlaceLaws.{same_place-refl}
 use Rattle.shrink_layout.proofs.TargetLaws.{away_target}
 use Rattle.sym_machine.specs.Objects.{program_of}
 use Rattle.sym_machine.specs.Program.{Program}
-use Rattle.zc_link.specs.Leads.{Leads, NamesItem, NamesTarget}
+use Rattle.zc_link.specs.Invariants.Leads.{Leads, NamesItem, NamesTarget}
 use Rattle.zc_link.specs.Sound.{IsNamed}
 use Rattle.zc_link.proofs.Faultless.{all_none, reloc_good, target_good}
 use Rattle.zc_link.proofs.Led.{asks_at, item_leader, leader_named, reloc_leader}

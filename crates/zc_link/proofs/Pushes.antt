@@ -19,12 +19,12 @@ use Rattle.zc_decode.specs.declared.short.Short.TheVariants.{Base, Push}
 use Rattle.zc_machine.specs.Fetch.{fetched_at}
 use Rattle.zc_machine.specs.Run.{zc_turn}
 use Rattle.zc_machine.proofs.TurnLaws.{zc_turns-more}
-use Rattle.zc_link.specs.Groups.{Slot, adjust_of, frame_commits, lower_sp, push_ops, rest_of, stores_of}
+use Rattle.zc_link.specs.Invariants.Groups.{Slot, adjust_of, frame_commits, lower_sp, push_ops, rest_of, stores_of}
 use Rattle.zc_link.specs.Image.{Image, loaded_core}
 use Rattle.zc_link.specs.IsSimulation.{Comes}
-use Rattle.zc_link.specs.Room.{Room}
+use Rattle.zc_link.specs.Invariants.Room.{Room}
 use Rattle.zc_link.specs.Sound.{Alike}
-use Rattle.zc_link.specs.Stretches.{AreOps, FormAt, OneAt, PushAt, place_on}
+use Rattle.zc_link.specs.Invariants.Stretches.{AreOps, FormAt, OneAt, PushAt, place_on}
 use Rattle.zc_link.proofs.Commits.{zc_turns-one}
 use Rattle.zc_link.proofs.Effects.{Effects, commits_same, reached_by}
 use Rattle.zc_link.proofs.FrameCuts.{IsReady, LooksLike, alike_ready, behind, looks_alike, push_kept, spoiled_alike}

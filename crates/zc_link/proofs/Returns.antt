@@ -20,12 +20,12 @@ use Rattle.sym_machine.proofs.RunLaws.{stepped}
 use Rattle.sym_machine.proofs.StepLaws.{Ended}
 use Rattle.zc_machine.specs.Fetch.{fetched_at}
 use Rattle.rv_decode.specs.declared.instr.Instr.{Instr}
-use Rattle.zc_link.specs.Groups.{Ending, GoesOn, Returns, Slot, ZeroBeforeRaise, ZeroBeforeReturn, ZeroFirst, adjust_of, frame_commits, loads_of, ops_before_return, pop_kind, pop_ops, raise_sp, return_ops, return_to_ra, zero_a0}
+use Rattle.zc_link.specs.Invariants.Groups.{Ending, GoesOn, Returns, Slot, ZeroBeforeRaise, ZeroBeforeReturn, ZeroFirst, adjust_of, frame_commits, loads_of, ops_before_return, pop_kind, pop_ops, raise_sp, return_ops, return_to_ra, zero_a0}
 use Rattle.zc_link.specs.Image.{Image, loaded_core}
 use Rattle.zc_link.specs.IsSimulation.{Comes}
-use Rattle.zc_link.specs.Room.{Room}
+use Rattle.zc_link.specs.Invariants.Room.{Room}
 use Rattle.zc_link.specs.Sound.{Alike, Ready}
-use Rattle.zc_link.specs.Stretches.{AreOps, OneAt, PopAt, place_on}
+use Rattle.zc_link.specs.Invariants.Stretches.{AreOps, OneAt, PopAt, place_on}
 use Rattle.zc_link.proofs.Addresses.{code_is}
 use Rattle.zc_link.proofs.Ends.{ends_alike}
 use Rattle.zc_link.proofs.Frames.{ended}

@@ -36,9 +36,8 @@ use Rattle.shrink_layout.proofs.RolePlaces.{inside_unlisted, leader_listed, list
 use Rattle.shrink_layout.proofs.UnitLaws.{found_start, role_found, unit_group, unit_item, unit_site}
 use Rattle.shrink_layout.proofs.PremiseLaws.{all_aligned}
 use Rattle.rv_decode.specs.declared.instr.Instr.{Instr}
-use Rattle.zc_link.specs.LaidOut.{IsLaidOut, LiesAt, ListsLeaders, text_end}
+use Rattle.zc_link.specs.LaidOut.{IsLaidOut, LiesAt, ListsLeaders, text_end, linked_by}
 use Rattle.zc_link.specs.Standing.{IsReady, ItemStands}
-use Rattle.zc_link.specs.Stretches.{linked_by}
 use Rattle.zc_link.specs.TextLayout.{behind, size_in, zc_layout}
 use Rattle.zc_link.proofs.Faultless.{start_listed}
 use Rattle.zc_link.proofs.GroupItems.{inside_role}

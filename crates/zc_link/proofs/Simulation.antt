@@ -11,7 +11,7 @@ use Rattle.sym_machine.specs.Program.{Program}
 use Rattle.sym_machine.specs.Run.{plain_turn}
 use Rattle.sym_machine.specs.State.{PlainState}
 use Rattle.zc_link.specs.Image.{Image, image_in}
-use Rattle.zc_link.specs.Laid.{Laid}
+use Rattle.zc_link.specs.Invariants.Laid.{Laid}
 use Rattle.zc_link.specs.Pace.{Stretch, pace_of, span_of}
 use Rattle.zc_link.specs.Preserves.{FollowsAlways, Preserves}
 use Rattle.zc_link.specs.IsSimulation.{IsSimulation, IsInside}

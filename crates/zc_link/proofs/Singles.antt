@@ -13,8 +13,8 @@ use Rattle.sym_machine.specs.Step.{after_change}
 use Rattle.zc_machine.specs.Run.{committed, zc_turn, zc_turns}
 use Rattle.zc_machine.specs.Step.{effect_step}
 use Rattle.zc_link.specs.Image.{Image}
-use Rattle.zc_link.specs.Stretches.{AloneLaid}
-use Rattle.zc_link.specs.Room.{Room}
+use Rattle.zc_link.specs.Invariants.Stretches.{AloneLaid}
+use Rattle.zc_link.specs.Invariants.Room.{Room}
 use Rattle.zc_link.specs.IsSimulation.{Comes}
 use Rattle.zc_link.specs.Sound.{Alike, Ready, Sound}
 use Rattle.zc_link.proofs.Commits.{after_cuts, zc_turns-one}

@@ -10,7 +10,7 @@ use Rattle.block_cut.proofs.LedLaws.{same_is}
 use Rattle.shrink_layout.specs.Pieces.{slot_at}
 use Rattle.shrink_layout.specs.Units.{is_slot_of, jump_of, slot_for, slot_from}
 use Rattle.shrink_layout.proofs.SiteLaws.{site_found, slot_found}
-use Rattle.zc_link.specs.Stretches.{linked_by}
+use Rattle.zc_link.specs.LaidOut.{linked_by}
 
 -- ---- lists
 

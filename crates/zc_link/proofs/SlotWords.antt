@@ -7,7 +7,7 @@ use Rattle.rv_decode.specs.Memory.{Region, cell_at, changed, extents_of, written
 use Rattle.rv_decode.specs.State.{set_reg}
 use Rattle.rv_decode.proofs.MemoryLaws.{cell-changed, cell-uncovered, extents-changed, is_covered, untouched}
 use Rattle.rv_decode.proofs.RegisterLaws.{length-set_reg, reads, reads-set_reg_other, reads-set_reg_same}
-use Rattle.zc_link.specs.Groups.{Slot}
+use Rattle.zc_link.specs.Invariants.Groups.{Slot}
 use Rattle.zc_link.proofs.Slots.{AreSame, Covers, IsOneOf}
 
 -- ---- words that are written

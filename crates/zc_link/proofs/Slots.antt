@@ -4,7 +4,7 @@ use Rattle.std.proofs.Common.{◌≡◌, ◌≢◌, ℕ, zero, suc, ◌+◌, ◌
 use Rattle.std.specs.Prelude.{◌⊎◌, ◌&&◌, Contains}
 use Rattle.std.proofs.lemmas.Bool.{agree_below_at, and_parts, eq-eqb, eqb-false, false≢true, leb-true, ltb-true}
 use Rattle.zc_decode.specs.Lists.{base_of, registers_of}
-use Rattle.zc_link.specs.Groups.{IsFrame, SameSlots, Slot, adjust_of, rest_of, slots_below}
+use Rattle.zc_link.specs.Invariants.Groups.{IsFrame, SameSlots, Slot, adjust_of, rest_of, slots_below}
 
 -- ---- membership, by cases
 

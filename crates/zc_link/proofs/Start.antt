@@ -19,7 +19,7 @@ use Rattle.zc_machine.specs.Load.{first_core}
 use Rattle.zc_machine.specs.Run.{first_state}
 use Rattle.zc_link.specs.DataApart.{FromLoad}
 use Rattle.zc_link.specs.Image.{Image, loaded_core}
-use Rattle.zc_link.specs.Laid.{AtEntry, Begins, BehindStub, Laid, StubLaid}
+use Rattle.zc_link.specs.Invariants.Laid.{AtEntry, Begins, BehindStub, Laid, StubLaid}
 use Rattle.zc_link.specs.Pace.{lead_of, Stretch}
 use Rattle.zc_link.specs.IsSimulation.{Comes}
 use Rattle.zc_link.specs.Sound.{Alike, NamesWord}

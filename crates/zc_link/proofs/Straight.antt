@@ -20,10 +20,10 @@ use Rattle.sym_machine.specs.State.{PlainCore, PlainState, reg_of}
 use Rattle.sym_machine.specs.Words.{number_of, sum_word}
 use Rattle.sym_machine.proofs.RunLaws.{Stepped, stepped}
 use Rattle.zc_link.specs.Image.{Image}
-use Rattle.zc_link.specs.Room.{Room}
+use Rattle.zc_link.specs.Invariants.Room.{Room}
 use Rattle.zc_link.specs.Sound.{Alike, Ready}
 use Rattle.zc_link.specs.Stands.{WordStands}
-use Rattle.zc_link.specs.Stretches.{AreOps, place_on}
+use Rattle.zc_link.specs.Invariants.Stretches.{AreOps, place_on}
 use Rattle.zc_link.specs.Values.{value_in}
 use Rattle.zc_link.proofs.Effects.{Effects}
 use Rattle.zc_link.proofs.Ends.{ends_alike}

@@ -39,9 +39,9 @@ use Rattle.zc_encode.specs.Halves.{encoded16}
 use Rattle.zc_link.specs.Copied.{bytes_from}
 use Rattle.zc_link.specs.Front.{image_entry}
 use Rattle.zc_link.specs.Image.{Image}
-use Rattle.zc_link.specs.LaidOut.{IsLaidOut}
+use Rattle.zc_link.specs.LaidOut.{IsLaidOut, linked_by}
 use Rattle.zc_link.specs.Pace.{Alone, CallOf, LongOf, commits_in, stretch_of}
-use Rattle.zc_link.specs.Stretches.{AloneLaid, ByCall, ByJump, CallLaid, GoesTo, GroupLaid, ItemLaid, LongLaid, OneLaid, StretchLaid, TableLaid, linked_by, place_on}
+use Rattle.zc_link.specs.Invariants.Stretches.{AloneLaid, ByCall, ByJump, CallLaid, GoesTo, GroupLaid, ItemLaid, LongLaid, OneLaid, StretchLaid, TableLaid, place_on}
 use Rattle.zc_link.specs.TextLayout.{TextLayout, behind, size_in, stretch_in}
 use Rattle.zc_link.specs.Written.{HoldsFront, HoldsPlace, HoldsUnit, IsLongBranch, IsLongCall, IsOpWritten, IsSpelled, IsWritten, SpellsMeant, WithWay}
 use Rattle.zc_link.specs.Meant.{meant}

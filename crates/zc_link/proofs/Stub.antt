@@ -21,11 +21,11 @@ use Rattle.zc_machine.specs.Load.{first_core}
 use Rattle.zc_machine.specs.Run.{zc_turns}
 use Rattle.zc_machine.proofs.TurnLaws.{zc_turns-more}
 use Rattle.zc_link.specs.Image.{Image, loaded_core}
-use Rattle.zc_link.specs.Laid.{AtEntry, BehindStub, Begins, StubLaid}
+use Rattle.zc_link.specs.Invariants.Laid.{AtEntry, BehindStub, Begins, StubLaid}
 use Rattle.zc_link.specs.Pace.{lead_from, lead_of}
-use Rattle.zc_link.specs.Room.{Room}
+use Rattle.zc_link.specs.Invariants.Room.{Room}
 use Rattle.zc_link.specs.Sound.{Alike}
-use Rattle.zc_link.specs.Stretches.{OneAt}
+use Rattle.zc_link.specs.Invariants.Stretches.{OneAt}
 use Rattle.zc_link.proofs.Bare.{Bares, two_bare}
 use Rattle.zc_link.proofs.Commits.{AfterCuts, after_cuts, zc_turns-one}
 use Rattle.zc_link.proofs.Ready.{alike_forgets, alike_moved}

@@ -22,9 +22,9 @@ use Rattle.zc_machine.specs.Load.{first_core}
 use Rattle.zc_machine.specs.Run.{first_state, turn, zc_turns}
 use Rattle.zc_machine.specs.Step.{zc_step}
 use Rattle.zc_link.specs.Image.{Image, loaded_core}
-use Rattle.zc_link.specs.Laid.{BehindStub, Begins}
+use Rattle.zc_link.specs.Invariants.Laid.{BehindStub, Begins}
 use Rattle.zc_link.specs.Pace.{TableOf, lead_of}
-use Rattle.zc_link.specs.Stretches.{ByCall, ByJump, StretchLaid}
+use Rattle.zc_link.specs.Invariants.Stretches.{ByCall, ByJump, StretchLaid}
 
 abbrev place_at : ℕ → Place
 place_at offset = record { object = 0; section = 1; offset = offset }

@@ -20,10 +20,11 @@ use Rattle.zc_decode.specs.declared.short.Short.TheVariants.{TableJump}
 use Rattle.zc_machine.proofs.FetchLaws.{SameText}
 use Rattle.zc_link.specs.Image.{Image, loaded_core}
 use Rattle.zc_link.specs.IsSimulation.{Comes}
-use Rattle.zc_link.specs.Leads.{Leads}
-use Rattle.zc_link.specs.Room.{Room}
+use Rattle.zc_link.specs.Invariants.Leads.{Leads}
+use Rattle.zc_link.specs.Invariants.Room.{Room}
 use Rattle.zc_link.specs.Sound.{Alike, Ready}
-use Rattle.zc_link.specs.Stretches.{ByCall, ByJump, GoesTo, TableLaid, linked_by, slot_address}
+use Rattle.zc_link.specs.Invariants.Stretches.{ByCall, ByJump, GoesTo, TableLaid, slot_address}
+use Rattle.zc_link.specs.LaidOut.{linked_by}
 use Rattle.zc_link.proofs.Addresses.{code_names, code_stands}
 use Rattle.zc_link.proofs.Calls.{called}
 use Rattle.zc_link.proofs.Commits.{zc_turns-one}

@@ -26,9 +26,9 @@ use Rattle.zc_machine.proofs.FetchLaws.{fetched_long}
 use Rattle.zc_link.specs.Copied.{bytes_from}
 use Rattle.zc_link.specs.Front.{start_address, stub_address, stub_distance}
 use Rattle.zc_link.specs.Image.{Image, loaded_core}
-use Rattle.zc_link.specs.Laid.{StubLaid}
+use Rattle.zc_link.specs.Invariants.Laid.{StubLaid}
 use Rattle.zc_link.specs.LaidOut.{IsLaidOut}
-use Rattle.zc_link.specs.Stretches.{OneAt, SlotHolds}
+use Rattle.zc_link.specs.Invariants.Stretches.{OneAt, SlotHolds}
 use Rattle.zc_link.specs.TextLayout.{TextLayout}
 use Rattle.zc_link.specs.Written.{HoldsFront}
 use Rattle.zc_link.proofs.Fetched.{StandAt, stand_at}

@@ -24,11 +24,11 @@ use Rattle.sym_machine.specs.State.{PlainCore, PlainState, cell_of, reg_of}
 use Rattle.sym_machine.specs.Step.{after_change, undefined_below}
 use Rattle.sym_machine.specs.Words.{sum_word}
 use Rattle.sym_machine.proofs.StepLaws.{Ended}
-use Rattle.zc_link.specs.Groups.{Slot, lower_sp, push_ops, stores_of}
+use Rattle.zc_link.specs.Invariants.Groups.{Slot, lower_sp, push_ops, stores_of}
 use Rattle.zc_link.specs.Image.{Image}
-use Rattle.zc_link.specs.Room.{Room}
+use Rattle.zc_link.specs.Invariants.Room.{Room}
 use Rattle.zc_link.specs.Sound.{Alike}
-use Rattle.zc_link.specs.Stretches.{AreOps}
+use Rattle.zc_link.specs.Invariants.Stretches.{AreOps}
 use Rattle.zc_link.proofs.Accesses.{reached}
 use Rattle.zc_link.proofs.Effects.{commits_same, reached_by}
 use Rattle.zc_link.proofs.Slots.{IsOneOf}

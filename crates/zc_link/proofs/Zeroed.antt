@@ -7,7 +7,7 @@ use Rattle.rv_decode.specs.Effect.{Commits, onward, reaching}
 use Rattle.rv_decode.specs.Memory.{Region}
 use Rattle.rv_decode.specs.State.{ZcCore, reg_in, set_reg, word_at}
 use Rattle.rv_decode.proofs.RegisterLaws.{length-set_reg, reads, reads-set_reg_other, reads-set_reg_same, set_reg_both}
-use Rattle.zc_link.specs.Groups.{Ending, GoesOn, Returns, Slot, ZeroBeforeRaise, ZeroBeforeReturn, ZeroFirst, loads_of, ops_before_return, pop_ops, raise_sp, zero_a0}
+use Rattle.zc_link.specs.Invariants.Groups.{Ending, GoesOn, Returns, Slot, ZeroBeforeRaise, ZeroBeforeReturn, ZeroFirst, loads_of, ops_before_return, pop_ops, raise_sp, zero_a0}
 use Rattle.zc_link.proofs.Effects.{Effects, KeepsRest, effects_apart, effects_both, loads_sp, reached_by, reaches, sum_is}
 use Rattle.zc_link.proofs.Slots.{IsOneOf}
 

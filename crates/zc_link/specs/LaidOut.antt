@@ -1,5 +1,5 @@
 -- What a link needs of a layout: where the places of code lie, how many bytes what is written at each takes, and what stands in front.
-use Rattle.std.specs.Prelude.{◌≡◌, ℕ, ℤ, pos, ◌-ℤ◌, ◌+◌, ◌%◌, ◌<◌, ◌≤◌, ◌⊎◌, ◌&&◌, true, false, IsTrue, if◌then◌else◌, List, length, slice_get, Option, Some, None}
+use Rattle.std.specs.Prelude.{◌≡◌, ℕ, ℤ, pos, ◌-ℤ◌, ◌+◌, ◌%◌, ◌<◌, ◌≤◌, ◌⊎◌, ◌&&◌, true, false, IsTrue, if◌then◌else◌, nat_lt, List, length, slice_get, Option, Some, None}
 use Rattle.std.specs.List.{fold}
 use Rattle.std.specs.Option.{is_some, option_map_or, unwrap_or}
 use Rattle.zc_base.specs.declared.place.Place.{Place}
@@ -24,7 +24,6 @@ use Rattle.shrink_layout.specs.Halves.{fixed_instr}
 use Rattle.shrink_layout.specs.Pieces.{group_size, is_short}
 use Rattle.shrink_layout.specs.Units.{CodeUnit, OneGroup, OneItem, OneSite, jump_of, unit_items}
 use Rattle.zc_link.specs.Front.{start_address}
-use Rattle.zc_link.specs.Stretches.{linked_by}
 use Rattle.zc_link.specs.TextLayout.{TextLayout, behind, front_end}
 use Rattle.zc_link.specs.Values.{way}
 
@@ -70,6 +69,11 @@ HasForm A a own n (RawShort half) = n ≡ 2
 HasForm A a own n (RawPair first second) = n ≡ 8
 
 -- ---- units
+
+-- the register that gets the next address: x0 in the slots of jumps, and ra in those of calls (RISC-V Zc specification 1.0,
+-- "Zcmt")
+abbrev pub linked_by : ℕ → ℕ
+linked_by slot = if nat_lt slot 32 then 0 else 1
 
 -- at a place stands a jump or call that links the register that jumps through a slot of the table link, and the slot leads where it
 -- does, which has an address

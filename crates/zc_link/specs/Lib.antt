@@ -1,3 +1,4 @@
+pub mod Invariants
 pub mod Places
 pub mod Image
 pub mod Values
@@ -10,11 +11,6 @@ pub mod Front
 pub mod DataApart
 pub mod IsSimulation
 pub mod Preserves
-pub mod Leads
-pub mod Room
-pub mod Groups
-pub mod Stretches
-pub mod Laid
 pub mod Copied
 pub mod ImageParts
 pub mod LaidOut

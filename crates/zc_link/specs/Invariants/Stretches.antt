@@ -1,5 +1,5 @@
 -- What is laid for what starts at a listed place: its instructions stand at the place's address.
-use Rattle.std.specs.Prelude.{◌≡◌, ℕ, zero, suc, ℤ, pos, ◌+◌, ◌*◌, ◌/◌, ◌%◌, ◌^◌, ◌<◌, ◌⊎◌, true, nat_lt, if◌then◌else◌, List, [], ◌∷◌, length, Option, Some, None}
+use Rattle.std.specs.Prelude.{◌≡◌, ℕ, zero, suc, ℤ, pos, ◌+◌, ◌*◌, ◌/◌, ◌%◌, ◌^◌, ◌<◌, ◌⊎◌, true, List, [], ◌∷◌, length, Option, Some, None}
 use Rattle.zc_base.specs.declared.place.Place.{Place}
 use Rattle.rv_decode.specs.declared.instr.Instr.{Instr}
 use Rattle.rv_decode.specs.declared.instr.Instr.TheVariants as instr
@@ -20,8 +20,9 @@ use Rattle.zc_decode.specs.Halfwords.{decoded16}
 use Rattle.zc_decode.specs.declared.short.Short.{Short}
 use Rattle.zc_decode.specs.declared.short.Short.TheVariants.{Base, MoveAs, MoveSa, Push, TableJump}
 use Rattle.zc_machine.specs.Fetch.{Found, fetched_at}
-use Rattle.zc_link.specs.Groups.{Ending, GroupKind, IsGroup, MovesFromSaved, MovesToSaved, PopOf, PushOf, adjust_of, group_commits, group_ops, lower_sp, pop_kind, raise_sp, rest_of}
+use Rattle.zc_link.specs.Invariants.Groups.{Ending, GroupKind, IsGroup, MovesFromSaved, MovesToSaved, PopOf, PushOf, adjust_of, group_commits, group_ops, lower_sp, pop_kind, raise_sp, rest_of}
 use Rattle.zc_link.specs.Image.{Image, loaded_core}
+use Rattle.zc_link.specs.LaidOut.{linked_by}
 use Rattle.zc_link.specs.Meant.{meant}
 use Rattle.zc_link.specs.Pace.{Stretch, Alone, AlignOf, CallOf, GroupOf, LongOf, TableOf}
 
@@ -172,11 +173,6 @@ pub record GroupLaid (p : Program) (e : Image) (q : Place) (a items commits : �
   pub next : e.address (place_on p q items) ≡ Some end
 
 -- ---- the jump table
-
--- the register that gets the next address: x0 in the slots of jumps, and ra in those of calls (RISC-V Zc specification 1.0,
--- "Zcmt")
-abbrev pub linked_by : ℕ → ℕ
-linked_by slot = if nat_lt slot 32 then 0 else 1
 
 -- a place's item goes to another place, and puts the next address in this register
 pub data GoesTo (p : Program) (q : Place) (rd : ℕ) (to : Place) : Type 0 where

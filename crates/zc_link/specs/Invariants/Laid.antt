@@ -11,10 +11,10 @@ use Rattle.sym_machine.specs.Program.{Program, start_memory}
 use Rattle.sym_machine.specs.State.{PlainCore}
 use Rattle.zc_decode.specs.declared.short.Short.TheVariants.{Base}
 use Rattle.zc_link.specs.Image.{Image, loaded_core}
-use Rattle.zc_link.specs.Leads.{Leads}
+use Rattle.zc_link.specs.Invariants.Leads.{Leads}
 use Rattle.zc_link.specs.Pace.{Stretch, commits_of, span_of}
-use Rattle.zc_link.specs.Stretches.{OneAt, StretchLaid}
-use Rattle.zc_link.specs.Room.{Room}
+use Rattle.zc_link.specs.Invariants.Stretches.{OneAt, StretchLaid}
+use Rattle.zc_link.specs.Invariants.Room.{Room}
 use Rattle.zc_link.specs.Sound.{NamesByte}
 use Rattle.zc_link.specs.Stands.{ByteStands, IsMemory}
 use Rattle.zc_link.specs.Values.{value_in}

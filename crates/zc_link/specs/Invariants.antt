@@ -1,0 +1,7 @@
+-- What a layout owes, place by place, so that its image does what the program does. Proofs name these; nothing that must be believed
+-- does.
+pub mod Room
+pub mod Groups
+pub mod Leads
+pub mod Stretches
+pub mod Laid
