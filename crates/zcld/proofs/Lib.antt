@@ -13,3 +13,4 @@ pub mod Refusals
 pub mod RunFacts
 pub mod TraceFacts
 pub mod ZcFacts
+pub mod TakenInput

@@ -52,9 +52,3 @@ abbrev pub TakesPart : Option (List ℕ) → Option (List ℕ) → List ℕ → 
 TakesPart None after old new n = ⊤
 TakesPart (Some xs) None old new n = ⊥
 TakesPart (Some xs) (Some ys) old new n = (new ++ ys ≡ old ++ xs) × ((n ≡ 0) ↔ (xs ≡ []))
-
--- if the input was told: these bytes went from its front, and the rest is left
-abbrev pub TakesFront : Option (List ℕ) → Option (List ℕ) → List ℕ → Type 0
-TakesFront None after input = ⊤
-TakesFront (Some xs) None input = ⊥
-TakesFront (Some xs) (Some ys) input = input ++ ys ≡ xs

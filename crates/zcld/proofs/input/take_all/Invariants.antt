@@ -1,7 +1,7 @@
 use Rattle.std.proofs.Common.{◌≤◌, ◌+◌, ◌-◌, ◌^◌, min, length}
 use Rattle.zc_outside.specs.Desk.{OnlyTakes}
-use Rattle.zcld.specs.Input.{TakesFront}
 use Rattle.zcld.specs.declared.input.TheConstants.{INPUT_LIMIT}
+use Rattle.zcld.proofs.TakenInput.{TakesFront}
 use Rattle.zcld.proofs.input.take_all.Given as goal
 
 abbrev pub invariant-loop-input : goal.invariant-loop-input
