@@ -46,7 +46,7 @@ fn fill(cut: &Cut, bytes: &mut Pages)
     ensures len { length bytes.new ≡ length bytes.old }
     ensures words { let inputs = parsed cut.now in
         bytes.new ≡ fold (λ bytes w. overlaid (w.at - inputs.map.data_low) (bytes_of (parts.target_word w.target)) bytes)
-            bytes.old (data_words inputs) }
+        bytes.old (data_words inputs) }
 {
     let low = cut.objects().map().data_low;
     for word in cut.data_words() {

@@ -369,6 +369,9 @@ module _ (L : TextLayout) (code : List ℕ) (q : Place) (item : Item) (a n : ℕ
         by i p form each = absurd cc
 
     -- or its own bytes
+    abbrev IsOwn : Item → Type 0
+    IsOwn i = (j : Instr) → fixed_instr i ≡ Some j → (size ≡ 2) × (i ≡ Op j)
+
     pub own_written : (bytes : List ℕ) → bytes ≡ own 2 → AreBytes code → IsHalfHere L.keeps_halfwords size item None → Here bytes
     own_written bytes are octets found = by item refl patched here.form found.1
       where
@@ -385,9 +388,6 @@ module _ (L : TextLayout) (code : List ℕ) (q : Place) (item : Item) (a n : ℕ
             record { copies = are; half = half; small = half_small code q.offset octets; are = halved; spelled = normal.spelled; spells = normal.spells; normal = normal.normal } in
             made bytes (ap length halved ∙ sym two, subst AreBytes (sym halved) (half_are half))
             (subst (λ x. IsWritten L own a n x bytes) (sym is) (subst (λ b. IsOpWritten b own n i bytes) (sym found.0) (inr (two, copies))))
-
-        abbrev IsOwn : Item → Type 0
-        IsOwn i = (j : Instr) → fixed_instr i ≡ Some j → (size ≡ 2) × (i ≡ Op j)
 
         other : {X : Type 0} → (i : Item) (j : Instr) → fixed_instr i ≡ Some j → ((k : Instr) → i ≡ Op k → ⊥) → IsOwn i → X
         other i j fixed unlike each = absurd (unlike j (each j fixed).1)

@@ -1,7 +1,7 @@
 -- Where an instruction without accesses stands at pc, one that is no push or pop, an interrupt only writes bytes of the
 -- stack, and the instruction still stands there. So on a way of one commit it stands there until that is made, whatever
 -- interrupts come and cells are written.
-use Rattle.std.proofs.Common.{◌≡◌, ℕ, suc, ◌<◌, ◌≤◌, List, [], ◌∷◌, true, refl, sym, ap, ◌∙◌, subst, inl, arith, ltb}
+use Rattle.std.proofs.Common.{◌≡◌, ℕ, suc, ◌<◌, ◌≤◌, List, [], ◌∷◌, true, refl, sym, ap, ◌∙◌, subst, inl, arith, ltb, ◌&&◌}
 use Rattle.std.proofs.lemmas.Bool.{and_parts, cond_both}
 use Rattle.interrupt_plan.specs.Plan.{Interrupt}
 use Rattle.rv_decode.specs.declared.instr.Instr.{Instr}

@@ -75,7 +75,8 @@ pub trait Layout {
         requires { HasPlace (parsed (layout self.now).inputs).objects number }
         ensures { (q : Place) (item : Item) → (layout self.now).unit q ≡ Some (OneItem item)
             → IsPlaceNumber (parsed (layout self.now).inputs).objects q number → size_in (layout self.now) q ≡ 2
-            → IsHalfHere (layout self.now).keeps_halfwords (size_at (parsed (layout self.now).inputs).objects q) item result };
+            → IsHalfHere (layout self.now).keeps_halfwords
+            (size_at (parsed (layout self.now).inputs).objects q) item result };
 
     /// Begins a text with what stands in front of the first section. It takes time linear in the slots of the table.
     fn add_front(&self, text: &mut Vec<u8>) -> Result<(), AllocError>

@@ -24,8 +24,7 @@ found (Some s) size = Found s size
 -- what stands at an address of code: an instruction of two bytes, or of four, which must lie in text too, if its low two bits are 11
 abbrev pub fetched_at : ZcCore → ℕ → Fetched
 fetched_at z a =
+    let word = if lies_in is_text (extents_of z.memory) a 4 then found (option_map Base (decoded (word_at z a))) 4 else Missing BadAccess in
     if lies_in is_text (extents_of z.memory) a 2
-    then (if field (half_at z a) 0 2 == 0b11
-        then (if lies_in is_text (extents_of z.memory) a 4 then found (option_map Base (decoded (word_at z a))) 4 else Missing BadAccess)
-        else found (decoded16 (half_at z a)) 2)
+    then (if field (half_at z a) 0 2 == 0b11 then word else found (decoded16 (half_at z a)) 2)
     else Missing BadAccess

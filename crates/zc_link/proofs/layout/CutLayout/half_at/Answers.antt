@@ -1,4 +1,5 @@
 -- In two bytes an instruction has its own.
+use Rattle.std.proofs.Common.{refl}
 use Rattle.psabi_sym.specs.Inputs.{parsed}
 use Rattle.zc_link.proofs.ItemUnits.{item_unit}
 use Rattle.zc_link.proofs.PlainLaws.{copied_alone}

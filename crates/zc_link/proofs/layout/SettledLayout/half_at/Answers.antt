@@ -1,4 +1,5 @@
 -- What takes two bytes has a short form, which is the halfword that is known of it.
+use Rattle.std.proofs.Common.{refl}
 use Rattle.shrink_layout.specs.Units.{OneItem}
 use Rattle.zc_link.specs.TextLayout.{zc_layout}
 use Rattle.zc_link.proofs.LaidLaws.{unit_address}
