@@ -111,6 +111,37 @@ const SHORT_IMAGE: &str = "\
 0100000000000000000000008000000030000000000000000000000004000000000000001f0000000300000000000000
 00000000b00000002900000000000000000000000100000000000000";
 
+// An object of the same form with code of Zcmp, and what `plain` and `zc` both make of it. The code is
+//
+//     addi s0,x0,65; c.jal .+12; c.add a0,s0; addi a7,x0,93; ecall
+//     cm.push {ra, s0},-16; c.li a0,1; c.addi4spn a1,sp,12; c.li a2,1; addi a7,x0,64; ecall; c.li s0,1; cm.popret {ra, s0},16
+//
+// It writes the byte of s0 that the push saved, which is `A`, and exits with it and the number of bytes written.
+const FRAMES: &str = "\
+7f454c460101010000000000000000000100f300010000000000000000000000a4000000010000003400000000002800
+0500040013041004312022959308d0057300000052b805456c0005469308000473000000054452be0000000000000000
+000000000000000001000000000000000000000010000100005f737461727400002e74657874002e73796d746162002e
+737472746162002e73687374727461620000000000000000000000000000000000000000000000000000000000000000
+000000000000000000000000010000000100000006000000000000003400000024000000000000000000000002000000
+00000000070000000200000000000000000000005800000020000000030000000100000004000000100000000f000000
+030000000000000000000000780000000800000000000000000000000100000000000000170000000300000000000000
+00000000800000002100000000000000000000000100000000000000";
+
+const FRAMES_IMAGE: &str = "\
+7f454c460101010000000000000000000200f3000100000000000100340000006c010000010000003400200002002800
+060005000100000074000000000001000000010024000000240000000500000004000000010000009800000000001000
+000010000000000000000000060000000400000013041004312022959308d0057300000052b805456c00054693080004
+73000000054452be00000100000000000000010000000100040000000400010000000100060000000600010000000100
+0800000008000100000001000c0000000c00010000000100100000001000010000000100120000001200010000000100
+1400000014000100000001001600000016000100000001001800000018000100000001001c0000001c00010000000100
+2000000020000100000001002200000022000100000001002400000024000100002e74657874002e64617461002e6273
+73002e7a636c642e706c61636573002e7368737472746162000000000000000000000000000000000000000000000000
+000000000000000000000000000000000000000001000000010000000600000000000100740000002400000000000000
+000000000400000000000000070000000100000003000000000010009800000000000000000000000000000004000000
+000000000d00000008000000030000000000100098000000000000000000000000000000040000000000000012000000
+01000000000000000000000098000000a8000000000000000000000004000000000000001f0000000300000000000000
+00000000400100002900000000000000000000000100000000000000";
+
 // Two objects, of which the first calls a function of the second, and exits with 0. The function writes `hi` and a line
 // feed to standard output.
 const START: &str = "\
@@ -195,12 +226,17 @@ const LOAD_IMAGE: &str = "\
 00000000010000005400000000000100000001000c0000000c00000005000000040000009308d0050345f1ff73000000";
 
 // Plans: two whose second and third line is at fault, one that changes nothing, since no push or pop stands where
-// its interrupt comes and its byte lies above the stack, and one that writes the byte below the stack pointer.
-const PLANS: [(&str, &str); 4] = [
+// its interrupt comes and its byte lies above the stack, one that writes the byte below the stack pointer, and one that
+// interrupts the push of `frames.elf`, after which it writes the byte that the push saved, and the pop.
+const PLANS: [(&str, &str); 5] = [
     ("number", "zcld plan 1\ncut 05\n"),
     ("order", "zcld plan 1\ncut 3\ncut 2\n"),
     ("outside", "zcld plan 1\ncut 0 a0 d10000000:ee\n"),
     ("below", "zcld plan 1\ncut 1 d0fffffff:2a\n"),
+    (
+        "frames.plan",
+        "zcld plan 1\ncut 2 a0 d0ffffffc:2a\ncut 9 a0 a1\n",
+    ),
 ];
 
 // Certificates: one target that 50 calls lead to, for which a table would take more than it saves; the same with a
@@ -297,17 +333,19 @@ fn zeros(alloc: Global, special: &str, letter: &str) -> Result<Vec<u8>, Fail> {
 }
 
 // The files of a call that are no texts: `x` and `z` are the object, `image` is its image, `short`, `blank` and `floats` are
-// those with flags, `short.elf` is the image of the first of these, `start` and `main` are the two objects that write,
-// `hello.elf` and `elsewhere.elf` are their images, `echo` and `echo.elf` are the program that reads, `load.elf` is the image
+// those with flags, `short.elf` is the image of the first of these, `frames` and `frames.elf` are the object with code of Zcmp
+// and its image, `start` and `main` are the two objects that write, `hello.elf` and `elsewhere.elf` are their images, `echo` and `echo.elf` are the program that reads, `load.elf` is the image
 // that loads, and `bad` is no ELF file.
-const FILES: [(&str, &str); 15] = [
+const FILES: [(&str, &str); 17] = [
     ("x", OBJECT),
     ("z", OBJECT),
     ("short", SHORT),
     ("blank", BLANK),
     ("floats", FLOATS),
+    ("frames", FRAMES),
     ("image", IMAGE),
     ("short.elf", SHORT_IMAGE),
+    ("frames.elf", FRAMES_IMAGE),
     ("start", START),
     ("main", MAIN),
     ("hello.elf", HELLO_IMAGE),
@@ -397,11 +435,14 @@ fn object_marks(alloc: Global, call: &str, store: &MemStore) -> Result<(char, ch
     ))
 }
 
-// What `o` should be: what `plain` or `zc` makes of the object, or of `short` if that is named last; in a call with
-// `--text`, what `plain` makes of the object elsewhere, or `zc` of the two objects.
+// What `o` should be: what `plain` or `zc` makes of the object, or of `short` or `frames` if that is named last; in a call
+// with `--text`, what `plain` makes of the object elsewhere, or `zc` of the two objects.
 fn image_wanted(call: &str) -> &str {
     if call.ends_with(" short") {
         return SHORT_IMAGE;
+    }
+    if call.ends_with(" frames") {
+        return FRAMES_IMAGE;
     }
     match (call.starts_with("plain"), call.contains("--text")) {
         (true, false) => PLAIN_IMAGE,

@@ -49,6 +49,17 @@ trace short floats => -- 121 5 "" "refused 1 3 Flags\n""#;
     expect(&rt, lines)
 }
 
+// What is traced of an object with pushes and pops is what its image does, whether or not they are interrupted.
+#[test]
+fn code_of_zcmp_is_traced_and_run_alike(rt: HostRuntime) -> Result<(), Fail> {
+    let lines = r#"trace frames => -- 66 0 "A" "exited 66\n"
+plain --out o frames => +- 0 5 "plain text 36\n" ""
+zc --out o --cert c frames => ++ 0 5 "plain text 36\nzc text 36\nitems 13\nshort 8\nlong 0\npush 0\npop 0\nmove 0\ntable 0\nslots 0\nnet 0\n" ""
+run frames.elf => -- 66 0 "A" "exited 66\n"
+run --plan frames.plan frames.elf => -- 66 0 "A" "exited 66\n""#;
+    expect(&rt, lines)
+}
+
 // The line is written in three pieces, of which the second is the symbol's name.
 #[test]
 fn all_objects_are_read_and_then_judged(rt: HostRuntime) -> Result<(), Fail> {

@@ -32,6 +32,7 @@ alone 36:1 4505 0000 0000 0000 00000073 0:2:0:43:6 @ lies 0:1:2 0:1:4 0:1:8 0:1:
 alone 36:1 4505 4505 0000 0000 0000 00000073 0:4:0:43:6 @ lies 0:1:4 0:1:10 0:1:14 = 12 4 4 8 12 | of less
 alone 36:1 4505 0000 0000 00000073 0:2:0:43:4 @ lies 0:1:2 0:1:6 0:1:10 = 12 3 2 8 12 | and of more
 alone 36:1 c111 4505 8082 @ blocks 1 = 0 2 4 6
+alone 36:1 c111 4505 be42 4505 @ blocks 1 = 0 2 4 | a branch to cm.popret, behind which nothing begins
 ";
 
 /// Relocations and targets.
@@ -47,6 +48,9 @@ alone 36:1 c101 0001 0:0:1:45:2 = 0 RelocPlace 1:0 | RVC_JUMP at c.beqz
 alone 36:1 0000006f 0:0:1:45:0 = 0 RelocPlace 1:0 | RVC_JUMP at jal
 alone 36:1 a001 0001 0:0:1:17:0 = 0 RelocPlace 1:0 | JAL at c.j
 alone 36:1 6505 0001 0:0:1:26:0 = 0 RelocPlace 1:0 | HI20 at c.lui
+alone 36:1 b842 be42 0:0:1:45:0 = 0 RelocPlace 1:0 | RVC_JUMP at cm.push
+alone 36:1 b842 be42 0:2:1:44:0 = 0 RelocPlace 1:2 | RVC_BRANCH at cm.popret
+alone 36:1 ba42 0001 0:0:5:27:0 = 0 RelocPlace 1:0 | LO12_I at cm.pop
 alone 36:1 a0010537 0:2:1:45:0 = 0 RelocPlace 1:2 | within a word
 alone 36:1 0001 00000013 00000013 0:4:1:1:0 = 0 RelocPlace 1:4 | within two
 alone 36:1 a0010537 0:0:5:26:0 1:2:1:45:0 = 0 RelocPlace 1:0 | within the field of another
@@ -101,8 +105,17 @@ alone 36:1 84ae 00050413 @ zc text = ac26 | so are one of two bytes and one of f
 alone 36:1 00a00433 84ae @ zc text = 842a 84ae | a sum with zero is no move
 alone 36:1 1141 c626 c422 c206 @ zc text = b862 | a push
 alone 36:1 40b2 0141 8082 @ zc text = be42 | a pop that returns
-alone 36:1 b842 0000 0001 01751073 @ plain text = b842 0000 0001 1073 0175 | what is copied unread
-alone 36:1 b842 0000 0001 01751073 @ zc text = b842 0000 0001 1073 0175
+alone 36:1 a002 0000 0001 01751073 @ plain text = a002 0000 0001 1073 0175 | what is copied unread
+alone 36:1 a002 0000 0001 01751073 @ zc text = a002 0000 0001 1073 0175
+alone 36:1 b852 ac26 ac62 ba56 bc52 be52 @ plain text = b852 ac26 ac62 ba56 bc52 be52 | cm.push, cm.mvsa01, cm.mva01s, cm.pop, cm.popretz and cm.popret are copied
+alone 36:1 b852 ac26 ac62 ba56 bc52 be52 @ zc text = b852 ac26 ac62 ba56 bc52 be52
+alone 36:1 b852 ac26 ac62 ba56 bc52 be52 @ zc counts = 12 12 6 6 0 0 0 0 | and short ones, as no group is
+alone 36:1 b852 84ae 842a 1141 c606 be52 @ zc text = b852 ac26 b842 be52 | moves and a push between them are
+alone 36:1 b852 84ae 842a 1141 c606 be52 @ zc counts = 12 8 6 2 0 1 0 1
+alone 36:1 40b2 be42 0141 8082 @ zc text = 40b2 be42 0141 8082 | a pop with one in it is none
+alone 36:1 84ae ac62 842a @ zc text = 84ae ac62 842a | nor are two moves
+alone 36:1 c101 00100513 be42 0:0:1:44:6 @ plain text = c119 0513 0010 be42 | c.beqz to cm.popret
+alone 36:1 c101 00100513 be42 0:0:1:44:6 @ zc text = c111 4505 be42 | over fewer bytes
 alone 36:1 0000 @ zc counts = 2 2 1 1 0 0 0 0 | it is a short one
 alone 36:1 c111 4505 8082 @ plain text = c111 4505 8082 | c.beqz
 alone 36:1 c111 4505 8082 @ zc text = c111 4505 8082

@@ -66,8 +66,8 @@ fn end_text(alloc: Global, end: RunEnd, pc: u32, a0: u32) -> Result<String, Allo
     }
 }
 
-// Runs each row, with a text after it: it should end and write as it says.
-fn expect_runs<R: Abort + AllocGlobal>(rt: &R, rows: &str, after: &str) -> Result<(), Fail> {
+/// Runs each row, with a text after it: it should end and write as it says.
+pub fn expect_runs<R: Abort + AllocGlobal>(rt: &R, rows: &str, after: &str) -> Result<(), Fail> {
     for row in rows.trim().lines() {
         if !row.starts_with('#') {
             let row = format!(in rt.alloc(); "text {row} {after}")?;

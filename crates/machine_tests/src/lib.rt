@@ -3,6 +3,8 @@
 #![tactic(auto)]
 
 #[cfg(test)]
+mod expansions;
+#[cfg(test)]
 mod images;
 #[cfg(test)]
 mod objects;

@@ -97,8 +97,8 @@ fn expect_run<R: Abort + AllocGlobal>(rt: &R, row: &str) -> Result<(), Fail> {
     Ok(())
 }
 
-// The same of each row, between texts before and after it.
-fn expect_runs<R: Abort + AllocGlobal>(
+/// Runs the program of each row, between texts before and after it, which should end and write as the row says.
+pub fn expect_runs<R: Abort + AllocGlobal>(
     rt: &R,
     before: &str,
     rows: &str,

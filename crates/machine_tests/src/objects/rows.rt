@@ -331,8 +331,8 @@ pub const CALLS: &str = "
 pub const COMPRESSED: &str = "
 # .half 0
 0000 | ends stuck 0:1:0 8 NoInstruction
-# c.li a0,3; cm.push {ra},-16
-450D B842 | ends stuck 0:1:2 8 NoInstruction
+# c.li a0,3; cm.jt 0
+450D A002 | ends stuck 0:1:2 8 NoInstruction
 # c.nop; c.ebreak
 0001 9002 | ends stuck 0:1:2 8 NoInstruction
 # c.nop; csrrw x0,a0
@@ -359,4 +359,15 @@ words 00000513 001005B7 00200613 03F00893 00000073 00100513 04000893 00000073 00
 # addi a0,x0,1; addi sp,sp,4, above the stack
 words 00100513 00410113 | answers done; stuck 0:1:4 7 StackPointer; stuck 0:1:4 7 StackPointer; stuck 0:1:4 7 StackPointer
 # addi a0,x0,3; addi a7,x0,93; ecall
-words 00300513 05D00893 00000073 | answers done; done; exited 3; exited 3";
+words 00300513 05D00893 00000073 | answers done; done; exited 3; exited 3
+# c.li s0,1; cm.push {ra, s0},-16; c.li s0,2; cm.pop {ra, s0},16; cm.mva01s s0,s0; cm.mvsa01 s1,s0; addi a7,x0,93; ecall
+words 4405 B852 4409 BA52 AC62 ACA2 05D00893 00000073 | flags 1 | answers done; done; done; done; done; done; done; exited 1; exited 1
+# a push that would be stuck for another cause if sp had moved: lui t0,0xFF00; addi sp,t0,18; cm.push {ra},-16
+words 0FF002B7 01228113 B842 | flags 1 | answers done; done; stuck 0:1:8 6 Misaligned; stuck 0:1:8 6 Misaligned; stuck 0:1:8 6 Misaligned
+# lui t0,0xFF00; c.mv sp,t0; cm.push {ra},-16
+words 0FF002B7 8116 B842 | flags 1 | answers done; done; stuck 0:1:6 7 StackPointer; stuck 0:1:6 7 StackPointer
+# pops that would be stuck for another cause if sp had moved: c.li ra,0; cm.push {ra},-16; cm.popret {ra},16; or cm.popretz {ra},16
+words 4081 B842 BE42 | flags 1 | answers done; done; stuck 0:1:4 3 TargetUnknown; stuck 0:1:4 3 TargetUnknown; stuck 0:1:4 3 TargetUnknown
+words 4081 B842 BC42 | flags 1 | answers done; done; stuck 0:1:4 3 TargetUnknown; stuck 0:1:4 3 TargetUnknown; stuck 0:1:4 3 TargetUnknown
+# cm.pop {ra},16
+words BA42 | flags 1 | answers stuck 0:1:0 5 BadAddress; stuck 0:1:0 5 BadAddress";
