@@ -20,10 +20,12 @@ const PROGRAMS: &str = "
 # each is one step: cm.push {ra},-16; cm.pop {ra},16; c.li a0,1; addi a7,x0,93; ecall
 B842 BA42 4505 05D00893 00000073 | steps 5 | ends exited 1 | image exited 1 1000a 1
 B842 BA42 4505 05D00893 00000073 | steps 4 | ends spent | image spent 1000a 1
-# a function that returns a sum: c.li a0,3; c.li s0,5; c.jal .+12; c.add a0,s0; addi a7,x0,93; ecall; cm.push {ra, s0},-32; c.li s0,1; c.add a0,s0; cm.popret {ra, s0},32
-450D 4415 2031 9522 05D00893 00000073 B856 4405 9522 BE56 | ends exited 9 | image exited 9 1000c 9
-# one that returns 0: c.li a0,3; c.li s0,5; c.jal .+12; c.add a0,s0; addi a7,x0,93; ecall; cm.push {ra, s0},-16; c.li s0,1; cm.popretz {ra, s0},16
-450D 4415 2031 9522 05D00893 00000073 B852 4405 BC52 | ends exited 5 | image exited 5 1000c 5
+# sp is back behind a pop: c.addi sp,-16; c.li a0,5; c.swsp a0,12(sp); cm.push {ra},-16; c.li a0,6; cm.pop {ra},16; c.lwsp a0,12(sp); addi a7,x0,93; ecall
+1141 4515 C62A B842 4519 BA42 4532 05D00893 00000073 | ends exited 5 | image exited 5 10012 5
+# a function that returns a sum: c.addi sp,-16; c.li a0,3; c.li s0,5; c.swsp a0,12(sp); c.jal .+16; c.lwsp a1,12(sp); c.add a0,s0; c.add a0,a1; addi a7,x0,93; ecall; cm.push {ra, s0},-32; c.li s0,1; c.add a0,s0; cm.popret {ra, s0},32
+1141 450D 4415 C62A 2801 45B2 9522 952E 05D00893 00000073 B856 4405 9522 BE56 | ends exited c | image exited 12 10014 c
+# one that returns 0: c.addi sp,-16; c.li a0,3; c.li s0,5; c.swsp a0,12(sp); c.jal .+16; c.lwsp a1,12(sp); c.add a0,s0; c.add a0,a1; addi a7,x0,93; ecall; cm.push {ra, s0},-16; c.li s0,1; cm.popretz {ra, s0},16
+1141 450D 4415 C62A 2801 45B2 9522 952E 05D00893 00000073 B852 4405 BC52 | ends exited 8 | image exited 8 10014 8
 # one that returns by a jump: c.li a0,7; c.jal .+10; addi a7,x0,93; ecall; cm.push {ra},-16; c.li ra,0; cm.pop {ra},16; c.jr ra
 451D 2029 05D00893 00000073 B842 4081 BA42 8082 | ends exited 7 | image exited 7 10008 7
 # one with a branch to its pop: c.li a0,2; c.jal .+10; addi a7,x0,93; ecall; cm.push {ra},-16; c.bnez a0,.+4; c.li a0,9; cm.popret {ra},16
