@@ -257,7 +257,7 @@ def accepted():
 
 def stuck():
     """What it is, an object that both links take, at which offset `trace` of it is stuck, and the number of why."""
-    halves = 0x0000, 0x9002, 0x2000, 0x6000, 0x8C60, 0x9C01, 0x9065, 0xA002, 0xA0FE, 0xAC22, 0xB842, 0xBE42
+    halves = 0x0000, 0x9002, 0x2000, 0x6000, 0x8C60, 0x9C01, 0x9065, 0xA002, 0xA0FE, 0xAC22, 0xB832, 0xBE02
     rows = [(f'the halfword {half:04x}', compressed_with(halves_of(half) + EXIT)[0], 0, 8) for half in halves]
     last, _ = compressed_with(EXIT + halves_of(0x0013))
     last.symbols[0].value = len(EXIT)
@@ -283,8 +283,10 @@ KINDS = {R_32: words_of(NOP), BRANCH: words_of(branch(0, A0, A1)), JAL: words_of
          LO12_S: words_of(sw(T0, T0)), ALIGN: nops(2), RVC_BRANCH: halves_of(C_BNEZ), RVC_JUMP: halves_of(C_JAL)}
 # Types of which code of any kind may be, and those of which code of the second type may be too.
 ANY, ALSO = (R_32, ALIGN), ((PCREL_LO12_I, LO12_I), (LO12_I, PCREL_LO12_I), (PCREL_HI20, CALL), (PCREL_HI20, CALL_PLT))
-# Halfwords that are nearly of the kind of a type: the short forms of an upper part, a sum, a load, a store and returns.
-SHORT = {'c.lui': 0x6285, 'c.addi': 0x0285, 'c.lw': 0x4108, 'c.sw': 0xC108, 'c.jr': 0x8082, 'c.jalr': 0x9082, 'c.li': 0x4501}
+# Halfwords that are nearly of the kind of a type: the short forms of an upper part, a sum, a load, a store and returns. And a
+# push, a pop that returns and two moves, of which no type is the kind.
+SHORT = {'c.lui': 0x6285, 'c.addi': 0x0285, 'c.lw': 0x4108, 'c.sw': 0xC108, 'c.jr': 0x8082, 'c.jalr': 0x9082, 'c.li': 0x4501,
+         'cm.push': 0xB842, 'cm.popret': 0xBE42, 'cm.mva01s': 0xAC62}
 
 
 def with_relocs(code, *rows):

@@ -1,18 +1,19 @@
-"""The words that halfwords of Zca and Zcb stand for (RISC-V unprivileged manual, "RVC Instruction Set Listings";
-RISC-V Zc specification 1.0, "Zcb").
+"""The words that halfwords of Zca and Zcb stand for, one of each, and those that halfwords of Zcmp stand for, one after another
+(RISC-V unprivileged manual, "RVC Instruction Set Listings"; RISC-V Zc specification 1.0, "Zcb", "Zcmp").
 
     fuzz/expansions.py HALFWORD...
 
-says the word of each halfword. The way back is in halfwords.py. It knows nothing of the program, so that both can be
+says the words of each halfword. The way back is in halfwords.py. It knows nothing of the program, so that both can be
 compared.
 """
+import functools
 import os
 import sys
 
 sys.path.insert(0, os.path.join(os.path.dirname(os.path.abspath(__file__)), os.pardir, 'scripts'))
 
-from zcld_tools.instructions import (EBREAK, RA, SP, ZERO, addi, branch, immediate, jal, jalr, load, lui, lw, of_format_r,
-                                     signed, store, sw)
+from zcld_tools.instructions import (A0, A1, EBREAK, RA, RET, S0, S1, SP, ZERO, addi, branch, immediate, jal, jalr, load, lui,
+                                     lw, of_format_r, signed, store, sw)
 
 
 def bits(value, high, low=None):
@@ -96,10 +97,52 @@ def quadrant_2(half, group, low, high):
     return None
 
 
+# ---- pushes, pops and moves
+
+# Bits 12 to 8 of the four instructions that have a list.
+PUSH, POP, POPRETZ, POPRET = 0b11000, 0b11010, 0b11100, 0b11110
+# The registers of the longest list, in the order of the accesses: from the highest address down.
+SAVED = (*range(27, 17, -1), S1, S0, RA)
+# How many registers each list has, and by how much it moves sp at least.
+COUNTS = dict(zip(range(4, 16), (*range(1, 12), 13)))
+MOVED = dict(zip(range(4, 16), (*[16] * 4, *[32] * 4, *[48] * 3, 64)))
+
+
+@functools.cache
+def expansion(half):
+    """The words that a push, a pop or two moves stand for, in their order; none, if it is another halfword."""
+    if half & 3 != 2 or half >> 13 != 5:
+        return ()
+    form, number = bits(half, 12, 8), bits(half, 7, 4)
+    if bits(half, 12, 10) == 3:
+        return moves(bits(half, 6, 5), saved_register(bits(half, 9, 7)), saved_register(bits(half, 4, 2)))
+    if form not in (PUSH, POP, POPRETZ, POPRET) or number not in COUNTS:
+        return ()
+    moved = MOVED[number] + 16 * bits(half, 3, 2)
+    slots = [*zip(SAVED[-COUNTS[number]:], range(moved - 4, -4, -4))]
+    if form == PUSH:
+        return (addi(SP, SP, -moved), *(sw(register, SP, offset) for register, offset in slots))
+    cleared, left = [addi(A0, ZERO)] * (form == POPRETZ), [RET] * (form in (POPRETZ, POPRET))
+    return (*(lw(register, SP, offset) for register, offset in slots), *cleared, addi(SP, SP, moved), *left)
+
+
+def saved_register(code):
+    """The register that three bits of a move name."""
+    return (code >> 1 > 0) << 4 | (code >> 1 == 0) << 3 | code
+
+
+def moves(which, first, second):
+    """The moves between a0 and one register, and a1 and another. None go to one register twice."""
+    if which == 3:
+        return addi(A0, first), addi(A1, second)
+    return (addi(first, A0), addi(second, A1)) if which == 1 and first != second else ()
+
+
 def main():
     for half in sys.argv[1:]:
         word = expanded(int(half, 16))
-        print('none' if word is None else f'{word:08x}')
+        words = expansion(int(half, 16)) if word is None else [word]
+        print(' '.join(f'{word:08x}' for word in words) or 'none')
 
 
 if __name__ == '__main__':

@@ -12,6 +12,7 @@ import sys
 
 sys.path.insert(0, os.path.join(os.path.dirname(os.path.abspath(__file__)), os.pardir, 'scripts'))
 
+from expansions import expansion
 from object_data import CODE
 from object_faults import Object, told
 from object_items import Code, Item, first_fault
@@ -32,38 +33,6 @@ NAMES = (None, 'AddressUnknown', 'ConditionUnknown', 'TargetUnknown', 'ArgumentU
 
 class Stuck(Exception):
     """A step that can't be made, by its number."""
-
-
-# ---- halfwords of Zcmp
-
-SAVED = (27, 26, 25, 24, 23, 22, 21, 20, 19, 18, 9, 8, 1)
-
-
-def adding(to, source, value):
-    """`addi`."""
-    return value % 4096 << 20 | source << 15 | to << 7 | OPCODE_IMMEDIATE
-
-
-def several(half):
-    """The words that a push, a pop or two moves stand for (RISC-V Zc specification 1.0, "Zcmp"), and none for any other halfword."""
-    if half >> 10 == 0b101011 and half & 3 == 0b10 and half >> 5 & 3 in (1, 3):
-        first, second = (field + 8 if field < 2 else field + 16 for field in (half >> 7 & 7, half >> 2 & 7))
-        if half >> 5 & 3 == 3:
-            return [adding(A0, first, 0), adding(A1, second, 0)]
-        return [] if first == second else [adding(first, A0, 0), adding(second, A1, 0)]
-    listed, which = half >> 4 & 15, half >> 8
-    if half & 3 != 0b10 or which not in (0b10111000, 0b10111010, 0b10111100, 0b10111110) or listed < 4:
-        return []
-    count = 13 if listed == 15 else listed - 3
-    moved = (4 * count + 15) // 16 * 16 + 16 * (half >> 2 & 3)
-    slots = [(register, moved - 4 * n) for n, register in enumerate(SAVED[13 - count:], 1)]
-    if which == 0b10111000:
-        stores = [register << 20 | (offset >> 5) << 25 | SP << 15 | 2 << 12 | (offset & 31) << 7 | OPCODE_STORE for register, offset in slots]
-        return [adding(SP, SP, -moved)] + stores
-    loads = [offset << 20 | SP << 15 | 2 << 12 | register << 7 | OPCODE_LOAD for register, offset in slots]
-    zero = [adding(A0, 0, 0)] if which == 0b10111100 else []
-    back = [1 << 15 | 0x67] if which in (0b10111100, 0b10111110) else []
-    return loads + zero + [adding(SP, SP, moved)] + back
 
 
 # ---- words
@@ -192,7 +161,7 @@ class Machine:
         item = self.items[self.place]
         after = (i, k, offset + part.starts[offset])
         if item.kind == 'RawShort':
-            return self.several(several(item.half), after)
+            return self.in_turn(expansion(item.half), after)
         if item.kind in ('Raw', 'Word'):
             raise Stuck(NO_INSTRUCTION)
         if item.kind == 'RawPair':
@@ -200,8 +169,9 @@ class Machine:
         return {'Align': self.go, 'Branch': self.branch, 'Jump': self.jump, 'Call': self.call, 'Hi': self.high,
                 'PcHi': self.high_from}.get(item.kind, self.operate)(item, after)
 
-    def several(self, words, after):
-        """A step that makes several instructions one after another; a run that is stuck in it stays where it was."""
+    def in_turn(self, words, after):
+        """A step that makes the words of a push, a pop or two moves one after another. If one can't be made, none is: the program
+        is stuck at this place."""
         place = self.place
         if not words:
             raise Stuck(NO_INSTRUCTION)

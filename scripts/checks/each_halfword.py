@@ -1,9 +1,9 @@
 """Each halfword as an instruction of compressed code: what both links write, where `trace` is stuck, and what it does (RISC-V
-unprivileged manual, "RVC Instruction Set Listings"; RISC-V Zc specification 1.0, "Zcb")."""
+unprivileged manual, "RVC Instruction Set Listings"; RISC-V Zc specification 1.0, "Zcb", "Zcmp")."""
 import random
 
 from assembled import shortest
-from expansions import expanded
+from expansions import expanded, expansion
 from object_items import word_of
 from size_report import Left
 from symbolic_machine import ADDRESS, BAD_ADDRESS, CONDITION, MASK, NAMES, NO_INSTRUCTION, STACK_POINTER, TARGET
@@ -97,8 +97,11 @@ def reason(word):
 
 def end_of(half):
     """The line with which `trace` ends of a halfword in front of an exit."""
-    word = expanded(half)
-    if word is None:
+    word, words = expanded(half), expansion(half)
+    if words:
+        # a pop, at the stack's top, or else a push or two moves
+        why = BAD_ADDRESS if words[0] & 0x7F == OPCODE_LOAD else None
+    elif word is None:
         why = NO_INSTRUCTION
     elif is_jal(word):
         return LED.get(jal_distance(word), f'stuck 0 1 0 {NO_INSTRUCTION} {NAMES[NO_INSTRUCTION]}')
