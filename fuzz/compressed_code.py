@@ -2,16 +2,25 @@
 
 The objects have instructions of 4 bytes alone, as the other scripts here make them. A part of those that have short
 forms gets one of 2 bytes, which may be one that no assembler writes; and branches and jumps with a relocation get its
-short type, where they reach. Symbols, relocations and distances lead to the same instructions as before. Between them
-something is slipped in now and then: what changes nothing, and where no run comes to, halfwords and words that are no
-instructions.
+short type, where they reach. Of what saves registers and restores them, and of pairs of moves, a part becomes a push, a pop or
+a move, as compilers write them that are told of Zcmp; the rest is left for `zc` to find. Symbols, relocations and distances lead
+to the same instructions as before. Between them something is slipped in now and then: what changes nothing, and where no run
+comes to, halfwords and words that are no instructions.
+
+In odd lists a push or a pop may have a relocation, or a jump through a table, which objects don't have, may be in its place.
 """
 import bisect
 import functools
 
+import object_items
+from groups import groups_of
 from halfwords import Instruction, short_form
-from object_items import CALLS, REACHES, WAYS, WITHOUT_FIELD, word_of
-from zcld_tools.elf import ALIGN, BRANCH, EXECINSTR, GLOBAL, JAL, LO12_I, PCREL_LO12_I, RVC, RVC_BRANCH, RVC_JUMP
+from object_faults import Object
+from object_items import CALLS, REACHES, WAYS, WITHOUT_FIELD, first_fault, word_of
+from tables import table_half
+from zc_machine import POPRET, POPRETZ
+from zcld_tools.elf import (ALIGN, BRANCH, EXECINSTR, GLOBAL, HI20, JAL, LO12_I, PCREL_HI20, PCREL_LO12_I, RVC, RVC_BRANCH,
+                            RVC_JUMP)
 from zcld_tools.instructions import (A2, A3, A4, A5, OPCODE_IMMEDIATE, OPCODE_LUI, OPCODE_REGISTER, S0, S1, SHORT_NOP,
                                      ZERO, branch_distance, halves_of, is_branch, is_jal, is_jalr, jal_distance,
                                      with_branch, with_jump, words_of)
@@ -21,6 +30,8 @@ SHORT = {BRANCH: RVC_BRANCH, JAL: RVC_JUMP}
 # All jumps of 2 bytes reach in code of so many bytes. In sections longer than these nothing is slipped in, so that no
 # branch leads too far because of it.
 NEAR, MOST_WITH_SLIPS = 1800, 2048
+# In longer code no push, pop or move is looked for.
+MOST_WITH_GROUPS = 16384
 # Registers in which the programs that are made here have numbers alone.
 OF_NUMBERS = S0, S1, A2, A3, A4, A5
 # Words outside RV32IM.
@@ -71,11 +82,12 @@ def unread_halves():
 
 class Piece:
     """An item of code: where it stood, its bytes, and its relocation if it has one. And how it is written: whether as a
-    branch or jump of 2 bytes, what is slipped in before it, and whether that is a padding."""
+    branch or jump of 2 bytes, what is slipped in before it, and whether that is a padding. Or a group of items, of which the
+    bytes are those of the push, the pop or the move that stands for it."""
 
     def __init__(self, at, content, entry):
         self.at, self.content, self.entry = at, content, entry
-        self.is_short, self.slipped, self.is_padded = False, b'', False
+        self.is_group, self.is_short, self.slipped, self.is_padded = False, False, b'', False
         # where a branch or jump leads in its section
         self.to = None
         self.leaves = self.is_last()
@@ -85,7 +97,7 @@ class Piece:
 
     def is_way(self):
         """Whether it is a branch or jump, with its own relocation or none."""
-        is_it = len(self.content) == 4 and (is_branch(self.word()) or is_jal(self.word()))
+        is_it = len(self.content) == 4 and not self.is_group and (is_branch(self.word()) or is_jal(self.word()))
         return is_it and (self.entry is None or self.entry.kind in SHORT)
 
     def is_last(self):
@@ -125,9 +137,37 @@ class Code:
 
     # what becomes of the pieces
 
+    def join(self, groups, share):
+        """Makes one piece of each of a share of these groups, which are given by where their first items stand."""
+        joined, left = [], 0
+        for piece in self.pieces:
+            if left:
+                left -= 1
+                continue
+            group = groups.get(piece.at)
+            if group and self.rng.random() < share:
+                left = group.items - 1
+                piece.is_group, piece.content, piece.leaves = True, group.code, group.form in (POPRET, POPRETZ)
+            joined.append(piece)
+        self.pieces = joined
+        self.starts = [piece.at for piece in joined]
+        self.ends = {*self.starts, self.length}
+
+    def spoil(self):
+        """Gives some pushes, pops and moves a relocation, or puts a jump through a table in their place."""
+        for piece in self.pieces:
+            which = self.rng.random()
+            if piece.is_group and which < 0.05:
+                kind = self.rng.choice((RVC_BRANCH, RVC_JUMP, BRANCH, JAL, HI20, PCREL_HI20, LO12_I, *CALLS))
+                self.section.relocs.append(Reloc(piece.at, kind, None, 0))
+            elif piece.is_group and which < 0.1:
+                piece.content = halves_of(table_half(self.rng.randrange(256)))
+
     def choose(self, share, is_near, is_odd):
         """Chooses pieces that are written in 2 bytes, a share of those that may be."""
         for piece in self.pieces:
+            if piece.is_group:
+                continue
             if piece.is_way():
                 self.choose_way(piece, share, is_near)
             elif piece.entry is None:
@@ -201,8 +241,8 @@ class Code:
         """Where what stood at an offset stands now."""
         if offset in self.ends or not self.starts:
             return self.places.get(offset, offset)
-        start = self.starts[bisect.bisect(self.starts, offset) - 1]
-        return self.places[start] + offset - start
+        piece = self.pieces[bisect.bisect(self.starts, offset) - 1]
+        return self.places[piece.at] + (0 if piece.is_group else offset - piece.at)
 
     def write(self):
         """Writes the pieces, and moves the relocations."""
@@ -261,13 +301,27 @@ def move_symbols(objects, codes):
             symbol.size = max(0, end - symbol.value)
 
 
+def groups_in(objects):
+    """The groups of objects without a fault, by their sections and then by where their first items stand."""
+    files, found = [read.bytes() for read in objects], {}
+    if first_fault(files) is None:
+        for (i, k, offset), group in groups_of(object_items.Code([Object(data) for data in files])).items():
+            found.setdefault(id(objects[i].sections[k - 1]), {})[offset] = group
+    return found
+
+
 def compress(rng, objects, chosen, is_odd=False, has_slips=True):
     """Writes the code of the chosen ones of some objects anew. Of odd ones branches and jumps may not reach."""
     is_near, must_reach = sum(map(room, objects)) <= NEAR, not is_odd or rng.random() < 0.9
     codes = {id(section): Code(rng, section) for read in chosen for section in read.sections if is_code(section)}
+    share = rng.choice((0, 0.5, 0.9, 1))
+    groups = groups_in(objects) if share and sum(map(room, objects)) <= MOST_WITH_GROUPS else {}
     for read in chosen:
         read.flags |= RVC
-    for code in codes.values():
+    for section, code in codes.items():
+        code.join(groups.get(section, {}), share)
+        if is_odd:
+            code.spoil()
         code.choose(rng.choice((0, 0.3, 0.8, 1, 1)), is_near, is_odd)
         if has_slips and code.length <= MOST_WITH_SLIPS:
             code.slip()

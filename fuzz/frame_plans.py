@@ -4,12 +4,13 @@
     fuzz/frame_plans.py [--seed S] [--count N] [--keep FOLDER] [PROGRAM]
 
 PROGRAM is build/zcld if none is given. A case is fixed by the seed and its number: an object of functions that save registers in
-any order, change them, and restore them. It goes to `zc` and `trace`, and its image to `run` under a plan that interrupts after
-each access of each push and pop, with bytes written below sp. Checked are:
+any order, change them, and restore them. Some or all of this may be pushes and pops in the object already. It goes to both links
+and `trace`, and each image to `run` under a plan that interrupts after each access of each push and pop, with bytes written
+below sp. Checked are:
 
-- image, certificate and report are those that `zc_link.py` and `size_report.py` make, byte for byte, and the image's run comes to
-  each push and pop that was asked for;
-- the run under the plan writes what the trace writes, and exits as it does.
+- images, certificate and report are those that `plain_link.py`, `zc_link.py` and `size_report.py` make, byte for byte, and the
+  run of the image of `zc` comes to each push and pop that was asked for;
+- the trace writes what `symbolic_machine.py` does, and exits as it does, and so do both runs under their plans.
 
 The status is 1 if a check failed. FOLDER then has the files of those cases.
 """
@@ -25,7 +26,9 @@ sys.path.insert(0, os.path.join(os.path.dirname(os.path.abspath(__file__)), os.p
 from compressed_code import compress
 from groups import LISTS
 from made_frames import ENDINGS, GOES_ON, Saved, sizes
+from plain_link import plain
 from size_report import left_by_zc
+from symbolic_machine import trace
 from zc_machine import SAVED, Machine, plan_of
 from zcld_tools import programs
 from zcld_tools.files import read, write
@@ -34,7 +37,7 @@ from zcld_tools.instructions import (A0, A1, A2, A7, ECALL, EXIT_WORDS, RA, RET,
 from zcld_tools.objects import object_with
 from zcld_tools.programs import Failed
 
-STEPS = '100000'
+STEPS = 100_000
 KEPT = SAVED[1:]
 
 
@@ -115,8 +118,8 @@ def interrupts_of(rng, image):
 
 
 class Case:
-    """An object of up to three frames, the last of them of a list, a kind and a range of sizes by the case's number; its image;
-    and a plan of interrupts."""
+    """An object of up to three frames, the last of them of a list, a kind and a range of sizes by the case's number; its images;
+    and a plan of interrupts for each."""
 
     def __init__(self, seed, number):
         rng = random.Random(f'{seed} {number}')
@@ -125,31 +128,40 @@ class Case:
         frames = [(row, rng.choice(sizes(row)[range_of_sizes]), ending) for row, ending, range_of_sizes in rows]
         self.what = ', '.join('list {} in {} with ending {}'.format(*frame) for frame in frames)
         self.file = made_object(rng, frames)
-        self.left = left_by_zc([self.file])
-        interrupts, found = interrupts_of(rng, self.left.image)
-        self.plan, self.found, self.wanted = plan_of(interrupts), found, 2 * len(frames)
+        (self.plain, self.length), self.left = plain([self.file]), left_by_zc([self.file])
+        self.plans, self.found, self.wanted = {}, {}, 2 * len(frames)
+        for link, image in (('plain', self.plain), ('zc', self.left.image)):
+            interrupts, self.found[link] = interrupts_of(rng, image)
+            self.plans[link] = plan_of(interrupts)
 
 
 def check(program, case, folder):
     """Makes the calls of a case, in a folder."""
-    names = {name: os.path.join(folder, name) for name in ('file', 'out', 'cert', 'plan')}
+    names = {name: os.path.join(folder, name) for name in ('file', 'plain', 'zc', 'cert', 'plan')}
     write(names['file'], case.file)
-    write(names['plan'], case.plan)
-    linked = programs.run([program, 'zc', '--out', names['out'], '--cert', names['cert'], names['file']])
-    if linked != (0, case.left.report, b'') or (read(names['out']), read(names['cert'])) != case.left[:2]:
+    linked = programs.run([program, 'plain', '--out', names['plain'], names['file']])
+    if linked != (0, b'plain text %d\n' % case.length, b'') or read(names['plain']) != case.plain:
+        raise Failed(f'plain ends with {linked}, or the image is another')
+    linked = programs.run([program, 'zc', '--out', names['zc'], '--cert', names['cert'], names['file']])
+    if linked != (0, case.left.report, b'') or (read(names['zc']), read(names['cert'])) != case.left[:2]:
         raise Failed(f'zc ends with {linked}, or the image or the certificate is another')
-    if case.found != case.wanted:
-        raise Failed(f'the run comes to {case.found} pushes and pops, and not to {case.wanted}')
-    traced = programs.run([program, 'trace', '--steps', STEPS, names['file']])
-    ran = programs.run([program, 'run', '--plan', names['plan'], '--steps', STEPS, names['out']])
-    if ran != traced or b'exited ' not in ran.err:
-        raise Failed(f'trace ends with {traced}, but run with {ran}')
+    if case.found['zc'] != case.wanted:
+        raise Failed(f'the run comes to {case.found["zc"]} pushes and pops, and not to {case.wanted}')
+    traced = programs.run([program, 'trace', '--steps', str(STEPS), names['file']])
+    out, err, line = trace([case.file], b'', STEPS)
+    if traced[1:] != (out, err + line + b'\n') or b'exited ' not in traced.err:
+        raise Failed(f'trace ends with {traced}, and the model with {line}')
+    for link, plan in case.plans.items():
+        write(names['plan'], plan)
+        ran = programs.run([program, 'run', '--plan', names['plan'], '--steps', str(STEPS), names[link]])
+        if ran != traced:
+            raise Failed(f'trace ends with {traced}, but run of the image of {link} with {ran}')
 
 
 def keep(folder, seed, number, case):
     """Writes the files of a case."""
     os.makedirs(folder, exist_ok=True)
-    for name, data in (('o', case.file), ('plan', case.plan)):
+    for name, data in (('o', case.file), *((f'{link}.plan', plan) for link, plan in case.plans.items())):
         write(os.path.join(folder, f'frames-{seed}-{number}.{name}'), data)
 
 
@@ -161,17 +173,20 @@ def main():
     arguments.add_argument('--keep', default=os.path.join('build', 'fuzz'))
     given = arguments.parse_args()
     program, wrong, interrupts, begun = programs.built(given.program), 0, 0, time.monotonic()
+    own = 0
     with tempfile.TemporaryDirectory() as folder:
         for number in range(given.count):
             case = Case(given.seed, number)
-            interrupts += case.plan.count(b'cut ')
+            interrupts += sum(plan.count(b'cut ') for plan in case.plans.values())
+            own += case.found['plain']
             try:
                 check(program, case, folder)
             except Failed as why:
                 wrong += 1
                 keep(given.keep, given.seed, number, case)
                 print(f'WRONG: case {number}, {case.what}: {why}')
-    print(f'seed {given.seed}: {given.count} runs under {interrupts} interrupts in {time.monotonic() - begun:.0f} s')
+    print(f'seed {given.seed}: {2 * given.count} runs under {interrupts} interrupts in {time.monotonic() - begun:.0f} s; '
+          f'{own} pushes and pops that were made were those of objects')
     print(f'{wrong} wrong')
     return wrong > 0
 

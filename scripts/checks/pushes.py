@@ -43,17 +43,19 @@ def nearly_pushes(group):
 
 
 def interrupted_frames(group):
-    """frames of every list and kind under interrupts after each access of their pushes and pops, against their objects"""
+    """frames of every list and kind under interrupts after each access of their pushes and pops, which may stand in their objects
+    already: images of both links against these objects"""
     for number in range(60):
         case = frame_plans.Case('check', number)
         what = f'case {number}, {case.what}'
-        group.same(f'{what}: pushes and pops', case.found, case.wanted)
-        folder = group.linked_small(what, [case.file])
-        folder.write('plan', case.plan)
-        traced, ran = (folder.run(words) for words in (('trace', 'file0'), ('run', '--plan', 'plan', 'out')))
-        group.same(what, ran, traced)
+        group.same(f'{what}: pushes and pops', case.found['zc'], case.wanted)
+        plainly, names = group.linked_plainly(what, [case.file])
+        traced = plainly.run(('trace', *names))
         group.same(f'{what}: exits', b'exited ' in traced.err, True)
-        folder.remove()
+        for link, folder in (('plain', plainly), ('zc', group.linked_small(what, [case.file]))):
+            folder.write('plan', case.plans[link])
+            group.same(f'{what}, {link}', folder.run(('run', '--plan', 'plan', 'out')), traced)
+            folder.remove()
 
 
 def plan_of_every_commit(rng, commits):
