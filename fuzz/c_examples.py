@@ -2,13 +2,14 @@
 """Compiles the programs in examples/ in many ways, links them, runs and traces them, and compares them with GNU ld's link under
 qemu-riscv32.
 
-    fuzz/c_examples.py [--keep FOLDER] [PROGRAM]
+    fuzz/c_examples.py [--zcmp] [--keep FOLDER] [PROGRAM]
 
 PROGRAM is build/zcld if none is given. It needs GCC and GNU ld for RISC-V, qemu-riscv32, and Clang for its flags. Each program,
 and the one in bench/sizes/ that needs picolibc, if it is installed, is compiled with both compilers, at each level, with hints for
-relaxation and without, without compressed code and with it. Its objects are linked as they are, with a start of the other kind,
-and joined by `ld -r` with what they need of libgcc and without what nothing needs. What is checked is in c_programs.py. The status
-is 1 if something differs, and FOLDER then has the objects and the images.
+relaxation and without, without compressed code and with it, and by Clang 19 for Zca, Zcb and Zcmp too. Its objects are linked as
+they are, with a start of the other kind, and joined by `ld -r` with what they need of libgcc and without what nothing needs. What
+is checked is in c_programs.py. The status is 1 if something differs, and FOLDER then has the objects and the images. With --zcmp
+only what is compiled for Zcmp is checked.
 """
 import argparse
 import collections
@@ -21,7 +22,8 @@ from typing import NamedTuple
 
 sys.path.insert(0, os.path.join(os.path.dirname(os.path.abspath(__file__)), os.pardir, 'scripts'))
 
-from c_programs import BY_CLOCK, COMPRESSED, FIRMWARE, LIBRARIES, PLAIN, Differs, Left, Tools, compared, keep, target_of
+from c_programs import (BY_CLOCK, COMPRESSED, FIRMWARE, LIBRARIES, PLAIN, ZCMP, Differs, Left, Tools, compared, keep,
+                        target_of)
 from zcld_tools import TOP, programs
 from zcld_tools.files import read
 from zcld_tools.programs import Failed
@@ -37,12 +39,17 @@ WAYS = ((AS_THEY_ARE, SEPARATE), (BESIDE, ''), (JOINED, SEPARATE))
 
 
 class Program(NamedTuple):
-    """A program: its name, its sources, the words for the compiler, and its input."""
+    """A program: its name, its sources, and its input."""
 
     name: str
     sources: list
-    words: str = f' -I{FIRMWARE}'
     given: bytes = b''
+
+    def words(self, flags):
+        """The words for the compiler, which tell it where headers are."""
+        if not self.has_library():
+            return f' -I{FIRMWARE}'
+        return ' --specs=picolibc.specs' if flags.startswith('gcc') else f' -isystem {PICOLIBC}/include'
 
     def has_library(self):
         return self.name == LIBRARY
@@ -57,8 +64,8 @@ class Program(NamedTuple):
         target = target_of(flags)
         of_start = flags.replace(target, COMPRESSED if target == PLAIN else PLAIN) if way == BESIDE else flags
         firmware = ['start.s'] if self.has_library() else ['start.s', 'support.c']
-        made = [tools.compiled(of_start + self.words, os.path.join(FIRMWARE, it)) for it in firmware]
-        made += [tools.compiled(flags + self.words, it) for it in self.sources]
+        made = [tools.compiled(of_start + self.words(flags), os.path.join(FIRMWARE, it)) for it in firmware]
+        made += [tools.compiled(flags + self.words(flags), it) for it in self.sources]
         if way == JOINED or self.has_library():
             return [tools.joined(flags, [*made, *self.libraries(target)], '--gc-sections', '-e', '_start')]
         return made
@@ -73,21 +80,34 @@ def listed():
                       given=read(path) if os.path.exists(path) else b'')
     if os.path.isdir(PICOLIBC):
         source = os.path.join(TOP, 'bench', 'sizes', LIBRARY + '.c')
-        yield Program(LIBRARY, [source], ' --specs=picolibc.specs', b'3.5 1e3\n-2.25e-1 7\n')
+        yield Program(LIBRARY, [source], b'3.5 1e3\n-2.25e-1 7\n')
 
 
-def lists(program, compilers):
+def has(compiler, program, target):
+    """Whether a compiler makes a program for a target: GCC not for Zcmp, and Clang what needs picolibc for Zcmp alone."""
+    return target != ZCMP if compiler == 'gcc' else target == ZCMP or not program.has_library()
+
+
+def lists(program, compilers, targets):
     """The flags, and in which way each list's objects are linked."""
-    compilers = [it for it in compilers if it == 'gcc' or not program.has_library()]
-    for compiler, level, target, hints, (way, more) in itertools.product(compilers, LEVELS, (PLAIN, COMPRESSED), HINTS, WAYS):
-        yield ' '.join((compiler, level, target, hints, MORE[compiler], more)), way
+    for compiler, level, target, hints, (way, more) in itertools.product(compilers, LEVELS, targets, HINTS, WAYS):
+        if has(compiler, program, target):
+            yield ' '.join((compiler, level, target, hints, MORE[compiler], more)), way
 
 
-def check(tools, program, counts):
+def outcome(tools, program, flags, way):
+    """What one list comes to."""
+    wanted = None
+    if target_of(flags) == ZCMP:
+        wanted = tools.reference(program.objects(tools, flags.replace(ZCMP, PLAIN), way))
+    return compared(tools, program.objects(tools, flags, way), wanted)
+
+
+def check(tools, program, counts, targets):
     """Checks each list of a program, and counts what they come to. Gives what differs, or none."""
-    for flags, way in lists(program, [name for name, path in tools.compilers.items() if path]):
+    for flags, way in lists(program, [name for name, path in tools.compilers.items() if path], targets):
         try:
-            told = compared(tools, program.objects(tools, flags, way))
+            told = outcome(tools, program, flags, way)
         except Left as why:
             told = f'left out: {why}'
         except (Differs, Failed) as why:
@@ -100,6 +120,7 @@ def check(tools, program, counts):
 def main():
     arguments = argparse.ArgumentParser(description='Compares the programs in examples/ with GNU ld and qemu-riscv32.')
     arguments.add_argument('program', nargs='?', default=programs.BUILT)
+    arguments.add_argument('--zcmp', action='store_true', help='what is compiled for Zcmp alone')
     arguments.add_argument('--keep', default=os.path.join('build', 'fuzz'))
     given = arguments.parse_args()
     counts, begun, wrong = collections.Counter(), time.monotonic(), 0
@@ -107,7 +128,8 @@ def main():
     for program in listed():
         with tempfile.TemporaryDirectory() as folder:
             tools = Tools(programs.built(given.program), folder, program.given)
-            differs = check(tools, program, counts)
+            targets = [ZCMP] * tools.has_zcmp()
+            differs = check(tools, program, counts, targets if given.zcmp else [PLAIN, COMPRESSED, *targets])
             if differs:
                 wrong += 1
                 print(f'WRONG: {program.name}, {differs}; files: {keep(tools, given.keep, f"c-{program.name}")}')

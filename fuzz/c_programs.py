@@ -1,20 +1,21 @@
 #!/usr/bin/env python3
 """Compiles random C programs, links them, runs and traces them, and compares them with GNU ld's link under qemu-riscv32.
 
-    fuzz/c_programs.py [--seed S] [--count N] [--seconds T] [--runs R] [--only CASE] [--flags FLAGS]... [--keep FOLDER]
-                       [PROGRAM]
+    fuzz/c_programs.py [--seed S] [--count N] [--seconds T] [--runs R] [--only CASE] [--zcmp] [--flags FLAGS]...
+                       [--keep FOLDER] [PROGRAM]
 
 PROGRAM is build/zcld if none is given. It needs csmith with its headers (Debian: csmith, libcsmith-dev), GCC and GNU ld for
 RISC-V, qemu-riscv32, and Clang for its flags. A case is fixed by the seed and its number: the program that csmith generates
 from their sum, and one of the lists of flags in turn, or of those that are given, as `gcc -O2` or `clang -Os -mrelax`. Each third
-list is for compressed code. The program is joined with what it needs of libgcc by `ld -r`, and linked with the start of
-examples/firmware and with c_runtime/, which aren't compressed beside programs without compressed code and beside three of seven
-others. With R above 1 it is run so many times in one, each time with its data as at its start: most of csmith's programs make
+list is for compressed code; with --zcmp all are for Zca, Zcb and Zcmp, which needs Clang 19. The program is joined with what it
+needs of libgcc by `ld -r`, and linked with the start of examples/firmware and with c_runtime/, which aren't compressed beside
+programs without compressed code and beside three of seven others. With R above 1 it is run so many times in one, each time with its data as at its start: most of csmith's programs make
 fewer than a hundred thousand steps. Checked are:
 
 - `plain`, `zc` and `trace` refuse the objects alike;
 - the images of both links write what the same objects write that GNU ld links with relaxation and qemu-riscv32 runs, and exit
-  as they do; csmith's programs write a checksum of their global variables;
+  as they do; csmith's programs write a checksum of their global variables. In place of objects for Zcmp qemu-riscv32 runs those
+  of the same program for RV32IM;
 - `trace` writes and ends so too, or is stuck, and then has written the beginning of that.
 
 Of a program that is stuck in `trace` nothing is promised, so it is no failure if an image does something else; but it is
@@ -42,9 +43,10 @@ from zcld_tools.programs import Failed
 
 RUNTIME, FIRMWARE = os.path.join(TOP, 'fuzz', 'c_runtime'), os.path.join(TOP, 'examples', 'firmware')
 CSMITH_HEADERS = os.path.join(os.sep, 'usr', 'include', 'csmith')
-# The targets, without and with compressed code, and those for which GCC's libraries are made.
+# The targets, without and with compressed code and with pushes and pops too, and those for which GCC's libraries are made.
 PLAIN, COMPRESSED, ABI = '-march=rv32im', '-march=rv32imc', '-mabi=ilp32'
-LIBRARIES = {PLAIN: PLAIN, COMPRESSED: '-march=rv32imac'}
+ZCMP = '-march=rv32im_zca_zcb_zcmp'
+LIBRARIES = {PLAIN: PLAIN, COMPRESSED: '-march=rv32imac', ZCMP: PLAIN}
 USUAL = PLAIN, ABI, '-ffreestanding', '-fno-pic', '-w'
 COMPILERS = {'gcc': (tuple(prefix + 'gcc' for prefix in programs.PREFIXES), ()),
              'clang': (('clang-19', 'clang'), ('--target=riscv32-unknown-elf', '-Wno-unused-command-line-argument'))}
@@ -61,7 +63,12 @@ FLAGS = ('gcc -Og', 'clang -O0', f'gcc -Os {COMPRESSED} -fno-section-anchors',
          'gcc -Os -fno-section-anchors -mno-relax -msmall-data-limit=0', 'clang -O3 -mno-relax -ffunction-sections',
          f'gcc -Os {COMPRESSED} -fno-section-anchors -msave-restore',
          'gcc -Os -fno-section-anchors -msave-restore', 'clang -O2 -mno-relax', f'clang -Oz {COMPRESSED} -mno-relax')
-SHARED = 'gcc -Os -fno-tree-loop-distribute-patterns'
+FLAGS_OF_ZCMP = tuple(f'clang {flags} {ZCMP}' for flags in (
+    '-Os', '-Oz -mrelax', '-O2 -mrelax', '-O0', '-O1 -ffunction-sections', '-O3', '-Os -mrelax -msmall-data-limit=8',
+    '-Oz -ffunction-sections -fdata-sections', '-O2 -mno-relax -mcmodel=medany', '-O1 -mrelax -fno-jump-tables', '-O0 -mrelax',
+    '-O3 -mrelax -funroll-loops'))
+SHARED = {PLAIN: f'gcc -Os -fno-tree-loop-distribute-patterns {PLAIN}',
+          COMPRESSED: f'gcc -Os -fno-tree-loop-distribute-patterns {COMPRESSED}', ZCMP: f'clang -Os {ZCMP}'}
 STEPS = 50_000_000
 # From so many steps on a program counts as a long one.
 MANY_STEPS = 1_000_000
@@ -130,20 +137,26 @@ class Tools:
     def call(self, *words):
         return programs.run([self.program, *words], self.given)
 
+    def has_zcmp(self):
+        """Whether Clang compiles for Zcmp."""
+        words = ZCMP, '-c', '-x', 'c', os.devnull, '-o', os.devnull
+        clang = self.compilers['clang']
+        return clang is not None and programs.run([clang, *COMPILERS['clang'][1], *self.usual, *words]).status == 0
+
 
 class Generator(Tools):
     """The same with csmith, and the objects that all programs are linked with."""
 
     usual = (*USUAL, '-isystem', RUNTIME, '-isystem', CSMITH_HEADERS)
 
-    def __init__(self, program, folder, runs=1):
+    def __init__(self, program, folder, runs=1, targets=(PLAIN, COMPRESSED)):
         super().__init__(program, folder)
         if programs.found('csmith') is None:
             sys.exit('it needs csmith')
         self.more, again = ('', []) if runs == 1 else (' -Dmain=program', [os.path.join(RUNTIME, 'again.c')])
         sources = *again, *(os.path.join(FIRMWARE, name) for name in ('start.s', 'support.c')), os.path.join(RUNTIME, 'runtime.c')
-        self.shared = {target: [self.compiled(f'{SHARED} {target} -DRUNS={runs}', source, target) for source in sources]
-                       for target in LIBRARIES}
+        self.shared = {target: [self.compiled(f'{SHARED[target]} -DRUNS={runs}', source, target) for source in sources]
+                       for target in targets}
 
     def made(self, number, flags):
         """The object of the program with this number, joined with what it needs of libgcc."""
@@ -157,7 +170,7 @@ class Generator(Tools):
 
 def target_of(flags):
     """The target of a compiler's flags."""
-    return COMPRESSED if COMPRESSED in flags.split() else PLAIN
+    return next((target for target in (COMPRESSED, ZCMP) if target in flags.split()), PLAIN)
 
 
 def last_line(ended):
@@ -204,12 +217,14 @@ def is_long(tools, objects):
 
 def case(tools, number, flags):
     """What one program comes to."""
-    target = PLAIN if number % 7 < 3 else target_of(flags)
-    return compared(tools, [*tools.shared[target], tools.made(number, flags)])
+    target, wanted = PLAIN if number % 7 < 3 else target_of(flags), None
+    if target_of(flags) == ZCMP:
+        wanted = tools.reference([*tools.shared[PLAIN], tools.made(number, flags.replace(ZCMP, PLAIN))])
+    return compared(tools, [*tools.shared[target], tools.made(number, flags)], wanted)
 
 
-def compared(tools, objects):
-    """What objects come to."""
+def compared(tools, objects, wanted=None):
+    """What objects come to. They must do what is wanted, or what they do by GNU ld and qemu-riscv32."""
     line = refusal(tools, objects)
     if line:
         ended = tools.call('trace', *objects)
@@ -218,7 +233,7 @@ def compared(tools, objects):
         why = re.sub(r'^refused \d+ \d+ ', '', line.decode().strip())
         anchors = ', with section anchors' if 'BadSymbol' in why and b'.LANCHOR' in b''.join(map(read, objects)) else ''
         return f'refused: {why}{anchors}'
-    wanted = tools.reference(objects)
+    wanted = wanted or tools.reference(objects)
     stuck, differ = traced(tools, objects, wanted), []
     for name in ('plain', 'zc'):
         try:
@@ -256,14 +271,15 @@ def main():
     arguments.add_argument('--seconds', type=float, default=3600)
     arguments.add_argument('--runs', type=int, default=1, help='how many times each program is run in one')
     arguments.add_argument('--only', type=int, help='one case, by its number')
+    arguments.add_argument('--zcmp', action='store_true', help='the lists for Zcmp')
     arguments.add_argument('--flags', action='append', help='a compiler and its flags, in place of the usual lists')
     arguments.add_argument('--keep', default=os.path.join('build', 'fuzz'))
     given = arguments.parse_args()
     counts, alike, begun, wrong = collections.Counter(), {}, time.monotonic(), 0
     programs.TIME_OUT = BY_CLOCK
     with tempfile.TemporaryDirectory() as folder:
-        tools = Generator(programs.built(given.program), folder, given.runs)
-        lists = given.flags or [flags for flags in FLAGS if tools.compilers[flags.split()[0]]]
+        tools = Generator(programs.built(given.program), folder, given.runs, SHARED if given.zcmp else (PLAIN, COMPRESSED))
+        lists = given.flags or [flags for flags in (FLAGS_OF_ZCMP if given.zcmp else FLAGS) if tools.compilers[flags.split()[0]]]
         for number in range(given.count) if given.only is None else (given.only,):
             if time.monotonic() - begun > given.seconds:
                 break

@@ -8,8 +8,9 @@ from checks.harness import runs_of
 
 EXAMPLES = os.path.join(TOP, 'examples')
 COMPILERS = ('gcc', 'clang')
-# The folders of a program's objects: of each compiler, and of each with compressed code.
-FOLDERS = (*COMPILERS, 'gcc-compressed', 'clang-compressed')
+# The folders of a program's objects: of each compiler, of each with compressed code, and of Clang for Zcmp.
+ZCMP = 'clang-zcmp'
+FOLDERS = (*COMPILERS, 'gcc-compressed', 'clang-compressed', ZCMP)
 STATUSES = {'monitor': 2, 'events': 0, 'numbers': 42}
 
 
@@ -29,9 +30,9 @@ def input_of(program):
 
 
 def c_programs(group):
-    """programs that C compilers made, with compressed code, without and in part: the same output and status as objects and as images
-    of both links"""
-    mixed = [(f'{compiler}-compressed', compiler) for compiler in COMPILERS]
+    """programs that C compilers made, with compressed code, without and in part, and for Zcmp: the same output and status as objects
+    and as images of both links"""
+    mixed = [*((f'{compiler}-compressed', compiler) for compiler in COMPILERS), (ZCMP, 'clang')]
     for program, status in STATUSES.items():
         given = input_of(program)
         for folder, firmware in (*zip(FOLDERS, FOLDERS), *mixed, *(it[::-1] for it in mixed)):

@@ -13,7 +13,7 @@ from zcld_tools.images import STACK_HIGH, text_of
 from checks.c_programs import FOLDERS, STATUSES, input_of, objects_of, read
 
 # More commits than any program below examples/ makes.
-MOST = 130_000
+MOST = 170_000
 
 
 def check_groups(group, what, made, forms):

@@ -172,10 +172,12 @@ class Source:
     def word(self, offset=0):
         return struct.unpack_from('<I', self.section.content, self.value + offset)[0]
 
+    def first_half(self):
+        return struct.unpack_from('<H', self.section.content, self.value)[0]
+
     def first_word(self):
-        """The word of the first instruction, or the one that its halfword stands for."""
-        half, = struct.unpack_from('<H', self.section.content, self.value)
-        return self.word() if half & 3 == 3 else word_of(half)
+        """The word of the first instruction, or the one that its halfword stands for, or none."""
+        return self.word() if self.first_half() & 3 == 3 else word_of(self.first_half())
 
 
 def sources(files):
@@ -196,10 +198,12 @@ def contents(image):
 
 def begins_with(text, at, source):
     """Whether the instruction at an address is the first one of a function, as it is or in its short form, or a push that lowers
-    sp as that does or by a part. Of a branch, and of what is under a relocation, the operation and the registers are looked
+    sp as that does or by a part, or the function's own push. Of a branch, and of what is under a relocation, the operation and the registers are looked
     at."""
     found, word = int.from_bytes(text[at - TEXT_AT:][:4], 'little'), source.first_word()
     frame = frame_of(found & 0xFFFF)
+    if word is None:
+        return found & 0xFFFF == source.first_half()
     if frame and word & 0xFFFFF == addi(SP, SP):
         return frame.form == PUSH and frame.size <= -low_part(word)
     if is_branch(word):
