@@ -4,10 +4,10 @@
     bench/sizes.py [--zlib FOLDER] [PROGRAM]        PROGRAM is build/zcld if none is given
 
 The programs are those in examples/, and two larger ones in bench/sizes/: `library`, with what it needs of picolibc and libgcc,
-which Debian has for RV32IM and for RV32IMAC; and `pack`, over the sources of zlib in FOLDER, as `apt-get source zlib` gives
-them. Each is compiled with -Os by GCC and by Clang, with hints for relaxation and each function in a section of its own: for
+which Debian has for RV32IM and for RV32IMAC (objects for Zcmp get that for RV32IMAC); and `pack`, over the sources of zlib in
+FOLDER, as `apt-get source zlib` gives them. Each is compiled with -Os by GCC and by Clang, with hints for relaxation and each function in a section of its own: for
 RV32IM, and with compressed code (C, Zcb, Zcmp) as far as the compiler has it. `zcld` and the others link the same objects of
-RV32IM, and the same ones with C; and the others link those with more too. GNU ld and LLD relax, but where a column says
+RV32IM, the same ones with C, and the same ones with C, Zcb and Zcmp. GNU ld and LLD relax, but where a column says
 otherwise. With `gc` they leave out the sections that nothing needs; for `zcld` GNU ld does that before, in a link that keeps
 relocations (`ld -r --gc-sections`). GNU ld and LLD put constants behind the text, and in the columns of far constants where
 `zcld` puts them. In those of GNU ld without gp nothing is called `__global_pointer$`, so that it doesn't reach data by gp, and
@@ -15,7 +15,7 @@ all data, constants too, lie where `zcld` puts them.
 
 A figure is the bytes of all sections of code. What isn't installed is left out, and what a linker says of objects that it
 doesn't take is printed. Each image that `zcld` makes is run, and must do what its objects do. If both come to an instruction
-that their machines don't know, as of picolibc for RV32IMAC, that is printed.
+that their machines don't know, as of picolibc for RV32IMAC, or `trace` is stuck in `library`, that is printed.
 """
 import os
 import sys
@@ -49,8 +49,10 @@ LINKERS, WITHOUT_GP = {'ld': programs.GNU_LINKERS, 'LLD': ('ld.lld-19', 'ld.lld'
 MEMORY = (f'-Ttext={TEXT_AT:#x}', f'-Tdata={DATA_AT:#x}', f'--defsym=__stack_top={STACK_HIGH:#x}')
 WORDS = {'ld': (), 'LLD': ('--relax-gp',)}
 ZLIB = [name + '.c' for name in ('adler32', 'crc32', 'deflate', 'inffast', 'inflate', 'inftrees', 'trees', 'zutil')]
-# Where Debian has picolibc, and for which targets GCC's libraries are made.
-PICOLIBC, MULTILIBS = '/usr/lib/picolibc/riscv64-unknown-elf/lib', {PLAIN: 'rv32im', COMPRESSED: 'rv32imac'}
+# Where Debian has picolibc, for which of its targets libraries are made, and what each compiler is told to find its headers.
+PICOLIBC = '/usr/lib/picolibc/riscv64-unknown-elf'
+MULTILIBS = {PLAIN: 'rv32im', COMPRESSED: 'rv32imac', ZCMP: 'rv32imac'}
+HEADERS = {'GCC': ('--specs=picolibc.specs',), 'Clang': (f'-isystem{PICOLIBC}/include',)}
 INPUT = b''.join(b'%d.%de%d\n' % (k * 7919 % 211, k, k % 5 - 2) for k in range(1, 20))
 
 
@@ -71,7 +73,7 @@ def listed(zlib):
         sources = sorted(os.path.join(folder, it) for it in os.listdir(folder) if it.endswith('.c'))
         path = os.path.join(folder, 'input')
         yield Listed(name, sources, (f'-I{FIRMWARE}',), given=read(path) if os.path.exists(path) else b'')
-    yield Listed('library', [os.path.join(LARGER, 'library.c')], ('--specs=picolibc.specs',), True, INPUT)
+    yield Listed('library', [os.path.join(LARGER, 'library.c')], (), True, INPUT)
     if zlib:
         sources = [os.path.join(LARGER, 'pack.c'), *(os.path.join(zlib, it) for it in ZLIB)]
         yield Listed('pack', sources, ('-DZ_SOLO', f'-I{zlib}'), given=read(os.path.abspath(__file__)))
@@ -97,7 +99,8 @@ class Compiler:
         support = [] if program.has_library else [os.path.join(FIRMWARE, 'support.c')]
         for source in (os.path.join(FIRMWARE, 'start.s'), *support, *program.sources):
             paths.append(os.path.join(folder, os.path.basename(source)[:-2] + '.o'))
-            told([self.command, *self.words, *USUAL, f'-march={target}', *program.words, '-c', source, '-o', paths[-1]])
+            words = HEADERS[self.name] if program.has_library else program.words
+            told([self.command, *self.words, *USUAL, f'-march={target}', *words, '-c', source, '-o', paths[-1]])
         if program.has_library:
             merge(os.path.join(folder, 'merged.o'), *paths, *self.libraries(target))
             return [os.path.join(folder, 'merged.o')]
@@ -105,13 +108,15 @@ class Compiler:
 
     def libraries(self, target):
         """The archives of picolibc and of GCC."""
-        of_gcc = told([self.command, f'-march={MULTILIBS[target]}', '-mabi=ilp32', '-print-libgcc-file-name']).strip()
-        files = [os.path.join(PICOLIBC, MULTILIBS[target], 'ilp32', name) for name in ('libc.a', 'libm.a')]
+        gcc = programs.found(*COMPILERS['GCC'][0])
+        of_gcc = told([gcc, f'-march={MULTILIBS[target]}', '-mabi=ilp32', '-print-libgcc-file-name']).strip()
+        files = [os.path.join(PICOLIBC, 'lib', MULTILIBS[target], 'ilp32', name) for name in ('libc.a', 'libm.a')]
         return ['--start-group', *files, of_gcc, '--end-group']
 
     def has(self, program, target):
-        """Whether it can make these objects: picolibc is installed for GCC, and without Zcb."""
-        if program.has_library and (self.name != 'GCC' or target not in MULTILIBS or not os.path.isdir(PICOLIBC)):
+        """Whether it can make these objects: picolibc and GCC's library are installed for a target that has them."""
+        is_there = os.path.isdir(PICOLIBC) and programs.found(*COMPILERS['GCC'][0])
+        if program.has_library and (target not in MULTILIBS or not is_there):
             return False
         words = [self.command, *self.words, f'-march={target}', '-mabi=ilp32', '-c', '-x', 'c', os.devnull, '-o', os.devnull]
         return programs.run(words).status == 0
@@ -174,8 +179,8 @@ class Links:
                        for words, files in (('run', [out]), ('trace', paths)))
         if ran != traced or not ran.err.startswith(b'exited '):
             ended = f'{self.program.name}, {link}: run ends with {ran}, and trace with {traced}'
-            is_unknown = b' Illegal ' in ran.err and traced.err.endswith(b' NoInstruction\n') and ran.out == traced.out
-            if not (self.program.has_library and is_unknown):
+            is_stuck = traced.err.startswith(b'stuck ') and ran.out.startswith(traced.out)
+            if not (self.program.has_library and is_stuck):
                 raise Failed(ended)
             if ended not in self.said:
                 self.said.append(ended)
@@ -206,7 +211,12 @@ TODAY = (('`zc`', 'zc', PLAIN), ('C: `zc`', 'zc', COMPRESSED), ('gc, `zc`', 'zc'
          ('gc, C: `zc`', 'zc', COMPRESSED, GC), ('gc, C: GNU ld', 'ld', COMPRESSED, GC),
          ('gc, C: the same, far constants', 'ld', COMPRESSED, GC, *FAR),
          ('gc, C: LLD', 'LLD', COMPRESSED, GC), ('gc, Zcb: LLD', 'LLD', ZCB, GC), ('gc, Zcb and Zcmp: LLD', 'LLD', ZCMP, GC))
-TABLES = SAME, SHORT, TODAY
+NO_GP = '--no-relax-gp'
+FRAMES = (('`zc`, RV32IM', 'zc', PLAIN), ('`zc`, C', 'zc', COMPRESSED), ('`zc`, Zcmp', 'zc', ZCMP), ('GNU ld, C', 'ld', COMPRESSED),
+          ('LLD without gp, Zcmp', 'LLD', ZCMP, NO_GP), ('LLD, Zcmp', 'LLD', ZCMP), ('gc, `zc`, RV32IM', 'zc', PLAIN, GC),
+          ('gc, `zc`, C', 'zc', COMPRESSED, GC), ('gc, `zc`, Zcmp', 'zc', ZCMP, GC), ('gc, GNU ld, C', 'ld', COMPRESSED, GC),
+          ('gc, LLD without gp, Zcmp', 'LLD', ZCMP, GC, NO_GP), ('gc, LLD, Zcmp', 'LLD', ZCMP, GC))
+TABLES = SAME, SHORT, TODAY, FRAMES
 
 
 def measured(zcld, zlib, room):
@@ -219,7 +229,7 @@ def measured(zcld, zlib, room):
                 folder = os.path.join(room, f'{compiler.name}-{program.name}')
                 objects = {it: compiler.compiled(program, it, os.path.join(folder, it)) for it in targets}
                 links = Links(program, zcld, folder)
-                for rows, columns in zip(tables, TABLES):
+                for rows, columns in zip(tables, TABLES if ZCMP in targets else TABLES[:-1]):
                     found = [links.figure(objects.get(target), linker, *words) for _, linker, target, *words in columns]
                     rows.append([program.name, compiler.name, *(f'{it:,}' if it else '' for it in found)])
                 said += links.said

@@ -9,8 +9,8 @@ RISC-V, qemu-riscv32, and Clang for its flags. A case is fixed by the seed and i
 from their sum, and one of the lists of flags in turn, or of those that are given, as `gcc -O2` or `clang -Os -mrelax`. Each third
 list is for compressed code; with --zcmp all are for Zca, Zcb and Zcmp, which needs Clang 19. The program is joined with what it
 needs of libgcc by `ld -r`, and linked with the start of examples/firmware and with c_runtime/, which aren't compressed beside
-programs without compressed code and beside three of seven others. With R above 1 it is run so many times in one, each time with its data as at its start: most of csmith's programs make
-fewer than a hundred thousand steps. Checked are:
+programs without compressed code and beside three of seven others. With R above 1 it is run so many times in one, each time with
+its data as at its start: most of csmith's programs make fewer than a hundred thousand steps. Checked are:
 
 - `plain`, `zc` and `trace` refuse the objects alike;
 - the images of both links write what the same objects write that GNU ld links with relaxation and qemu-riscv32 runs, and exit

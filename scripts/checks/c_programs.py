@@ -30,8 +30,8 @@ def input_of(program):
 
 
 def c_programs(group):
-    """programs that C compilers made, with compressed code, without and in part, and for Zcmp: the same output and status as objects
-    and as images of both links"""
+    """programs that C compilers made, with compressed code, without and in part, and for Zcmp: the same output and status as
+    objects and as images of both links"""
     mixed = [*((f'{compiler}-compressed', compiler) for compiler in COMPILERS), (ZCMP, 'clang')]
     for program, status in STATUSES.items():
         given = input_of(program)

@@ -198,8 +198,8 @@ def contents(image):
 
 def begins_with(text, at, source):
     """Whether the instruction at an address is the first one of a function, as it is or in its short form, or a push that lowers
-    sp as that does or by a part, or the function's own push. Of a branch, and of what is under a relocation, the operation and the registers are looked
-    at."""
+    sp as that does or by a part, or the function's own push. Of a branch, and of what is under a relocation, the operation and
+    the registers are looked at."""
     found, word = int.from_bytes(text[at - TEXT_AT:][:4], 'little'), source.first_word()
     frame = frame_of(found & 0xFFFF)
     if word is None:
