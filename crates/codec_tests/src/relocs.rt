@@ -4,7 +4,7 @@
 use crate::rows::{cut, expect, word};
 use psabi_reloc::kind::RelocKind;
 use psabi_reloc::parts::{hi20, lo12};
-use psabi_reloc::put::{put_call, put_hi20, put_lo12_i, put_lo12_s};
+use psabi_reloc::put::{put_branch, put_call, put_hi20, put_jal, put_lo12_i, put_lo12_s};
 use psabi_reloc::reaches::{branch_reaches, jal_reaches, short_branch_reaches, short_jump_reaches};
 use rv_decode::decode::decode;
 use std::alloc::Global;
@@ -198,6 +198,52 @@ fn words_get_the_parts_of_an_address(rt: HostRuntime) -> Result<(), Fail> {
     expect(&rt, "put_hi20", UPPER)?;
     expect(&rt, "put_lo12_i", SUMS)?;
     expect(&rt, "put_lo12_s", STORES)
+}
+
+/// The word of a branch with a distance in it.
+pub fn branch_with(alloc: Global, given: &str) -> Result<String, Fail> {
+    let (digits, distance) = cut(given);
+    let (old, distance) = (word(digits)?, distance.parse::<i32>()?);
+    if !branch_reaches(distance) {
+        return Err("is out of range".into());
+    }
+    Ok(format!(in alloc; "{:08X}", put_branch(old, distance))?)
+}
+
+/// The word of a `jal` with a distance in it.
+pub fn jal_with(alloc: Global, given: &str) -> Result<String, Fail> {
+    let (digits, distance) = cut(given);
+    let (old, distance) = (word(digits)?, distance.parse::<i32>()?);
+    if !jal_reaches(distance) {
+        return Err("is out of range".into());
+    }
+    Ok(format!(in alloc; "{:08X}", put_jal(old, distance))?)
+}
+
+// `beq a0, a1`, `bgeu t6, zero` and `bltu s0, s1`.
+const BRANCHES: &str = "00B50063 8 = 00B50463
+00B50463 4094 = 7EB50FE3
+7EB50FE3 -4096 = 80B50063
+80B50063 -2 = FEB50FE3
+FE0FFFE3 2048 = 000FF0E3
+000FF0E3 -2050 = FE0FFF63
+00946063 -2732 = D4946A63
+D4946A63 2730 = 2A9465E3";
+
+// `jal ra`, `jal zero` and `jal t6`.
+const JUMPS: &str = "000000EF 4 = 004000EF
+004000EF 1048574 = 7FFFF0EF
+7FFFF0EF -1048576 = 800000EF
+800000EF -2 = FFFFF0EF
+0000006F 2048 = 0010006F
+0010006F -2050 = FFEFF06F
+FFFFFFEF 699050 = 2ABAAFEF
+2ABAAFEF -699052 = D5455FEF";
+
+#[test]
+fn branches_and_jumps_get_their_distance(rt: HostRuntime) -> Result<(), Fail> {
+    expect(&rt, "put_branch", BRANCHES)?;
+    expect(&rt, "put_jal", JUMPS)
 }
 
 // `auipc t1` with `jalr ra, (t1)`, and `auipc t0` with `jalr zero, (t0)`.

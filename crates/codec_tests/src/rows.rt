@@ -6,7 +6,7 @@
 use crate::base::map_of;
 use crate::forms::long_form;
 use crate::halfwords::{halfword, spelled};
-use crate::relocs::{call_with, fitting, kind, parts, put, reaching};
+use crate::relocs::{branch_with, call_with, fitting, jal_with, kind, parts, put, reaching};
 use crate::words::{instr, normal_form};
 use crate::zcmp::short;
 use std::alloc::Global;
@@ -36,6 +36,8 @@ fn answer(alloc: Global, call: &str, given: &str) -> Result<String, Fail> {
         "fits" => fitting(alloc, given),
         "parts" => parts(alloc, given),
         "reaches" => reaching(alloc, given),
+        "put_branch" => branch_with(alloc, given),
+        "put_jal" => jal_with(alloc, given),
         "put_call" => call_with(alloc, given),
         "map" => map_of(alloc, given),
         _ => put(alloc, call, given),

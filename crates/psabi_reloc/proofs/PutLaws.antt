@@ -2,14 +2,15 @@
 -- the word is of the format, since what it spells passes the test of it; the bits that stay are the fields of the format that
 -- tell its operation and its registers; so the other word is of the same format, with these fields and its own immediate.
 use Rattle.std.proofs.Common.{◌≡◌, ℕ, ℤ, pos, Bool, true, false, Some, refl, sym, ap, ◌∙◌, arith}
-use Rattle.std.specs.Prelude.{◌||◌, Option}
-use Rattle.psabi_reloc.specs.Kinds.{is_auipc, is_lui, is_store, is_sum}
-use Rattle.psabi_reloc.specs.Patched.{with_imm, with_upper}
+use Rattle.std.specs.Prelude.{◌||◌, None, Option}
+use Rattle.psabi_reloc.specs.Kinds.{fits, is_auipc, is_lui, is_store, is_sum}
+use Rattle.psabi_reloc.specs.declared.kind.RelocKind.TheVariants.{Branch as BranchKind, Jal as JalKind}
+use Rattle.psabi_reloc.specs.Patched.{with_distance, with_imm, with_upper}
 use Rattle.rv_decode.specs.declared.instr.Instr.{Instr}
-use Rattle.rv_decode.specs.declared.instr.Instr.TheVariants.{Upper, Jalr, Load, Store, WithImm}
+use Rattle.rv_decode.specs.declared.instr.Instr.TheVariants.{Upper, Jal, Jalr, Branch, Load, Store, WithImm}
 use Rattle.rv_decode.specs.Bits.{field}
-use Rattle.rv_decode.specs.Decode.{decoded, funct_of, imm_ops, load_ops, row_of, shift_ops, store_ops}
-use Rattle.rv_decode.specs.Formats.{funct3_of, imm_i_of, imm_s_of, imm_u_of, opcode_of, rd_of, rs1_of, rs2_of}
+use Rattle.rv_decode.specs.Decode.{branch_ops, decoded, funct_of, imm_ops, load_ops, row_of, shift_ops, store_ops}
+use Rattle.rv_decode.specs.Formats.{funct3_of, imm_b_of, imm_i_of, imm_j_of, imm_s_of, imm_u_of, opcode_of, rd_of, rs1_of, rs2_of}
 use Rattle.rv_decode.proofs.DecodeLaws.{Format, OfBranch, OfCsrrw, OfEbreak, OfEcall, OfFence, OfImm, OfJal, OfJalr, OfLoad, OfReg, OfShift, OfStore, OfUpper, decoded-format, format-decoded}
 use Rattle.rv_decode.proofs.RowLaws.{row_found}
 
@@ -139,6 +140,68 @@ store_put word result k opcode middle part i h passes = by_format (decoded-forma
     by_format (OfJalr o f is) = no _ is refl
     by_format (OfBranch op o row is) = no _ is refl
     by_format (OfLoad op o row is) = no _ is refl
+    by_format (OfImm op o row is) = no _ is refl
+    by_format (OfShift op o row is) = no _ is refl
+    by_format (OfReg op o row is) = no _ is refl
+    by_format (OfFence o f is) = no _ is refl
+    by_format (OfEcall w is) = no _ is refl
+    by_format (OfEbreak w is) = no _ is refl
+    by_format (OfCsrrw o f csr is) = no _ is refl
+
+-- ---- the same bits with a distance in them: B
+
+-- is a branch, or `jal`
+abbrev is_branch : Option Instr → Bool
+is_branch i = fits BranchKind i None
+
+abbrev is_jal : Option Instr → Bool
+is_jal i = fits JalKind i None
+
+pub branch_put :
+    (word result : ℕ) (k : ℤ) → field result 0 7 ≡ field word 0 7 → field result 12 13 ≡ field word 12 13 → imm_b_of result ≡ k
+    → (i : Instr) → decoded word ≡ Some i → is_branch (Some i) ≡ true → decoded result ≡ Some (with_distance i k)
+branch_put word result k opcode middle part i h passes = by_format (decoded-format word i h)
+  where
+    no : (j : Instr) → i ≡ j → is_branch (Some j) ≡ false → decoded result ≡ Some (with_distance i k)
+    no j same fails = absurd (other is_branch i j passes same fails)
+
+    by_format : Format word i → decoded result ≡ Some (with_distance i k)
+    by_format (OfBranch op o row is) =
+        let funct3 = funct3_same word result middle in
+        let rs1 = rs1_same word result middle in
+        let rs2 = rs2_same word result middle in
+        format-decoded result (Branch op (rs1_of word) (rs2_of word) k) (OfBranch op (opcode ∙ o) (ap (row_of branch_ops) funct3 ∙ row) (λ p. Branch op (sym rs1 p) (sym rs2 p) (sym part p)))
+        ∙ ap (λ j. Some (with_distance j k)) (sym is)
+    by_format (OfUpper op o is) = no _ is refl
+    by_format (OfJal o is) = no _ is refl
+    by_format (OfJalr o f is) = no _ is refl
+    by_format (OfLoad op o row is) = no _ is refl
+    by_format (OfStore op o row is) = no _ is refl
+    by_format (OfImm op o row is) = no _ is refl
+    by_format (OfShift op o row is) = no _ is refl
+    by_format (OfReg op o row is) = no _ is refl
+    by_format (OfFence o f is) = no _ is refl
+    by_format (OfEcall w is) = no _ is refl
+    by_format (OfEbreak w is) = no _ is refl
+    by_format (OfCsrrw o f csr is) = no _ is refl
+
+-- ---- the upper twenty bits with a distance in them: J
+
+pub jal_put : (word result : ℕ) (k : ℤ) → field result 0 12 ≡ field word 0 12 → imm_j_of result ≡ k → (i : Instr) → decoded word ≡ Some i → is_jal (Some i) ≡ true → decoded result ≡ Some (with_distance i k)
+jal_put word result k rest part i h passes = by_format (decoded-format word i h)
+  where
+    no : (j : Instr) → i ≡ j → is_jal (Some j) ≡ false → decoded result ≡ Some (with_distance i k)
+    no j same fails = absurd (other is_jal i j passes same fails)
+
+    by_format : Format word i → decoded result ≡ Some (with_distance i k)
+    by_format (OfJal o is) =
+        format-decoded result (Jal (rd_of word) k) (OfJal (opcode_stays word result rest ∙ o) (λ p. Jal (sym (rd_stays word result rest) p) (sym part p)))
+        ∙ ap (λ j. Some (with_distance j k)) (sym is)
+    by_format (OfUpper op o is) = no _ is refl
+    by_format (OfJalr o f is) = no _ is refl
+    by_format (OfBranch op o row is) = no _ is refl
+    by_format (OfLoad op o row is) = no _ is refl
+    by_format (OfStore op o row is) = no _ is refl
     by_format (OfImm op o row is) = no _ is refl
     by_format (OfShift op o row is) = no _ is refl
     by_format (OfReg op o row is) = no _ is refl

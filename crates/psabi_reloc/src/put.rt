@@ -1,12 +1,14 @@
 // Immediates that are put into words of code.
 
-ghost use Rattle.std.specs.Prelude.{◌≡◌, ◌<◌, ◌^◌, ◌||◌, true, Some, slice_index, ℕ, ℤ};
-ghost use Rattle.psabi_reloc.specs.Kinds.{is_auipc, is_lui, is_store, is_sum};
+ghost use Rattle.std.specs.Prelude.{◌≡◌, ◌<◌, ◌^◌, ◌||◌, true, None, Some, slice_index, ℕ, ℤ};
+ghost use Rattle.psabi_reloc.specs.Kinds.{fits, is_auipc, is_lui, is_store, is_sum};
+ghost use Rattle.psabi_reloc.specs.declared.kind.RelocKind.TheVariants.{Branch as BranchKind, Jal as JalKind};
 ghost use Rattle.psabi_reloc.specs.Parts.{hi20_of, lo12_of};
-ghost use Rattle.psabi_reloc.specs.Patched.{with_imm, with_upper};
+ghost use Rattle.psabi_reloc.specs.Patched.{with_distance, with_imm, with_upper};
+ghost use Rattle.psabi_reloc.specs.Reaches.{branch_reach, jal_reach};
 ghost use Rattle.rv_decode.specs.Bits.{as_word, field};
 ghost use Rattle.rv_decode.specs.Decode.{decoded};
-ghost use Rattle.rv_decode.specs.Formats.{imm_i_of, imm_s_of, imm_u_of};
+ghost use Rattle.rv_decode.specs.Formats.{imm_b_of, imm_i_of, imm_j_of, imm_s_of, imm_u_of};
 ghost use Rattle.rv_decode.specs.declared.instr.Instr.{Instr};
 ghost use Rattle.rv_decode.specs.declared.instr.Instr.TheVariants.{Upper, Jalr};
 ghost use Rattle.rv_decode.specs.declared.instr.UpperOp.TheVariants.{Auipc};
@@ -43,6 +45,34 @@ pub fn put_lo12_s(word: u32, x: u32) -> u32
         → decoded result ≡ Some (with_imm i (lo12_of x)) }
 {
     with_seven_and_five(word, field_at(x, 5, 7), field_at(x, 0, 5))
+}
+
+/// The word with a distance that a branch reaches, in place of the distance of a branch.
+pub fn put_branch(word: u32, distance: i32) -> u32
+    requires { branch_reach distance ≡ true }
+    ensures part { imm_b_of result ≡ distance }
+    ensures opcode { field result 0 7 ≡ field word 0 7 }
+    ensures middle { field result 12 13 ≡ field word 12 13 }
+    ensures decodes { (i : Instr) → decoded word ≡ Some i → fits BranchKind (Some i) None ≡ true
+        → decoded result ≡ Some (with_distance i distance) }
+{
+    let x = distance.cast_unsigned();
+    let seven = field_at(x, 12, 1) << 6 | field_at(x, 5, 6);
+    let five = field_at(x, 1, 4) << 1 | field_at(x, 11, 1);
+    with_seven_and_five(word, seven, five)
+}
+
+/// The word with a distance that `jal` reaches, in place of the distance of a `jal`.
+pub fn put_jal(word: u32, distance: i32) -> u32
+    requires { jal_reach distance ≡ true }
+    ensures part { imm_j_of result ≡ distance }
+    ensures rest { field result 0 12 ≡ field word 0 12 }
+    ensures decodes { (i : Instr) → decoded word ≡ Some i → fits JalKind (Some i) None ≡ true
+        → decoded result ≡ Some (with_distance i distance) }
+{
+    let x = distance.cast_unsigned();
+    let ten = field_at(x, 1, 10) << 9 | (field_at(x, 11, 1) << 8 | field_at(x, 12, 8));
+    with_upper_twenty(word, field_at(x, 20, 1) << 19 | ten)
 }
 
 /// The `auipc` and `jalr` of a call with this distance.
