@@ -20,6 +20,7 @@ pub mod ResolvedLaws
 pub mod RoomLaws
 pub mod SizeLaws
 pub mod SoundLaws
+pub mod StartItems
 pub mod StartLaws
 pub mod StrayLaws
 pub mod TableLaws

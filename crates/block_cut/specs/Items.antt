@@ -73,6 +73,10 @@ after_items objects (suc n) q = after_items objects n (next_at objects q)
 abbrev pub is_start_at : List ObjectParts → Place → Bool
 is_start_at objects q = option_map_or (λ s. starts_on s q.offset) (code_at objects q) false
 
+-- the place after the item that starts at a place; none if none starts there
+abbrev pub place_after : List ObjectParts → Place → Option Place
+place_after objects q = if is_start_at objects q then Some (next_at objects q) else None
+
 -- whether a place is the end of a section of code
 abbrev pub is_end_at : List ObjectParts → Place → Bool
 is_end_at objects q = option_map_or (λ s. q.offset == length s.bytes) (code_at objects q) false

@@ -7,7 +7,7 @@ ghost use Rattle.psabi_sym.specs.LinkFault.{IsRefusal};
 ghost use Rattle.psabi_sym.specs.Indexed.{all_sections, IndexedSection};
 ghost use Rattle.block_cut.specs.DataWords.{data_words};
 ghost use Rattle.block_cut.specs.Faults.{first_fault, relocs_fault};
-ghost use Rattle.block_cut.specs.Items.{entry_in, entry_of, is_target_at, item_at, start_only};
+ghost use Rattle.block_cut.specs.Items.{entry_in, entry_of, is_target_at, item_at, place_after, start_only};
 ghost use Rattle.block_cut.specs.Leaders.{is_leader_at};
 ghost use Rattle.block_cut.specs.Invariants.CodeTables.{AreCodeTables};
 ghost use Rattle.block_cut.specs.Invariants.SectionText.{numbers_in};
@@ -108,6 +108,15 @@ impl Cut {
         self.tables.item(&self.objects, p)
     }
 
+    /// The place after the item at a place, if one starts there.
+    pub fn next(&self, p: Place) -> Option<Place>
+        ensures { result ≡ place_after (parsed self.now).objects p }
+    {
+        let _item = self.item(p)?;
+        let size = self.at(p)?.size;
+        Some(moved(p, size))
+    }
+
     /// The address in the plain layout of a place where an item starts or a section of code ends.
     pub fn plain_address(&self, p: Place) -> Option<u32>
         ensures { result ≡ plain_address (parsed self.now) p }
@@ -180,6 +189,17 @@ impl Cut {
             moves: 0,
             table: 0,
         }
+    }
+}
+
+// The place so many bytes on in its section.
+fn moved(p: Place, size: u8) -> Place
+    requires { p.offset + 256 < 2 ^ 32 }
+    ensures { result ≡ record p { offset = p.offset + size } }
+{
+    Place {
+        offset: p.offset + u32::from(size),
+        ..p
     }
 }
 

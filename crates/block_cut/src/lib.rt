@@ -8,6 +8,7 @@ mod code_tables;
 mod code_targets;
 mod content;
 pub mod cut;
+pub mod cut_code;
 pub mod data_word;
 mod data_words;
 mod fields;

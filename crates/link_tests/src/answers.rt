@@ -89,14 +89,10 @@ fn item_text(alloc: Global, item: Item) -> Result<String, AllocError> {
 
 // The next place's offset and the item, if one starts there.
 fn next_text(alloc: Global, cut: &Cut, p: Place) -> Result<String, Fail> {
-    let Some(place) = cut.at(p) else {
+    let (Some(next), Some(item)) = (cut.next(p), cut.item(p)) else {
         return Ok(format!(in alloc; "none")?);
     };
-    let Some(item) = place.item else {
-        return Ok(format!(in alloc; "none")?);
-    };
-    let next = place.offset.wrapping_add(u32::from(place.size));
-    Ok(format!(in alloc; "{next} {}", item_text(alloc, item)?)?)
+    Ok(format!(in alloc; "{} {}", next.offset, item_text(alloc, item)?)?)
 }
 
 // What the plain layout counts, and how far places lie from the text's start.

@@ -2,7 +2,7 @@
 // worked out by the System V gABI.
 
 use crate::objects::bytes_of;
-use block_cut::cut::Cut;
+use block_cut::cut_code::cut;
 use psabi_sym::link_fault::LinkFault;
 use psabi_sym::objects::Objects;
 use std::alloc::Global;
@@ -100,11 +100,11 @@ fn changed(alloc: Global, change: &str) -> Result<Vec<u8>, Fail> {
 fn fault_of(alloc: Global, file: Vec<u8>) -> Result<u32, Fail> {
     let mut files = Vec::new(alloc);
     files.push(file)?;
-    let cut = match Objects::gather(alloc, &files, MemMap::standard()) {
-        Ok(objects) => Cut::new(alloc, objects),
+    let whole = match Objects::gather(alloc, &files, MemMap::standard()) {
+        Ok(objects) => cut(alloc, objects),
         Err(fault) => Err(fault),
     };
-    match cut {
+    match whole {
         Ok(_) => Ok(0),
         Err(LinkFault::Object { fault, .. }) => Ok(fault.number()),
         Err(LinkFault::OutOfMemory) => Err("no memory".into()),

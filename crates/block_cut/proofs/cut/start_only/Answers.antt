@@ -1,39 +1,19 @@
-use Rattle.std.proofs.Common.{◌≡◌, Bool, true, false, cond, Option, Some, None, refl, sym, ap, ◌∙◌}
-use Rattle.std.specs.Option.{option_map_or}
-use Rattle.zc_base.specs.declared.place.Place.{Place}
-use Rattle.elf32_read.specs.Parts.{SectionParts}
-use Rattle.psabi_sym.specs.Inputs.{ParsedInputs, parsed}
-use Rattle.block_cut.specs.Items.{code_at, is_start_at, item_at, item_in, start_only, starts_on}
-use Rattle.block_cut.specs.declared.item.Item.{Item}
-use Rattle.block_cut.proofs.ItemLaws.{item_at-code, item_found}
+use Rattle.std.proofs.Common.{◌≡◌, cond, Some, None, sym, ap, ◌∙◌}
+use Rattle.psabi_sym.specs.Inputs.{parsed}
+use Rattle.block_cut.specs.Items.{item_at, start_only}
+use Rattle.block_cut.proofs.StartItems.{item_starts, no_item_starts}
 use Rattle.block_cut.proofs.cut.start_only.Goals as goal
-
--- an item starts where there is one
-starts : (inputs : ParsedInputs) (p : Place) (i : Item) → item_at inputs p ≡ Some i → is_start_at inputs.objects p ≡ true
-starts inputs p i is = let found = item_found inputs p i is in ap (λ o. option_map_or (λ s. starts_on s p.offset) o false) found.code ∙ found.start
-
--- and nowhere else
-starts_not : (inputs : ParsedInputs) (p : Place) → item_at inputs p ≡ None → is_start_at inputs.objects p ≡ false
-starts_not inputs p is = by (code_at inputs.objects p) refl
-  where
-    by : (o : Option SectionParts) → code_at inputs.objects p ≡ o → is_start_at inputs.objects p ≡ false
-    by None at = ap (λ o. option_map_or (λ s. starts_on s p.offset) o false) at
-    by (Some s) at = tested (starts_on s p.offset) refl
-      where
-        tested : (b : Bool) → starts_on s p.offset ≡ b → is_start_at inputs.objects p ≡ false
-        tested true start = absurd (cc (is, item_at-code inputs p s at, ap (λ b. cond b (Some (item_in inputs s p)) None) start))
-        tested false start = ap (λ o. option_map_or (λ t. starts_on t p.offset) o false) at ∙ start
 
 pub returns-in-None : goal.returns-in-None
 returns-in-None c =
     let inputs = c.args.objects.now in
     let p = c.in-Code.p in
     let at : item_at (parsed inputs) p ≡ None = sym c.item.ensures ∙ c.in-None.is in
-    sym (ap (start_only (parsed inputs).objects) c.in-Code.is ∙ ap (λ b. cond b (Some p) None) (starts_not (parsed inputs) p at))
+    sym (ap (start_only (parsed inputs).objects) c.in-Code.is ∙ ap (λ b. cond b (Some p) None) (no_item_starts (parsed inputs) p at))
 
 pub returns-in-Some : goal.returns-in-Some
 returns-in-Some c =
     let inputs = c.args.objects.now in
     let p = c.in-Code.p in
     let at = sym c.item.ensures ∙ c.in-Some.is in
-    sym (ap (start_only (parsed inputs).objects) c.in-Code.is ∙ ap (λ b. cond b (Some p) None) (starts (parsed inputs) p _ at))
+    sym (ap (start_only (parsed inputs).objects) c.in-Code.is ∙ ap (λ b. cond b (Some p) None) (item_starts (parsed inputs) p _ at))
