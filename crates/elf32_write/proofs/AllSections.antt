@@ -52,8 +52,8 @@ all_relocated Q xs held =
 
 -- ---- each section has a name and a size
 
-given_whole : (count : ℕ) (s : SectionParts) → IsWritableSection count s → IsComplete (given_section s)
-given_whole count s w = record {
+given_whole : (s : SectionParts) → IsWritableSection s → IsComplete (given_section s)
+given_whole s w = record {
   name = w.name;
   sized = record {
     full = λ h. sym (w.bytes ∙ ap (λ b. if b then 0 else s.size) h);
@@ -61,13 +61,13 @@ given_whole count s w = record {
   };
 }
 
-pub sections_whole : (count : ℕ) (xs : List SectionParts) (ys : List SymbolParts) → All (IsWritableSection count) xs → All IsComplete (file_sections xs ys)
-sections_whole count xs ys w =
-    all_sections IsComplete xs ys (All-weaker (IsWritableSection count) (λ s. IsComplete (given_section s)) (given_whole count) xs w)
+pub sections_whole : (xs : List SectionParts) (ys : List SymbolParts) → All IsWritableSection xs → All IsComplete (file_sections xs ys)
+sections_whole xs ys w =
+    all_sections IsComplete xs ys (All-weaker IsWritableSection (λ s. IsComplete (given_section s)) given_whole xs w)
     (all_added IsComplete xs ys
-    (All-weaker (IsNumbered (IsWritableSection count) (1 + length xs)) (λ e. IsComplete (rela_section (symtab_index xs) e))
+    (All-weaker (IsNumbered IsWritableSection (1 + length xs)) (λ e. IsComplete (rela_section (symtab_index xs) e))
     (λ e n. record { name = n.held.name; sized = record { full = λ _. refl; empty = λ h. absurd cc } })
-    (relocated xs) (all_relocated (IsWritableSection count) xs w))
+    (relocated xs) (all_relocated IsWritableSection xs w))
     (record { name = refl; sized = record { full = λ _. refl; empty = λ h. absurd cc } })
     (λ name names which. record {
       name = elim which [

@@ -39,9 +39,9 @@ pub flags_back : (parts : ObjectParts) → IsSmall parts → file_flags (object_
 unfolding object_bytes object_header word_in
 flags_back parts small = word_of_bytes parts.flags small.flags
 
-pub count_back : (parts : ObjectParts) → IsSmall parts → section_count (object_bytes parts) ≡ section_total parts
+pub count_back : (parts : ObjectParts) → section_total parts < 2 ^ 16 → section_count (object_bytes parts) ≡ section_total parts
 unfolding object_bytes object_header half_in
-count_back parts small = half_of_bytes (section_total parts) small.count
+count_back parts few = half_of_bytes (section_total parts) few
 
 pub name_section_back : (parts : ObjectParts) → IsSmall parts → name_section (object_bytes parts) ≡ section_total parts - 1
 unfolding object_bytes object_header half_in
@@ -140,7 +140,7 @@ listed_back parts small room words =
     let bytes = object_bytes parts in
     let all = all_of parts in
     let start = table_back parts small ∙ sym (length-front parts) in
-    let count = count_back parts small ∙ sym (length-headers_for all) in
+    let count = count_back parts small.count ∙ sym (length-headers_for all) in
     ap (λ n. map (header_of bytes) (range_with_len 0 n)) count
     ∙ headers_back bytes (front parts) (headers_for all) [] (split_front parts) start (header_words all room words)
 
@@ -153,7 +153,7 @@ pub header_back : (parts : ObjectParts) → IsSmall parts → headers_of (object
 header_back parts small listed before s rest e =
     let d = written_header before s in
     let many = ap length e ∙ length-append before (s ∷ rest) in
-    let lt : 1 + length before < section_count (object_bytes parts) = omega (arith, count_back parts small, many) in
+    let lt : 1 + length before < section_count (object_bytes parts) = omega (arith, count_back parts small.count, many) in
     let cut : headers_for (all_of parts) ≡ headers_for before ++ d ∷ each_after written_header (before ++ s ∷ []) rest =
     ap headers_for e ∙ ap (λ l. null_section ∷ l) (each_after-append written_header [] before (s ∷ rest)) in
     let place = length-headers_for before in

@@ -8,11 +8,13 @@ pub mod ImageBack
 pub mod Linkable
 pub mod Locals
 pub mod NamesBack
-pub mod Relocated
 pub mod ObjectBack
+pub mod Relocated
 pub mod RelocsBack
 pub mod Room
 pub mod SectionsBack
+pub mod SoundBack
+pub mod SoundParts
 pub mod Stages
 pub mod SymbolsBack
 pub mod SymbolsMore

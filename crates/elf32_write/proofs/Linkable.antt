@@ -15,8 +15,8 @@ use Rattle.elf32_read.specs.Symbols.{symbol_count}
 use Rattle.elf32_read.specs.declared.header.SectionHeader.{SectionHeader}
 use Rattle.elf32_write.specs.Entries.{reloc_bytes, symbol_bytes, written_entries}
 use Rattle.elf32_write.specs.FileSections.{FileSection, given_section, rela_section, strtab_section, symtab_section}
-use Rattle.elf32_write.specs.Writable.{IsWritableSection, can_be_kept}
 use Rattle.elf32_write.proofs.RelocsBack.{IsReloc, length-reloc_bytes, relocs_back}
+use Rattle.elf32_write.proofs.SoundParts.{IsSoundSection, can_be_kept}
 use Rattle.elf32_write.proofs.SectionsBack.{Shows, is_kept_file, kept_back}
 use Rattle.elf32_write.proofs.Stages.{length-symbols}
 
@@ -29,8 +29,8 @@ implied false b fails = refl
 abbrev pub is_counted : List ℕ → FileSection → Bool
 is_counted file s = nat_eq s.kind 4 && nat_lt s.info (section_count file) && is_kept file (header_of file s.info)
 
--- a section that passes the tests
-pub record IsLinkable (file : List ℕ) (s : FileSection) : Type 0 where
+-- a section that passes the tests, in an object with these e_flags
+pub record IsLinkable (file : List ℕ) (flags : ℕ) (s : FileSection) : Type 0 where
   pub foreign : (s.kind == 9 || s.kind == 17 || s.kind == 18) ≡ false
   pub plain : has_flags 0x800 s.flags ≡ false
   pub table : (s.kind == 2 && (not (s.entry_size == 16) || not (s.size % 16 == 0))) ≡ false
@@ -38,7 +38,7 @@ pub record IsLinkable (file : List ℕ) (s : FileSection) : Type 0 where
   pub known : (is_kept_file s && not (can_be_kept s.kind)) ≡ false
   pub code : (is_kept_file s && has_flags 4 s.flags && (has_flags 1 s.flags || not (s.kind == 1))) ≡ false
   pub aligned : (is_kept_file s && is_bad_alignment (if has_flags 4 s.flags then 256 else 4096) s.align) ≡ false
-  pub cut : (is_kept_file s && has_flags 4 s.flags && not (s.size % 4 == 0)) ≡ false
+  pub cut : (is_kept_file s && has_flags 4 s.flags && not (s.size % code_step (has_rvc flags) == 0)) ≡ false
   pub odd : (is_counted file s && (not (s.entry_size == 12) || not (s.size % 12 == 0))) ≡ false
   pub linked : (is_counted file s && lacks_symbols file s.link) ≡ false
   pub listed : (s.kind == 4 && nat_le (section_count file) s.info) ≡ false
@@ -49,8 +49,8 @@ pub record IsLinkable (file : List ℕ) (s : FileSection) : Type 0 where
 counted_back : (file : List ℕ) (h : SectionHeader) (s : FileSection) → Shows file h s → (h.kind == 4 && nat_lt h.info (section_count file) && is_kept file (header_of file h.info)) ≡ is_counted file s
 counted_back file h s r = λ i. r.kind i == 4 && nat_lt (r.info i) (section_count file) && is_kept file (header_of file (r.info i))
 
-pub not_unlinked : (file : List ℕ) (h : SectionHeader) (s : FileSection) → Shows file h s → IsLinkable file s → is_unlinked file h ≡ false
-not_unlinked file h s r g =
+pub not_unlinked : (file : List ℕ) (flags : ℕ) (h : SectionHeader) (s : FileSection) → Shows file h s → IsLinkable file flags s → is_unlinked file h ≡ false
+not_unlinked file flags h s r g =
     let kept = kept_back file h s r in
     let counted = counted_back file h s r in
     let foreign = ap (λ k. k == 9 || k == 17 || k == 18) r.kind ∙ g.foreign in
@@ -64,26 +64,26 @@ not_unlinked file h s r g =
     let listed = (λ i. r.kind i == 4 && nat_le (section_count file) (r.info i)) ∙ g.listed in
     or_from _ _ (or_from _ _ (or_from _ _ (or_from _ _ (or_from _ _ (or_from _ _ (or_from _ _ (or_from _ _ foreign plain) table) shared) known) code) odd) linked) listed
 
-pub not_badly_aligned : (file : List ℕ) (h : SectionHeader) (s : FileSection) → Shows file h s → IsLinkable file s → is_badly_aligned file h ≡ false
-not_badly_aligned file h s r g =
+pub not_badly_aligned : (file : List ℕ) (flags : ℕ) (h : SectionHeader) (s : FileSection) → Shows file h s → IsLinkable file flags s → is_badly_aligned file h ≡ false
+not_badly_aligned file flags h s r g =
     let kept = kept_back file h s r in
     (λ i. kept i && is_bad_alignment (if has_flags 4 (r.flags i) then 256 else 4096) (r.align i)) ∙ g.aligned
 
-pub not_cut : (file : List ℕ) → has_rvc (file_flags file) ≡ false → (h : SectionHeader) (s : FileSection) → Shows file h s → IsLinkable file s → is_cut_code file h ≡ false
-not_cut file plain h s r g =
+pub not_cut : (file : List ℕ) (flags : ℕ) → file_flags file ≡ flags → (h : SectionHeader) (s : FileSection) → Shows file h s → IsLinkable file flags s → is_cut_code file h ≡ false
+not_cut file flags is h s r g =
     let kept = kept_back file h s r in
-    (λ i. kept i && has_flags 4 (r.flags i) && not (r.size i % code_step (plain i) == 0)) ∙ g.cut
+    (λ i. kept i && has_flags 4 (r.flags i) && not (r.size i % code_step (has_rvc (is i)) == 0)) ∙ g.cut
 
-pub not_of_no_symbol : (file : List ℕ) (h : SectionHeader) (s : FileSection) → Shows file h s → IsLinkable file s → is_of_no_symbol file h ≡ false
-not_of_no_symbol file h s r g =
+pub not_of_no_symbol : (file : List ℕ) (flags : ℕ) (h : SectionHeader) (s : FileSection) → Shows file h s → IsLinkable file flags s → is_of_no_symbol file h ≡ false
+not_of_no_symbol file flags h s r g =
     let counted = counted_back file h s r in
     (λ i. counted i && list_any (names_no_symbol file) (relocs_in (r.content i))) ∙ g.symbols
 
 -- ---- sections that pass
 
 -- a given section of the type RELA is for section 0, which isn't kept
-pub given_linkable : (file : List ℕ) (count : ℕ) (s : SectionParts) → 0 < section_count file → is_kept file (header_of file 0) ≡ false → IsWritableSection count s → IsLinkable file (given_section s)
-given_linkable file count s some dropped w =
+pub given_linkable : (file : List ℕ) (flags count : ℕ) (s : SectionParts) → 0 < section_count file → is_kept file (header_of file 0) ≡ false → IsSoundSection flags count s → IsLinkable file flags (given_section s)
+given_linkable file flags count s some dropped w =
     let kinds = or_parts (s.kind == 2 || s.kind == 9 || s.kind == 17) (s.kind == 18) (not-true (s.kind == 2 || s.kind == 9 || s.kind == 17 || s.kind == 18) w.kind) in
     let three = or_parts (s.kind == 2 || s.kind == 9) (s.kind == 17) kinds.0 in
     let two = or_parts (s.kind == 2) (s.kind == 9) three.0 in
@@ -99,9 +99,9 @@ given_linkable file count s some dropped w =
           let code = (w.kept (and_parts kept (has_flags 4 s.flags) c).0).code c in
           or_from _ _ code.read_only (ap not (eq-eqb s.kind 1 code.kind)));
       aligned = implied kept (is_bad_alignment (if has_flags 4 s.flags then 256 else 4096) s.align) (λ k. (w.kept k).align);
-      cut = implied (is_code_section s) (not (s.size % 4 == 0)) (λ c.
+      cut = implied (is_code_section s) (not (s.size % code_step (has_rvc flags) == 0)) (λ c.
           let code = (w.kept (and_parts kept (has_flags 4 s.flags) c).0).code c in
-          ap not (eq-eqb (s.size % 4) 0 code.size));
+          ap not (eq-eqb (s.size % code_step (has_rvc flags)) 0 code.size));
       odd = and_left (is_counted file (given_section s)) _ counted;
       linked = and_left (is_counted file (given_section s)) _ counted;
       listed = and_right (s.kind == 4) (nat_le (section_count file) 0) (lt-leb (section_count file) 0 some);
@@ -109,8 +109,8 @@ given_linkable file count s some dropped w =
     }
 
 -- relocations are those of a section that is there, over symbols that are there
-pub rela_linkable : (file : List ℕ) (count symtab : ℕ) (e : ℕ × SectionParts) → symbol_count file ≡ count → lacks_symbols file symtab ≡ false → e.0 < section_count file → IsWritableSection count e.1 → All IsReloc e.1.relocs → IsLinkable file (rela_section symtab e)
-rela_linkable file count symtab e counted found inside w rows =
+pub rela_linkable : (file : List ℕ) (flags count symtab : ℕ) (e : ℕ × SectionParts) → symbol_count file ≡ count → lacks_symbols file symtab ≡ false → e.0 < section_count file → IsSoundSection flags count e.1 → All IsReloc e.1.relocs → IsLinkable file flags (rela_section symtab e)
+rela_linkable file flags count symtab e counted found inside w rows =
     let content : List ℕ = flat_map reloc_bytes e.1.relocs in
     let whole : length content % 12 ≡ 0 = omega (arith, length-reloc_bytes e.1.relocs) in
     let test = is_counted file (rela_section symtab e) in
@@ -132,8 +132,8 @@ rela_linkable file count symtab e counted found inside w rows =
       symbols = and_right test _ named;
     }
 
-pub symtab_linkable : (file : List ℕ) (symtab : ℕ) (ys : List SymbolParts) → IsLinkable file (symtab_section symtab ys)
-symtab_linkable file symtab ys =
+pub symtab_linkable : (file : List ℕ) (flags symtab : ℕ) (ys : List SymbolParts) → IsLinkable file flags (symtab_section symtab ys)
+symtab_linkable file flags symtab ys =
     let content : List ℕ = flat_map symbol_bytes (written_entries ys) in
     let whole : length content % 16 ≡ 0 = omega (arith, length-symbols ys) in
     record {
@@ -151,5 +151,5 @@ symtab_linkable file symtab ys =
       symbols = refl;
     }
 
-pub names_linkable : (file : List ℕ) (name : List ℕ) (names : List (List ℕ)) → IsLinkable file (strtab_section name names)
-names_linkable file name names = record { foreign = refl; plain = refl; table = refl; shared = refl; known = refl; code = refl; aligned = refl; cut = refl; odd = refl; linked = refl; listed = refl; symbols = refl }
+pub names_linkable : (file : List ℕ) (flags : ℕ) (name : List ℕ) (names : List (List ℕ)) → IsLinkable file flags (strtab_section name names)
+names_linkable file flags name names = record { foreign = refl; plain = refl; table = refl; shared = refl; known = refl; code = refl; aligned = refl; cut = refl; odd = refl; linked = refl; listed = refl; symbols = refl }

@@ -97,7 +97,7 @@ last_header parts small listed =
 pub names_found : (parts : ObjectParts) → IsSmall parts → headers_of (object_bytes parts) ≡ headers_for (all_of parts) → lacks_strings (object_bytes parts) (name_section (object_bytes parts)) ≡ false
 names_found parts small listed =
     let bytes = object_bytes parts in
-    let there : nat_le (section_count bytes) (name_section bytes) ≡ false = lt-leb (section_count bytes) (name_section bytes) (omega (arith, name_section_back parts small, count_back parts small)) in
+    let there : nat_le (section_count bytes) (name_section bytes) ≡ false = lt-leb (section_count bytes) (name_section bytes) (omega (arith, name_section_back parts small, count_back parts small.count)) in
     or_from _ _ there (ap (λ h. not (nat_eq h.kind 3)) (last_header parts small listed))
 
 -- the names of all sections

@@ -1,5 +1,5 @@
 -- The symbols of an object read back, and their names.
-use Rattle.std.proofs.Common.{◌≡◌, ℕ, ◌+◌, ◌*◌, ◌/◌, ◌%◌, ◌^◌, ◌<◌, List, [], ◌∷◌, ◌++◌, length, map, true, false, not, ◌||◌, codes, refl, sym, ap, ◌∙◌, arith, append_assoc, append-nil, length-append, if◌then◌else◌}
+use Rattle.std.proofs.Common.{◌≡◌, ℕ, ◌+◌, ◌*◌, ◌/◌, ◌%◌, ◌^◌, ◌<◌, ◌≤◌, List, [], ◌∷◌, ◌++◌, length, map, true, false, not, ◌||◌, codes, refl, sym, ap, ◌∙◌, arith, append_assoc, append-nil, length-append, if◌then◌else◌}
 use Rattle.std.specs.Prelude.{All, filter, nat_eq, nat_le, slice_get, slice_index}
 use Rattle.std.specs.List.{AllZip, flat_map, list_any, range_with_len}
 use Rattle.std.specs.Option.{option_map_or}
@@ -31,7 +31,7 @@ use Rattle.elf32_write.proofs.NamesBack.{Stands, name_back}
 use Rattle.elf32_write.proofs.SectionsBack.{IsSized, content_back}
 use Rattle.elf32_write.proofs.Stages.{length-each_after, length-file_sections, length-symbols}
 use Rattle.elf32_write.proofs.SymbolsMore.{name_table_within}
-use Rattle.elf32_write.proofs.Zipped.{none_kept}
+use Rattle.elf32_write.proofs.Zipped.{none_filtered, none_kept}
 
 -- ---- where the sections of symbols stand
 
@@ -65,7 +65,7 @@ kinds_after before [] = refl
 kinds_after before (x ∷ xs) = ap (λ b. nat_eq x.kind 2 || b) (kinds_after (before ++ x ∷ []) xs)
 
 -- no section before .symtab has symbols
-no_symbols_before : (xs : List SectionParts) → All (λ s. nat_eq s.kind 2 ≡ false) xs → list_any (λ s. nat_eq s.kind 2) (with_relas xs) ≡ false
+pub no_symbols_before : (xs : List SectionParts) → All (λ s. nat_eq s.kind 2 ≡ false) xs → list_any (λ s. nat_eq s.kind 2) (with_relas xs) ≡ false
 unfolding with_relas
 no_symbols_before xs kinds =
     let P : FileSection → Type 0 = λ s. nat_eq s.kind 2 ≡ false in
@@ -73,9 +73,10 @@ no_symbols_before xs kinds =
     (All-append P (given_sections xs) (rela_sections xs) (All-map P given_section xs kinds)
     (All-map P (rela_section (symtab_index xs)) (relocated xs) (λ k d lt. refl)))
 
-pub symbol_tables_back : (parts : ObjectParts) → headers_of (object_bytes parts) ≡ headers_for (all_of parts) → All (λ s. nat_eq s.kind 2 ≡ false) parts.sections → symbol_tables (object_bytes parts) ≡ written_header (with_relas parts.sections) (symtab_section (symtab_index parts.sections) parts.symbols) ∷ []
+-- the sections of type SYMTAB are those before .symtab, and .symtab
+symbol_tables_cut : (parts : ObjectParts) → headers_of (object_bytes parts) ≡ headers_for (all_of parts) → symbol_tables (object_bytes parts) ≡ filter has_symbols (headers_for (with_relas parts.sections)) ++ written_header (with_relas parts.sections) (symtab_section (symtab_index parts.sections) parts.symbols) ∷ []
 unfolding strtab shstrtab
-symbol_tables_back parts listed kinds =
+symbol_tables_cut parts listed =
     let xs = parts.sections in
     let ys = parts.symbols in
     let s : FileSection = symtab_section (symtab_index xs) ys in
@@ -83,8 +84,24 @@ symbol_tables_back parts listed kinds =
     let rest = each_after written_header (with_relas xs) (s ∷ strtab ys ∷ shstrtab xs ∷ []) in
     let cut : headers_for (all_of parts) ≡ before ++ rest =
     ap headers_for (split_symtab xs ys) ∙ ap (λ l. null_section ∷ l) (each_after-append written_header [] (with_relas xs) (s ∷ strtab ys ∷ shstrtab xs ∷ [])) in
-    let none : list_any has_symbols before ≡ false = kinds_after [] (with_relas xs) ∙ no_symbols_before xs kinds in
-    ap (filter has_symbols) (listed ∙ cut) ∙ filter-append has_symbols before rest ∙ ap (λ l. l ++ filter has_symbols rest) (none_kept has_symbols before none)
+    ap (filter has_symbols) (listed ∙ cut) ∙ filter-append has_symbols before rest
+
+-- so if there is one SYMTAB at most, none stands before .symtab
+pub single_table : (parts : ObjectParts) → headers_of (object_bytes parts) ≡ headers_for (all_of parts) → length (symbol_tables (object_bytes parts)) ≤ 1 → list_any (λ s. nat_eq s.kind 2) (with_relas parts.sections) ≡ false
+single_table parts listed few =
+    let xs = parts.sections in
+    let before = headers_for (with_relas xs) in
+    let symtab = written_header (with_relas xs) (symtab_section (symtab_index xs) parts.symbols) in
+    let many = ap length (symbol_tables_cut parts listed) ∙ length-append (filter has_symbols before) (symtab ∷ []) in
+    let none : length (filter has_symbols before) ≡ 0 = omega (arith, many, few) in
+    sym (kinds_after [] (with_relas xs)) ∙ none_filtered has_symbols before none
+
+pub symbol_tables_back : (parts : ObjectParts) → headers_of (object_bytes parts) ≡ headers_for (all_of parts) → list_any (λ s. nat_eq s.kind 2) (with_relas parts.sections) ≡ false → symbol_tables (object_bytes parts) ≡ written_header (with_relas parts.sections) (symtab_section (symtab_index parts.sections) parts.symbols) ∷ []
+symbol_tables_back parts listed single =
+    let before = headers_for (with_relas parts.sections) in
+    let symtab = written_header (with_relas parts.sections) (symtab_section (symtab_index parts.sections) parts.symbols) in
+    let none : list_any has_symbols before ≡ false = kinds_after [] (with_relas parts.sections) ∙ single in
+    symbol_tables_cut parts listed ∙ ap (λ l. l ++ symtab ∷ []) (none_kept has_symbols before none)
 
 -- ---- names
 
@@ -101,7 +118,7 @@ unfolding strtab
 links_back parts small listed =
     let bytes = object_bytes parts in
     let index = symtab_index parts.sections + 1 in
-    let there : nat_le (section_count bytes) index ≡ false = lt-leb (section_count bytes) index (omega (arith, count_back parts small, length-file_sections parts.sections parts.symbols)) in
+    let there : nat_le (section_count bytes) index ≡ false = lt-leb (section_count bytes) index (omega (arith, count_back parts small.count, length-file_sections parts.sections parts.symbols)) in
     or_from _ _ there (ap (λ h. not (nat_eq h.kind 3)) (strtab_header parts small listed))
 
 strings_back : (parts : ObjectParts) → IsSmall parts → headers_of (object_bytes parts) ≡ headers_for (all_of parts) → strings_of (object_bytes parts) (symtab_index parts.sections + 1) ≡ name_table (strtab_names parts.symbols)
@@ -115,20 +132,20 @@ strings_back parts small listed =
     ∙ ap (content_of bytes) (strtab_header parts small listed)
     ∙ content_back parts (with_symbols xs ys) (strtab ys) (shstrtab xs ∷ []) (split_strtab xs ys) sized
 
-pub symbol_names_back : (parts : ObjectParts) → IsSmall parts → headers_of (object_bytes parts) ≡ headers_for (all_of parts) → All (λ s. nat_eq s.kind 2 ≡ false) parts.sections → names_in (object_bytes parts) ≡ name_table (strtab_names parts.symbols)
-symbol_names_back parts small listed kinds =
-    ap (λ l. option_map_or (λ h. strings_of (object_bytes parts) h.link) (slice_get l 0) []) (symbol_tables_back parts listed kinds)
+pub symbol_names_back : (parts : ObjectParts) → IsSmall parts → headers_of (object_bytes parts) ≡ headers_for (all_of parts) → list_any (λ s. nat_eq s.kind 2) (with_relas parts.sections) ≡ false → names_in (object_bytes parts) ≡ name_table (strtab_names parts.symbols)
+symbol_names_back parts small listed single =
+    ap (λ l. option_map_or (λ h. strings_of (object_bytes parts) h.link) (slice_get l 0) []) (symbol_tables_back parts listed single)
     ∙ strings_back parts small listed
 
 -- ---- entries
 
-pub symbol_content_back : (parts : ObjectParts) → headers_of (object_bytes parts) ≡ headers_for (all_of parts) → All (λ s. nat_eq s.kind 2 ≡ false) parts.sections → symbol_content (object_bytes parts) ≡ flat_map symbol_bytes (written_entries parts.symbols)
-symbol_content_back parts listed kinds =
+pub symbol_content_back : (parts : ObjectParts) → headers_of (object_bytes parts) ≡ headers_for (all_of parts) → list_any (λ s. nat_eq s.kind 2) (with_relas parts.sections) ≡ false → symbol_content (object_bytes parts) ≡ flat_map symbol_bytes (written_entries parts.symbols)
+symbol_content_back parts listed single =
     let xs = parts.sections in
     let ys = parts.symbols in
     let s : FileSection = symtab_section (symtab_index xs) ys in
     let sized : IsSized s = record { full = λ _. refl; empty = λ h. absurd cc } in
-    ap (λ l. option_map_or (content_of (object_bytes parts)) (slice_get l 0) []) (symbol_tables_back parts listed kinds)
+    ap (λ l. option_map_or (content_of (object_bytes parts)) (slice_get l 0) []) (symbol_tables_back parts listed single)
     ∙ content_back parts (with_relas xs) s (strtab ys ∷ shstrtab xs ∷ []) (split_symtab xs ys) sized
 
 -- the numbers of an entry have room in their fields
@@ -164,16 +181,16 @@ entry_back front rest e h =
     let home = half_in-append front row (length front + 14) 14 refl ∙ half_of_bytes e.home h.home in
     λ i. record { name = name i; value = value i; size = size i; bind = bind i; kind = kind i; home = home i }
 
-entries_after : (before ys : List SymbolParts) → length (name_table (strtab_names (before ++ ys))) < 2 ^ 32 → All IsSymbolSized ys → All HasInfo ys → All (λ s. s.home < 2 ^ 16) ys → All IsEntry (each_after written_entry before ys)
-entries_after before [] room sized info homes = All-nil IsEntry
-entries_after before (s ∷ ys) room sized info homes =
+entries_after : (before ys : List SymbolParts) → length (name_table (strtab_names (before ++ ys))) < 2 ^ 32 → All IsSymbolSized ys → All HasInfo ys → All IsEntry (each_after written_entry before ys)
+entries_after before [] room sized info = All-nil IsEntry
+entries_after before (s ∷ ys) room sized info =
     let w = All-head IsSymbolSized s ys sized in
     let i = All-head HasInfo s ys info in
     let joined = append_assoc before (s ∷ []) ys in
     let cut : strtab_names (before ++ s ∷ ys) ≡ strtab_names before ++ strtab_names (s ∷ ys) = map-append (λ (b : SymbolParts). b.name) before (s ∷ ys) in
     let start = start_within (length (name_table (strtab_names before))) s.name in
     let within = name_table_within (strtab_names before) (strtab_names (s ∷ ys)) in
-    let more = entries_after (before ++ s ∷ []) ys (omega (arith, room, ap (λ l. length (name_table (strtab_names l))) joined)) (All-tail IsSymbolSized s ys sized) (All-tail HasInfo s ys info) (All-tail (λ s. s.home < 2 ^ 16) s ys homes) in
+    let more = entries_after (before ++ s ∷ []) ys (omega (arith, room, ap (λ l. length (name_table (strtab_names l))) joined)) (All-tail IsSymbolSized s ys sized) (All-tail HasInfo s ys info) in
     All-cons IsEntry (written_entry before s) (each_after written_entry (before ++ s ∷ []) ys)
     (record {
       name = omega (arith, room, start, within, ap (λ l. length (name_table l)) cut);
@@ -181,18 +198,18 @@ entries_after before (s ∷ ys) room sized info homes =
       size = w.size;
       bind = i.bind;
       kind = i.kind;
-      home = All-head (λ s. s.home < 2 ^ 16) s ys homes;
+      home = w.home;
     })
     more
 
-pub entries_back : (ys : List SymbolParts) → length (name_table (strtab_names ys)) < 2 ^ 32 → All IsSymbolSized ys → All HasInfo ys → All (λ s. s.home < 2 ^ 16) ys → entries_in (flat_map symbol_bytes (written_entries ys)) ≡ written_entries ys
+pub entries_back : (ys : List SymbolParts) → length (name_table (strtab_names ys)) < 2 ^ 32 → All IsSymbolSized ys → All HasInfo ys → entries_in (flat_map symbol_bytes (written_entries ys)) ≡ written_entries ys
 unfolding symbol_entry_at entry_in
-entries_back ys room sized info homes =
+entries_back ys room sized info =
     let entries = written_entries ys in
     let content = flat_map symbol_bytes entries in
     let at : ℕ → ℕ = λ i. 16 * i in
     let null : IsEntry null_symbol = record { name = omega arith; value = omega arith; size = omega arith; bind = omega arith; kind = omega arith; home = omega arith } in
-    let rows = All-cons IsEntry null_symbol (each_after written_entry [] ys) null (entries_after [] ys room sized info homes) in
+    let rows = All-cons IsEntry null_symbol (each_after written_entry [] ys) null (entries_after [] ys room sized info) in
     let count : length content / 16 ≡ length entries = omega (arith, length-symbols ys, length-each_after written_entry [] ys) in
     ap (λ n. map (symbol_entry_at content) (range_with_len 0 n)) count
     ∙ rows_back entry_in symbol_bytes 16 IsEntry at entry_back (λ _. refl) (λ k. omega arith) content [] entries [] 0 (sym (append-nil content)) refl rows

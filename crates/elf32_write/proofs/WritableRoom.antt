@@ -1,14 +1,18 @@
 -- Parts that can be written have room in their file.
 use Rattle.std.proofs.Common.{◌≡◌, ◌+◌, ◌*◌, ◌^◌, ◌<◌, ◌≤◌, List, [], ◌∷◌, length, All, codes, sym, ap, ◌∙◌, arith}
+use Rattle.std.proofs.lemmas.Bool.{ltb-false}
 use Rattle.std.proofs.lemmas.List.{map-append}
 use Rattle.std.proofs.lemmas.List.Elements.{All-weaker}
+use Rattle.elf32_read.specs.Header.{section_count}
 use Rattle.elf32_read.specs.Parts.{ObjectParts, SectionParts, SymbolParts}
+use Rattle.elf32_read.proofs.Faultless.{no_fault}
 use Rattle.elf32_write.specs.NameTable.{name_table}
 use Rattle.elf32_write.specs.Entries.{HasInfo, strtab_names}
 use Rattle.elf32_write.specs.FileSections.{FileSection, file_sections, names_of_sections, shstrtab_names, strtab_section, symtab_index, symtab_section}
-use Rattle.elf32_write.specs.ObjectFile.{contents}
+use Rattle.elf32_write.specs.ObjectFile.{contents, object_bytes, object_size, section_total}
 use Rattle.elf32_write.specs.SectionTable.{ContentsFit, PartsFit, with_names, with_relas, with_symbols}
 use Rattle.elf32_write.specs.Writable.{IsWritable, IsWritableSection, IsWritableSymbol}
+use Rattle.elf32_write.proofs.FileHeaderBack.{count_back, length-object_bytes}
 use Rattle.elf32_write.proofs.Room.{length-last}
 use Rattle.elf32_write.proofs.Stages.{length-symbols, names_so_far, stages}
 
@@ -33,31 +37,33 @@ symbols_within xs ys =
     let u : FileSection = strtab_section (codes ".shstrtab") (shstrtab_names xs) in
     omega (arith, length-symbols ys, length-last (with_relas xs) s, length-last (with_symbols xs ys) t, length-last (with_names xs ys) u, ap (λ l. length (contents l)) (stages xs ys))
 
-pub writable_room : (parts : ObjectParts) → IsWritable parts → ContentsFit (file_sections parts.sections parts.symbols)
-writable_room parts w =
+-- ---- what a file without a fault says of its parts
+
+pub writable_size : (parts : ObjectParts) → IsWritable parts → object_size parts ≤ 0x40_0000
+writable_size parts w =
+    let long = ltb-false 0x40_0000 (length (object_bytes parts)) (no_fault (object_bytes parts) w.faultless).short in
+    omega (arith, long, length-object_bytes parts)
+
+writable_count : (parts : ObjectParts) → IsWritable parts → section_total parts ≤ 4096
+writable_count parts w =
+    let few = ltb-false 4096 (section_count (object_bytes parts)) (no_fault (object_bytes parts) w.faultless).few in
+    omega (arith, few, count_back parts w.count)
+
+-- ---- room in the file
+
+pub sized_room : (parts : ObjectParts) → object_size parts ≤ 0x40_0000 → ContentsFit (file_sections parts.sections parts.symbols)
+sized_room parts size =
     let names = ap (λ l. length (name_table l)) (names_of_all parts.sections parts.symbols) in
     let within = section_names_within parts.sections parts.symbols in
     record {
-      contents_fit = omega (arith, w.size);
-      names_fit = omega (arith, w.size, names, within);
+      contents_fit = omega (arith, size);
+      names_fit = omega (arith, size, names, within);
     }
-
-pub writable_relocs : (parts : ObjectParts) → IsWritable parts → All (λ s. All (λ r. r.symbol < 2 ^ 24) s.relocs) parts.sections
-writable_relocs parts w =
-    let symbols = symbols_within parts.sections parts.symbols in
-    let few : 1 + length parts.symbols < 2 ^ 24 = omega (arith, symbols, w.size) in
-    All-weaker (IsWritableSection (1 + length parts.symbols)) (λ s. All (λ r. r.symbol < 2 ^ 24) s.relocs)
-    (λ s h. All-weaker (λ r. r.symbol < 1 + length parts.symbols) (λ r. r.symbol < 2 ^ 24) (λ r lt. omega (arith, lt, few)) s.relocs h.relocs)
-    parts.sections w.sections
-
-pub writable_info : (parts : ObjectParts) → IsWritable parts → All HasInfo parts.symbols
-writable_info parts w =
-    All-weaker (IsWritableSymbol parts) HasInfo (λ s h. record { bind = omega (arith, h.bind); kind = h.kind }) parts.symbols w.symbols
 
 pub writable_fits : (parts : ObjectParts) → IsWritable parts → PartsFit parts.sections parts.symbols
 writable_fits parts w = record {
-  count = omega (arith, w.count);
-  room = writable_room parts w;
-  relocs = writable_relocs parts w;
-  info = writable_info parts w;
+  count = omega (arith, writable_count parts w);
+  room = sized_room parts (writable_size parts w);
+  relocs = All-weaker IsWritableSection (λ s. All (λ r. r.symbol < 2 ^ 24) s.relocs) (λ s h. h.relocs) parts.sections w.sections;
+  info = All-weaker IsWritableSymbol HasInfo (λ s h. h.info) parts.symbols w.symbols;
 }

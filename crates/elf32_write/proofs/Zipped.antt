@@ -22,6 +22,15 @@ none_kept p (x ∷ xs) none =
       | false ↦ λ h. none_kept p xs h
     ] none
 
+-- a filter that keeps nothing is a test that none passes
+pub none_filtered : {X : Type 0} (p : X → Bool) (xs : List X) → length (filter p xs) ≡ 0 → list_any p xs ≡ false
+none_filtered p [] none = refl
+none_filtered p (x ∷ xs) none =
+    elim (p x) as (λ b. length (cond b (x ∷ filter p xs) (filter p xs)) ≡ 0 → (b || list_any p xs) ≡ false) [
+      | true ↦ λ h. absurd (omega (arith, h))
+      | false ↦ λ h. none_filtered p xs h
+    ] none
+
 -- what is made of the elements that a filter keeps, by their related ones
 pub zip_kept : {X Y A : Type 0} (R : X → Y → Type 0) (p : X → Bool) (q : Y → Bool) (f : X → List A) (g : Y → List A) → ((x : X) (y : Y) → R x y → p x ≡ q y) → ((x : X) (y : Y) → R x y → q y ≡ true → f x ≡ g y) → (xs : List X) (ys : List Y) → AllZip R xs ys → flat_map f (filter p xs) ≡ flat_map g (filter q ys)
 zip_kept R p q f g same makes [] [] zipped = refl

@@ -26,15 +26,17 @@ pub record IsRelocSized (r : Reloc) : Type 0 where
   pub kind : r.kind < 2 ^ 8
   pub addend : FitsSigned w32 r.addend
 
--- an entry's value and size have room in words
+-- an entry's value and size have room in words, and its home in a half
 pub record IsEntrySized (e : SymbolEntry) : Type 0 where
   pub value : e.value < 2 ^ 32
   pub size : e.size < 2 ^ 32
+  pub home : e.home < 2 ^ 16
 
--- a symbol's value and size have room in words
+-- a symbol's value and size have room in words, and its home in a half
 pub record IsSymbolSized (s : SymbolParts) : Type 0 where
   pub value : s.value < 2 ^ 32
   pub size : s.size < 2 ^ 32
+  pub home : s.home < 2 ^ 16
 
 -- the numbers of all parts have room in their fields
 pub record IsPartsSized (sections : List SectionParts) (symbols : List SymbolParts) : Type 0 where

@@ -15,7 +15,8 @@ pub struct ObjectParts {
 }
 
 /// A section of an object: sh_type, sh_flags, sh_addralign and sh_size (System V gABI, "Sections"), its content, and the
-/// relocations that change it. `bytes` is empty for the kinds NULL and NOBITS.
+/// relocations that change it. `bytes` is empty for the kinds NULL and NOBITS. In clauses its `compressed` says nothing: whether
+/// an object is compressed is for its `flags` to say.
 #[derive(Drop)]
 pub struct PartSection {
     pub name: Vec<u8>,

@@ -1,6 +1,6 @@
 // Objects.
 
-ghost use Rattle.std.specs.Prelude.{◌≡◌, ◌<◌, ◌++◌, IfOk, OnOk};
+ghost use Rattle.std.specs.Prelude.{◌≡◌, ◌<◌, ◌^◌, ◌++◌, IfOk, OnOk};
 ghost use Rattle.elf32_write.specs.FileSections.{file_sections};
 ghost use Rattle.elf32_write.specs.ObjectFile.{object_bytes, object_header};
 ghost use Rattle.elf32_write.specs.Ranges.{IsPartsSized};
@@ -25,7 +25,9 @@ fn push_object_header(
     count: u16,
 ) -> Result<(), AllocError>
     requires { 0 < count }
-    ensures { OnOk result (out.new.items ≡ out.old.items ++ object_header table flags count) }
+    ensures appended { OnOk result (out.new.items ≡ out.old.items ++ object_header table flags count) }
+    // By its type.
+    ensures sized { flags < 2 ^ 32 }
 {
     out.extend_from_slice(&IDENTIFICATION)?;
     push_halves(out, &[RELOCATABLE, RISC_V])?;

@@ -20,6 +20,7 @@ use Rattle.psabi_sym.specs.declared.target.Target.TheVariants.{Code, Nowhere}
 use Rattle.block_cut.specs.Faults.{first_fault, reloc_fault}
 use Rattle.block_cut.specs.Items.{entry_in, start_only, starts_on}
 use Rattle.block_cut.proofs.RoomLaws.{code_room_is}
+use Rattle.elf32_write.specs.Writable.{in_object}
 use Rattle.sound_objects.specs.Parts.{AreWellFormed, files_of, parts_code, parts_data}
 use Rattle.sound_objects.specs.Fragments.{Fragment, IsMadeOf, fragments_size}
 use Rattle.sound_objects.specs.Reach.{HaveNoBranchOrAlign}
@@ -95,10 +96,14 @@ module _ (number n : ℕ) (few : n ≤ FUNCTION_LIMIT) where
     OfStart : l ≡ record { object = 0; index = 1; section = text_section (start_fragments number n few) } → IsMadeSection l
     OfGroup : (k : ℕ) → k < group_count n → l ≡ record { object = suc k; index = 1; section = text_section (fragments_in number n few k) } → IsMadeSection l
 
+  -- its given sections, as they are read
+  abbrev sections_read : ObjectParts → List SectionParts
+  sections_read p = map (in_object p.flags) p.sections
+
   section_made : (l : IndexedSection) → HasSection all.objects l → IsMadeSection l
   section_made l has = by (section_in (made_parts number n) (made_written number n few) l has)
     where
-      of_start : (j : ℕ) → l.object ≡ 0 → l.index ≡ suc j → slice_get (start_object number n).sections j ≡ Some l.section → IsMadeSection l
+      of_start : (j : ℕ) → l.object ≡ 0 → l.index ≡ suc j → slice_get (sections_read (start_object number n)) j ≡ Some l.section → IsMadeSection l
       of_start zero object index at =
           let same : text_section (start_fragments number n few) ≡ l.section = cc in
           OfStart (λ i. record { object = object i; index = index i; section = sym same i })
@@ -107,15 +112,15 @@ module _ (number n : ℕ) (few : n ≤ FUNCTION_LIMIT) where
           Other (ap is_code_section (sym same)) (ap (λ (s : SectionParts). s.relocs) (sym same))
       of_start (suc (suc j)) object index at = absurd cc
 
-      of_group : (k j : ℕ) → k < group_count n → l.object ≡ suc k → l.index ≡ suc j → slice_get (group_object (functions_from n 0 number) k).sections j ≡ Some l.section → IsMadeSection l
+      of_group : (k j : ℕ) → k < group_count n → l.object ≡ suc k → l.index ≡ suc j → slice_get (sections_read (group_object (functions_from n 0 number) k)) j ≡ Some l.section → IsMadeSection l
       of_group k zero within object index at =
           let same : text_section (fragments_in number n few k) ≡ l.section = cc in
           OfGroup k within (λ i. record { object = object i; index = index i; section = sym same i })
       of_group k (suc j) within object index at = absurd cc
 
-      of_object : (p : ObjectParts) (j : ℕ) → l.index ≡ suc j → slice_get p.sections j ≡ Some l.section → IsObject number n l.object p → IsMadeSection l
-      of_object p j index at (First object is) = of_start j object index (ap (λ (q : ObjectParts). slice_get q.sections j) (sym is) ∙ at)
-      of_object p j index at (Later k within object is) = of_group k j within object index (ap (λ (q : ObjectParts). slice_get q.sections j) (sym is) ∙ at)
+      of_object : (p : ObjectParts) (j : ℕ) → l.index ≡ suc j → slice_get (sections_read p) j ≡ Some l.section → IsObject number n l.object p → IsMadeSection l
+      of_object p j index at (First object is) = of_start j object index (ap (λ (q : ObjectParts). slice_get (sections_read q) j) (sym is) ∙ at)
+      of_object p j index at (Later k within object is) = of_group k j within object index (ap (λ (q : ObjectParts). slice_get (sections_read q) j) (sym is) ∙ at)
 
       by : IsSectionIn (made_parts number n) l → IsMadeSection l
       by (Given p j object index at) = of_object p j index at (object_at number n l.object p object)

@@ -10,7 +10,8 @@ use Rattle.std.proofs.lemmas.List.Sums.{sum_by-append, sum_by-cons}
 use Rattle.elf32_read.specs.Parts.{ObjectParts, SectionParts, SymbolParts}
 use Rattle.elf32_write.specs.ObjectFile.{section_total}
 use Rattle.elf32_write.specs.Ranges.{IsSymbolSized}
-use Rattle.elf32_write.specs.Writable.{IsWritableSymbol, LiesInSection, has_home, is_name, null_part}
+use Rattle.elf32_write.specs.Writable.{is_name, null_part}
+use Rattle.elf32_write.proofs.SoundParts.{IsSoundSymbol, LiesInSection, has_home}
 use Rattle.elf32_write.proofs.Stages.{length-file_sections}
 use Rattle.psabi_sym.specs.Faults.{common_room}
 use Rattle.sound_objects.proofs.SizeLaws.{symbol_name_room}
@@ -90,8 +91,8 @@ home_small p s lt =
     or_left (nat_lt s.home (section_total p) || eqb s.home 0xFFF1) (eqb s.home 0xFFF2) (or_left (nat_lt s.home (section_total p)) (eqb s.home 0xFFF1) (lt-ltb s.home (section_total p) many))
 
 module _ (size : ℕ) (s : SymbolParts) where
-  pub function_writable : (p : ObjectParts) (text : SectionParts) (rest : List SectionParts) → p.sections ≡ text ∷ rest → text.size ≡ size → IsOfFunction size s → IsWritableSymbol p s
-  function_writable p text rest are long (Defined i at body lt le small is) = subst (IsWritableSymbol p) (sym is) (record {
+  pub function_writable : (p : ObjectParts) (text : SectionParts) (rest : List SectionParts) → p.sections ≡ text ∷ rest → text.size ≡ size → IsOfFunction size s → IsSoundSymbol p s
+  function_writable p text rest are long (Defined i at body lt le small is) = subst (IsSoundSymbol p) (sym is) (record {
     name = is_function_name i (omega (arith, lt));
     bind = omega arith;
     kind = omega arith;
@@ -101,7 +102,7 @@ module _ (size : ℕ) (s : SymbolParts) where
     common = λ e. absurd (omega (arith, e));
     within = subst (λ l. IfSome (slice_get (null_part ∷ l) 1) (LiesInSection (function_symbol i at body))) (sym are) (λ kept. omega (arith, le, long));
   })
-  function_writable p text rest are long (Undefined i lt is) = subst (IsWritableSymbol p) (sym is) (record {
+  function_writable p text rest are long (Undefined i lt is) = subst (IsSoundSymbol p) (sym is) (record {
     name = is_function_name i (omega (arith, lt));
     bind = omega arith;
     kind = omega arith;
@@ -113,8 +114,8 @@ module _ (size : ℕ) (s : SymbolParts) where
   })
 
   pub function_sized : size < 2 ^ 32 → IsOfFunction size s → IsSymbolSized s
-  function_sized small (Defined i at body lt le long is) = subst IsSymbolSized (sym is) (record { value = omega (arith, le, small); size = long })
-  function_sized small (Undefined i lt is) = subst IsSymbolSized (sym is) (record { value = omega arith; size = omega arith })
+  function_sized small (Defined i at body lt le long is) = subst IsSymbolSized (sym is) (record { value = omega (arith, le, small); size = long; home = omega arith })
+  function_sized small (Undefined i lt is) = subst IsSymbolSized (sym is) (record { value = omega arith; size = omega arith; home = omega arith })
 
   name_short : IsOfFunction size s → symbol_name_room s ≤ 7
   name_short (Defined i at body lt le long is) = subst (λ t. symbol_name_room t ≤ 7) (sym is) (omega (arith, short_name i lt))

@@ -6,7 +6,7 @@ use Rattle.std.proofs.lemmas.Option.{slice_get_within}
 use Rattle.elf32_read.specs.Object.{is_bad_alignment}
 use Rattle.elf32_read.specs.declared.reloc.Reloc.{Reloc}
 use Rattle.elf32_write.specs.Ranges.{IsRelocSized, IsSectionSized}
-use Rattle.elf32_write.specs.Writable.{IsWritableSection}
+use Rattle.elf32_write.proofs.SoundParts.{IsSoundSection}
 use Rattle.sound_objects.specs.Fragments.{Fragment, relocs_at, relocs_from}
 use Rattle.sound_objects.proofs.FragmentLaws.{bytes_sized, size_words}
 use Rattle.load_maker.specs.Objects.{result_section, symbol_of, text_section_of}
@@ -45,12 +45,11 @@ module _ (n others : ℕ) (defined : List ℕ) (statements : List Statement) (ri
           All-from_recursion (λ (r : Reloc). r.symbol < m) (relocs_at at (Some (reloc_to 18 (symbol i)))) (omega (arith, has.2, slice_get_within named has.0 i has.1, most), tt)
       each at front (WithAddress kind i) back split = All-from_recursion (λ (r : Reloc). r.symbol < m) (relocs_at at (Some (reloc_to kind 1))) (some, tt)
 
-  pub text_writable : (m : ℕ) → 1 < m → 1 + others + length named ≤ m → IsWritableSection m (text_section_of others named statements)
+  pub text_writable : (m : ℕ) → 1 < m → 1 + others + length named ≤ m → IsSoundSection 0 m (text_section_of others named statements)
   text_writable m some most = record {
     name = refl;
     kind = refl;
     plain = refl;
-    long = refl;
     bytes = bytes_sized fragments;
     kept = λ kept. record {
       kind = refl;
@@ -68,12 +67,11 @@ module _ (n others : ℕ) (defined : List ℕ) (statements : List Statement) (ri
   pub text_relocs_sized : code_size statements < 2 ^ 32 → All IsRelocSized (text_section_of others named statements).relocs
   text_relocs_sized small = relocs_sized symbol n 0 statements (omega (arith, small)) right
 
-pub result_writable : (m : ℕ) → IsWritableSection m result_section
+pub result_writable : (m : ℕ) → IsSoundSection 0 m result_section
 result_writable m = record {
   name = refl;
   kind = refl;
   plain = refl;
-  long = refl;
   bytes = refl;
   kept = λ kept. record { kind = refl; shared = refl; align = align_data; code = λ code. absurd cc };
   dropped = λ dropped. absurd cc;

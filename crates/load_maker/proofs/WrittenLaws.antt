@@ -8,9 +8,10 @@ use Rattle.std.proofs.lemmas.List.FromFn.{length-range_with_len}
 use Rattle.std.proofs.lemmas.List.Sums.{sum_by-cons}
 use Rattle.elf32_read.specs.Parts.{ObjectParts, SectionParts, SymbolParts}
 use Rattle.elf32_write.specs.ObjectFile.{object_size}
-use Rattle.elf32_write.specs.Ranges.{IsRelocSized, IsSectionSized, IsSymbolSized}
-use Rattle.elf32_write.specs.Writable.{IsWritableSection, IsWritableSymbol}
+use Rattle.elf32_write.specs.Ranges.{IsPartsSized, IsRelocSized, IsSectionSized, IsSymbolSized}
+use Rattle.elf32_write.proofs.SoundParts.{AreSoundParts, IsSoundSection, IsSoundSymbol}
 use Rattle.sound_objects.specs.Parts.{CanBeWritten}
+use Rattle.sound_objects.proofs.PartsLaws.{sound_written}
 use Rattle.sound_objects.proofs.FragmentLaws.{bytes_sized}
 use Rattle.sound_objects.proofs.SizeLaws.{bytes_room, count_most, rela_name_room, relocs_room, section_name_room, size_most, symbol_name_room}
 use Rattle.load_maker.specs.Functions.{functions_from}
@@ -103,51 +104,56 @@ module _ (number n : ℕ) (few : n ≤ FUNCTION_LIMIT) where
         names_short (code_size statements) others start_others,
       )
 
-  pub start_written : CanBeWritten (start_object number n)
-  start_written =
+  start_sound : AreSoundParts (start_object number n)
+  start_sound =
       let p = start_object number n in
       let m : ℕ = 1 + length p.symbols in
       let many = length-map named undefined_symbol in
+      record {
+        flags = refl;
+        sections = All-from_recursion (IsSoundSection 0 m) p.sections (text_writable n 2 [] statements right m (omega arith) (omega (arith, many)), (result_writable m, tt));
+        symbols =
+            All-cons (IsSoundSymbol p) result_symbol (start_symbol ∷ others) (record {
+              name = refl;
+              bind = omega arith;
+              kind = omega arith;
+              other_kind = refl;
+              local = refl;
+              home = home_small p result_symbol (omega arith);
+              common = λ e. absurd (omega (arith, e));
+              within = λ kept. omega arith;
+            })
+            (All-cons (IsSoundSymbol p) start_symbol others (record {
+              name = refl;
+              bind = omega arith;
+              kind = omega arith;
+              other_kind = refl;
+              local = refl;
+              home = home_small p start_symbol (omega arith);
+              common = λ e. absurd (omega (arith, e));
+              within = λ kept. omega arith;
+            })
+            (All-weaker (IsOfFunction (code_size statements)) (IsSoundSymbol p)
+            (λ s is. function_writable (code_size statements) s p text (result_section ∷ []) refl (code_sized (symbol_of 2 named) statements) is) others start_others));
+        count = omega (arith, count_most p.sections p.symbols);
+        size = omega (arith, start_short);
+      }
+
+  start_sized : IsPartsSized (start_object number n).sections (start_object number n).symbols
+  start_sized =
+      let p = start_object number n in
       let small : code_size statements < 2 ^ 32 = omega (arith, size, few) in
       record {
-        writable = record {
-          flags = refl;
-          sections = All-from_recursion (IsWritableSection m) p.sections (text_writable n 2 [] statements right m (omega arith) (omega (arith, many)), (result_writable m, tt));
-          symbols =
-              All-cons (IsWritableSymbol p) result_symbol (start_symbol ∷ others) (record {
-                name = refl;
-                bind = omega arith;
-                kind = omega arith;
-                other_kind = refl;
-                local = refl;
-                home = home_small p result_symbol (omega arith);
-                common = λ e. absurd (omega (arith, e));
-                within = λ kept. omega arith;
-              })
-              (All-cons (IsWritableSymbol p) start_symbol others (record {
-                name = refl;
-                bind = omega arith;
-                kind = omega arith;
-                other_kind = refl;
-                local = refl;
-                home = home_small p start_symbol (omega arith);
-                common = λ e. absurd (omega (arith, e));
-                within = λ kept. omega arith;
-              })
-              (All-weaker (IsOfFunction (code_size statements)) (IsWritableSymbol p)
-              (λ s is. function_writable (code_size statements) s p text (result_section ∷ []) refl (code_sized (symbol_of 2 named) statements) is) others start_others));
-          count = omega (arith, count_most p.sections p.symbols);
-          size = omega (arith, start_short);
-        };
-        sized = record {
-          sections_sized = All-from_recursion IsSectionSized p.sections (text_sized n 2 [] statements right small, (result_sized, tt));
-          relocs_sized = All-from_recursion (λ (s : SectionParts). All IsRelocSized s.relocs) p.sections (text_relocs_sized n 2 [] statements right small, (All-nil IsRelocSized, tt));
-          symbols_sized =
-              All-cons IsSymbolSized result_symbol (start_symbol ∷ others) (record { value = omega arith; size = omega arith })
-              (All-cons IsSymbolSized start_symbol others (record { value = omega arith; size = omega arith })
-              (All-weaker (IsOfFunction (code_size statements)) IsSymbolSized (λ s is. function_sized (code_size statements) s small is) others start_others));
-        };
+        sections_sized = All-from_recursion IsSectionSized p.sections (text_sized n 2 [] statements right small, (result_sized, tt));
+        relocs_sized = All-from_recursion (λ (s : SectionParts). All IsRelocSized s.relocs) p.sections (text_relocs_sized n 2 [] statements right small, (All-nil IsRelocSized, tt));
+        symbols_sized =
+            All-cons IsSymbolSized result_symbol (start_symbol ∷ others) (record { value = omega arith; size = omega arith; home = omega arith })
+            (All-cons IsSymbolSized start_symbol others (record { value = omega arith; size = omega arith; home = omega arith })
+            (All-weaker (IsOfFunction (code_size statements)) IsSymbolSized (λ s is. function_sized (code_size statements) s small is) others start_others));
       }
+
+  pub start_written : CanBeWritten (start_object number n)
+  start_written = sound_written (start_object number n) start_sound start_sized
 
 -- ---- the others
 
@@ -211,29 +217,35 @@ module _ (number n k : ℕ) (few : n ≤ FUNCTION_LIMIT) (within : k < group_cou
         names_short (code_size code) (own ++ called) group_symbols,
       )
 
-  pub group_written : CanBeWritten (group_object (functions_from n 0 number) k)
-  group_written =
+  group_sound : AreSoundParts (group_object (functions_from n 0 number) k)
+  group_sound =
       let p = group_object (functions_from n 0 number) k in
       let m : ℕ = 1 + length (own ++ called) in
       let some : 1 < m = omega (arith, group_many, (are_named n (8 * k) (length bodies) code group_right).long, group_long number n k, within) in
+      let defined = range_with_len (8 * k) (length bodies) in
+      record {
+        flags = refl;
+        sections = All-from_recursion (IsSoundSection 0 m) p.sections (text_writable n 0 defined code group_right m some (omega (arith, group_many)), tt);
+        symbols =
+            All-weaker (IsOfFunction (code_size code)) (IsSoundSymbol p)
+            (λ s is. function_writable (code_size code) s p group_text [] refl (code_sized (symbol_of 0 group_named) code) is) (own ++ called) group_symbols;
+        count = omega (arith, count_most p.sections p.symbols);
+        size = omega (arith, group_size);
+      }
+
+  group_sized : IsPartsSized (group_object (functions_from n 0 number) k).sections (group_object (functions_from n 0 number) k).symbols
+  group_sized =
+      let p = group_object (functions_from n 0 number) k in
       let small : code_size code < 2 ^ 32 = omega (arith, group_short number n k) in
       let defined = range_with_len (8 * k) (length bodies) in
       record {
-        writable = record {
-          flags = refl;
-          sections = All-from_recursion (IsWritableSection m) p.sections (text_writable n 0 defined code group_right m some (omega (arith, group_many)), tt);
-          symbols =
-              All-weaker (IsOfFunction (code_size code)) (IsWritableSymbol p)
-              (λ s is. function_writable (code_size code) s p group_text [] refl (code_sized (symbol_of 0 group_named) code) is) (own ++ called) group_symbols;
-          count = omega (arith, count_most p.sections p.symbols);
-          size = omega (arith, group_size);
-        };
-        sized = record {
-          sections_sized = All-from_recursion IsSectionSized p.sections (text_sized n 0 defined code group_right small, tt);
-          relocs_sized = All-from_recursion (λ (s : SectionParts). All IsRelocSized s.relocs) p.sections (text_relocs_sized n 0 defined code group_right small, tt);
-          symbols_sized = All-weaker (IsOfFunction (code_size code)) IsSymbolSized (λ s is. function_sized (code_size code) s small is) (own ++ called) group_symbols;
-        };
+        sections_sized = All-from_recursion IsSectionSized p.sections (text_sized n 0 defined code group_right small, tt);
+        relocs_sized = All-from_recursion (λ (s : SectionParts). All IsRelocSized s.relocs) p.sections (text_relocs_sized n 0 defined code group_right small, tt);
+        symbols_sized = All-weaker (IsOfFunction (code_size code)) IsSymbolSized (λ s is. function_sized (code_size code) s small is) (own ++ called) group_symbols;
       }
+
+  pub group_written : CanBeWritten (group_object (functions_from n 0 number) k)
+  group_written = sound_written (group_object (functions_from n 0 number) k) group_sound group_sized
 
 -- ---- all of them
 

@@ -5,6 +5,7 @@ ghost use Rattle.elf32_write.specs.Writable.{IsWritable};
 
 use crate::fixture::bytes_of;
 use elf32_read::header::SectionHeader;
+use elf32_read::object::Object;
 use elf32_read::reloc::Reloc;
 use elf32_read::symbol_entry::SymbolEntry;
 use elf32_write::object_parts::{ObjectParts, PartSection, PartSymbol};
@@ -179,6 +180,56 @@ fn mixed(alloc: Global) -> Result<ObjectParts, AllocError>
         sections: vec![in alloc; text, zeros, data]?,
         symbols: vec![in alloc; x, f, code]?,
     })
+}
+
+// Code of six bytes in an object with compressed code, e_flags 1: `c.li a0,5` and `li a7,93`.
+const COMPRESSED: &str = "
+7f454c46010101 00*9
+0100 f300 01000000 00*8 74000000 01000000
+3400 00*4 2800 0500 0400
+15459308d005 00*2
+00*16
+00*4
+00 =.text =.symtab =.strtab =.shstrtab 00*3
+00*40
+01000000 01000000 06000000 00*4 34000000 06000000 00*8 02000000 00*4
+07000000 02000000 00*8 3c000000 10000000 03000000 01000000 04000000 10000000
+0f000000 03000000 00*8 4c000000 01000000 00*8 01000000 00*4
+17000000 03000000 00*8 50000000 21000000 00*8 01000000 00*4";
+
+// The code of that object.
+const SHORT: [u8; 6] = [0x15, 0x45, 0x93, 0x08, 0xD0, 0x05];
+
+fn compressed(alloc: Global) -> Result<ObjectParts, AllocError>
+    ensures { IfOk result (λ parts. IsWritable parts) }
+{
+    let text = section(alloc, b".text", header(1, 6, 2, 6), &SHORT, &[])?;
+    Ok(ObjectParts {
+        flags: 1,
+        sections: vec![in alloc; text]?,
+        symbols: Vec::new(alloc),
+    })
+}
+
+#[test]
+fn compressed_code_of_six_bytes_is_written_and_read_back(rt: HostRuntime) -> Result<(), Fail> {
+    let parts = compressed(rt.alloc())?;
+    let file = write_object(rt.alloc(), &parts)?;
+    assert!(rt; file == bytes_of(rt.alloc(), COMPRESSED)?);
+    let object = Object::read(&file).map_err(|_| "has a fault")?;
+    assert_eq!(rt;
+        (
+            object.flags(),
+            object.section_count(),
+            object.symbol_count()
+        ),
+        (1, 5, 1)
+    );
+    let text = object.section(1);
+    assert!(rt;
+        text.name == b".text".as_slice() && text.size == 6 && text.bytes == SHORT.as_slice()
+    );
+    Ok(())
 }
 
 #[test]

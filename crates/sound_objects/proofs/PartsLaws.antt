@@ -1,11 +1,11 @@
 -- The files of parts: they read as the parts, with section 0 and symbol 0 before and what is added behind, and are sound if what is
 -- said of the parts holds.
 use Rattle.std.proofs.Common.{◌≡◌, ℕ, zero, suc, ◌+◌, ◌<◌, List, [], ◌∷◌, ◌++◌, length, map, true, false, Option, Some, None, slice_get, refl, sym, ap, subst, ◌∙◌, arith}
-use Rattle.std.specs.Prelude.{All}
+use Rattle.std.specs.Prelude.{◌||◌, All}
 use Rattle.std.specs.List.{list_any, sum_by}
 use Rattle.std.specs.Option.{option_and_then, option_map}
 use Rattle.std.proofs.lemmas.Bool.{or_parts}
-use Rattle.std.proofs.lemmas.List.{length-map}
+use Rattle.std.proofs.lemmas.List.{length-map, map-append}
 use Rattle.std.proofs.lemmas.List.Elements.{All-head, All-map, All-tail, All-weaker}
 use Rattle.std.proofs.lemmas.List.Sums.{sum_by-append, sum_by-cons}
 use Rattle.std.proofs.lemmas.Option.{slice_get-map, slice_get_within}
@@ -15,9 +15,12 @@ use Rattle.elf32_read.specs.Object.{object_fault}
 use Rattle.elf32_read.specs.Parts.{ObjectParts, SectionParts, SymbolParts, is_code_section, is_kept_section, object_parts, section_parts}
 use Rattle.elf32_write.specs.FileSections.{FileSection, added_sections}
 use Rattle.elf32_write.specs.ObjectFile.{object_bytes, object_size}
-use Rattle.elf32_write.specs.Writable.{IsObjectOf, added_part, added_parts, null_part}
+use Rattle.elf32_write.specs.Ranges.{IsPartsSized}
+use Rattle.elf32_write.specs.Writable.{IsObjectOf, added_part, added_parts, in_object, null_part}
 use Rattle.elf32_write.proofs.FileHeaderBack.{length-object_bytes}
 use Rattle.elf32_write.proofs.ObjectBack.{object_back}
+use Rattle.elf32_write.proofs.SoundBack.{sound_readable, sound_writable}
+use Rattle.elf32_write.proofs.SoundParts.{AreSoundParts}
 use Rattle.psabi_sym.specs.Data.{role_of}
 use Rattle.psabi_sym.specs.Faults.{code_room, common_room, data_room, gather_fault, object_code, object_data}
 use Rattle.psabi_sym.specs.Indexed.{IndexedSection, symbol_at}
@@ -34,9 +37,13 @@ use Rattle.sound_objects.proofs.ListLaws.{all_at}
 
 -- ---- reading back
 
+-- parts whose file has no fault, section by section and symbol by symbol, can be written
+pub sound_written : (p : ObjectParts) → AreSoundParts p → IsPartsSized p.sections p.symbols → CanBeWritten p
+sound_written p sound sized = record { writable = sound_writable p sound sized; flags = (sound_readable p sound sized).flags; sized = sized }
+
 -- a file of parts that can be written is an object of them
 pub written_object : (p : ObjectParts) → CanBeWritten p → IsObjectOf p (object_bytes p)
-written_object p can = object_back p can.writable can.sized
+written_object p can = object_back p can.writable can.flags can.sized
 
 pub reads_as : (p : ObjectParts) → CanBeWritten p → object_parts (object_bytes p) ≡ read_of p
 reads_as p can =
@@ -70,18 +77,28 @@ none_roomy room none (s ∷ ss) dropped =
     let two = or_parts (is_kept_section s) (list_any is_kept_section ss) dropped in
     omega (arith, sum_by-cons room s ss, none s two.0, none_roomy room none ss two.1)
 
-null_dropped : is_kept_section null_part ≡ false
-null_dropped = refl
+-- a section is kept whatever its object's flags are
+kept_same : (flags : ℕ) (ss : List SectionParts) → list_any is_kept_section (map (in_object flags) ss) ≡ list_any is_kept_section ss
+kept_same flags [] = refl
+kept_same flags (s ∷ ss) = ap (λ b. is_kept_section s || b) (kept_same flags ss)
+
+-- what is added is dropped
+added_dropped : (p : ObjectParts) → CanBeWritten p → list_any is_kept_section (map (in_object p.flags) (added_parts p)) ≡ false
+added_dropped p can = kept_same p.flags (added_parts p) ∙ (written_object p can).dropped
 
 -- so the sections of a file have the room of the given ones
-given_room : (room : SectionParts → ℕ) → ((s : SectionParts) → is_kept_section s ≡ false → room s ≡ 0) → (p : ObjectParts) → CanBeWritten p → sum_by room (read_of p).sections ≡ sum_by room p.sections
+given_room : (room : SectionParts → ℕ) → ((s : SectionParts) → is_kept_section s ≡ false → room s ≡ 0) → (p : ObjectParts) → CanBeWritten p
+    → sum_by room (read_of p).sections ≡ sum_by room (map (in_object p.flags) p.sections)
 given_room room none p can =
+    let put = in_object p.flags in
+    let null = put null_part in
     omega (
       arith,
-      sum_by-cons room null_part (p.sections ++ added_parts p),
-      sum_by-append room p.sections (added_parts p),
-      none null_part null_dropped,
-      none_roomy room none (added_parts p) (written_object p can).dropped,
+      sum_by-cons room null (map put (p.sections ++ added_parts p)),
+      ap (sum_by room) (map-append put p.sections (added_parts p)),
+      sum_by-append room (map put p.sections) (map put (added_parts p)),
+      none null refl,
+      none_roomy room none (map put (added_parts p)) (added_dropped p can),
     )
 
 code_is : (p : ObjectParts) → CanBeWritten p → object_code (object_parts (object_bytes p)) ≡ parts_code p
@@ -107,7 +124,7 @@ sum_same f g same (p ∷ parts) all =
 
 -- a section of what the files read as: a given one, or one that is dropped and has no relocations
 pub data IsSectionIn (parts : List ObjectParts) (l : IndexedSection) : Type 0 where
-  Given : (p : ObjectParts) (k : ℕ) → slice_get parts l.object ≡ Some p → l.index ≡ suc k → slice_get p.sections k ≡ Some l.section → IsSectionIn parts l
+  Given : (p : ObjectParts) (k : ℕ) → slice_get parts l.object ≡ Some p → l.index ≡ suc k → slice_get (map (in_object p.flags) p.sections) k ≡ Some l.section → IsSectionIn parts l
   Bare : is_kept_section l.section ≡ false → l.section.relocs ≡ [] → IsSectionIn parts l
 
 -- an element of two lists
@@ -131,10 +148,10 @@ dropped_at (t ∷ ss) zero s dropped at =
     ap is_kept_section (sym same) ∙ (or_parts (is_kept_section t) (list_any is_kept_section ss) dropped).0
 dropped_at (t ∷ ss) (suc j) s dropped at = dropped_at ss j s (or_parts (is_kept_section t) (list_any is_kept_section ss) dropped).1 at
 
-bare_at : (fs : List FileSection) (j : ℕ) (s : SectionParts) → slice_get (map added_part fs) j ≡ Some s → s.relocs ≡ []
-bare_at [] j s at = absurd cc
-bare_at (f ∷ fs) zero s at = let same : added_part f ≡ s = cc in ap (λ (t : SectionParts). t.relocs) (sym same)
-bare_at (f ∷ fs) (suc j) s at = bare_at fs j s at
+bare_at : (flags : ℕ) (fs : List FileSection) (j : ℕ) (s : SectionParts) → slice_get (map (in_object flags) (map added_part fs)) j ≡ Some s → s.relocs ≡ []
+bare_at flags [] j s at = absurd cc
+bare_at flags (f ∷ fs) zero s at = let same : in_object flags (added_part f) ≡ s = cc in ap (λ (t : SectionParts). t.relocs) (sym same)
+bare_at flags (f ∷ fs) (suc j) s at = bare_at flags fs j s at
 
 -- an object of what the files read as is one of the parts
 part_at : (parts : List ObjectParts) (o : ℕ) {X : Type 0} (f : ObjectParts → Option X) (x : X) → option_and_then f (slice_get (map read_of parts) o) ≡ Some x
@@ -154,15 +171,21 @@ section_in parts all l has = of_part own.0 own.1 l.index refl own.2
 
     of_part : (p : ObjectParts) → slice_get parts l.object ≡ Some p → (i : ℕ) → l.index ≡ i → slice_get (read_of p).sections i ≡ Some l.section → IsSectionIn parts l
     of_part p at zero index is =
-        let same : null_part ≡ l.section = cc in
+        let same : in_object p.flags null_part ≡ l.section = cc in
         Bare (ap is_kept_section (sym same)) (ap (λ (s : SectionParts). s.relocs) (sym same))
-    of_part p at (suc k) index is = by (one_of p.sections (added_parts p) k l.section is)
+    of_part p at (suc k) index is = by (one_of given added k l.section (ap (λ ss. slice_get ss k) (sym (map-append (in_object p.flags) p.sections (added_parts p))) ∙ is))
       where
-        by : IsOneOf p.sections (added_parts p) k l.section → IsSectionIn parts l
+        given : List SectionParts
+        given = map (in_object p.flags) p.sections
+
+        added : List SectionParts
+        added = map (in_object p.flags) (added_parts p)
+
+        by : IsOneOf given added k l.section → IsSectionIn parts l
         by (OfFirst found) = Given p k at index found
         by (OfSecond j found) =
-            Bare (dropped_at (added_parts p) j l.section (written_object p (all_at CanBeWritten parts l.object p all at)).dropped found)
-            (bare_at (added_sections p.sections p.symbols) j l.section found)
+            Bare (dropped_at added j l.section (added_dropped p (all_at CanBeWritten parts l.object p all at)) found)
+            (bare_at p.flags (added_sections p.sections p.symbols) j l.section found)
 
 -- symbols other than symbol 0 are given
 pub symbol_in : (parts : List ObjectParts) (o i : ℕ) (s : SymbolParts) → symbol_at (map read_of parts) o (suc i) ≡ Some s

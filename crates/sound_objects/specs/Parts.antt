@@ -1,12 +1,12 @@
 -- The files of parts, and what it takes for them to have none of the faults, said of the parts.
-use Rattle.std.specs.Prelude.{◌≡◌, ◌≤◌, ◌+◌, ℕ, List, ◌∷◌, ◌++◌, length, map, All, Some, None}
+use Rattle.std.specs.Prelude.{◌≡◌, ◌≤◌, ◌<◌, ◌+◌, ◌^◌, ℕ, List, ◌∷◌, ◌++◌, length, map, All, Some, None}
 use Rattle.std.specs.List.{sum_by}
 use Rattle.zc_base.specs.declared.mem_map.MemMap.{MemMap}
 use Rattle.zc_base.specs.declared.place.Place.{Place}
 use Rattle.elf32_read.specs.Parts.{ObjectParts}
 use Rattle.elf32_write.specs.ObjectFile.{object_bytes, object_size}
 use Rattle.elf32_write.specs.Ranges.{IsPartsSized}
-use Rattle.elf32_write.specs.Writable.{IsWritable, added_parts, null_part, null_symbol_part}
+use Rattle.elf32_write.specs.Writable.{IsWritable, added_parts, in_object, null_part, null_symbol_part}
 use Rattle.psabi_sym.specs.Faults.{code_room, common_room, data_room, gather_fault, most_objects}
 use Rattle.psabi_sym.specs.Inputs.{Inputs, ParsedInputs}
 use Rattle.psabi_sym.specs.declared.sums.Sums.{Sums}
@@ -18,6 +18,7 @@ use Rattle.sound_objects.specs.WellFormed.{AllBranchesReach, AllRelocsAreRight, 
 -- parts that can be written, whose numbers have room in their fields
 pub record CanBeWritten (p : ObjectParts) : Type 0 where
   pub writable : IsWritable p
+  pub flags : p.flags < 2 ^ 32
   pub sized : IsPartsSized p.sections p.symbols
 
 -- the files of parts, in order, and a map
@@ -28,7 +29,7 @@ files_of memory parts = record { files = map object_bytes parts; map = memory }
 abbrev pub read_of : ObjectParts → ObjectParts
 read_of p = record {
   flags = p.flags;
-  sections = null_part ∷ p.sections ++ added_parts p;
+  sections = map (in_object p.flags) (null_part ∷ p.sections ++ added_parts p);
   symbols = null_symbol_part ∷ p.symbols;
 }
 
@@ -40,10 +41,10 @@ objects_of memory parts = record { objects = map read_of parts; map = memory }
 
 -- the room of parts in code, and in data: what is added has none
 abbrev pub parts_code : ObjectParts → ℕ
-parts_code p = sum_by code_room p.sections
+parts_code p = sum_by code_room (map (in_object p.flags) p.sections)
 
 abbrev pub parts_data : ObjectParts → ℕ
-parts_data p = sum_by data_room p.sections + sum_by common_room p.symbols
+parts_data p = sum_by data_room (map (in_object p.flags) p.sections) + sum_by common_room p.symbols
 
 -- the sums over files
 abbrev pub parts_sums : List ObjectParts → Sums

@@ -26,7 +26,8 @@ loop-symbol-preserved c =
     let z = c.in_ok-push_symbol-2.ensures.sized in
     let value = ap (λ v. v.value) c.symbol.view_is in
     let size = ap (λ v. v.size) c.symbol.view_is in
-    let sized : IsSymbolSized s = record { value = omega (arith, z.value, value); size = omega (arith, z.size, size) } in (
+    let home = ap (λ v. v.home) c.symbol.view_is in
+    let sized : IsSymbolSized s = record { value = omega (arith, z.value, value); size = omega (arith, z.size, size); home = omega (arith, z.home, home) } in (
       names ∙ ap (λ l. name_table (strtab_names l)) (sym more),
       (
         entries ∙ ap (λ l. flat_map symbol_bytes (written_entries l)) (sym more),

@@ -1,4 +1,4 @@
-use Rattle.std.proofs.Common.{◌≡◌, ℕ, subst, ◌+◌, ◌++◌, [], List, length, sym, ap, ◌∙◌, arith, append_assoc, rules}
+use Rattle.std.proofs.Common.{◌≡◌, ℕ, subst, ◌<◌, ◌^◌, ◌+◌, ◌++◌, [], List, length, sym, ap, ◌∙◌, arith, append_assoc, rules}
 use Rattle.std.specs.List.{flat_map}
 use Rattle.elf32_read.specs.Parts.{ObjectParts, SectionParts, SymbolParts}
 use Rattle.elf32_write.specs.Image.{section_bytes}
@@ -10,7 +10,7 @@ use Rattle.elf32_write.specs.Writable.{IsObjectOf}
 use Rattle.elf32_write.proofs.ObjectBack.{object_back}
 use Rattle.elf32_write.specs.declared.section_table.SectionTable.{SectionTable}
 use Rattle.elf32_write.proofs.Stages.{length-each_after}
-use Rattle.elf32_write.proofs.WritableRoom.{writable_fits}
+use Rattle.elf32_write.proofs.WritableRoom.{writable_fits, writable_size}
 use Rattle.elf32_write.proofs.write_object.write_object.Goals as goal
 
 -- the table holds the sections of the parts
@@ -25,6 +25,35 @@ sections_of-requires c =
     let sections = c.deref.ensures.value ∙ ap (λ p. p.sections) c.parts.view_is in
     let symbols = c.deref-2.ensures.value ∙ ap (λ p. p.symbols) c.parts.view_is in
     rw (sections, symbols) (writable_fits c.args.parts.now c.requires)
+
+pub overflow_cast-headers_offset : goal.overflow_cast-headers_offset
+overflow_cast-headers_offset c =
+    let p = c.args.parts.now in
+    let sections = c.deref.ensures.value ∙ ap (λ q. q.sections) c.parts.view_is in
+    let symbols = c.deref-2.ensures.value ∙ ap (λ q. q.symbols) c.parts.view_is in
+    let held = table_held p _ _ c.in_ok-table.table sections symbols c.in_ok-table.ensures.held in
+    let long : c.len.result ≡ length c.in_ok-table.table.contents.items = search rules in
+    omega (arith, long, ap length held.contents_held, writable_size p c.requires)
+
+pub overflow_add-headers_offset : goal.overflow_add-headers_offset
+overflow_add-headers_offset c =
+    let p = c.args.parts.now in
+    let sections = c.deref.ensures.value ∙ ap (λ q. q.sections) c.parts.view_is in
+    let symbols = c.deref-2.ensures.value ∙ ap (λ q. q.symbols) c.parts.view_is in
+    let held = table_held p _ _ c.in_ok-table.table sections symbols c.in_ok-table.ensures.held in
+    let long : c.len.result ≡ length c.in_ok-table.table.contents.items = search rules in
+    omega (arith, long, ap length held.contents_held, writable_size p c.requires)
+
+pub overflow_add-size : goal.overflow_add-size
+overflow_add-size c =
+    let p = c.args.parts.now in
+    let sections = c.deref.ensures.value ∙ ap (λ q. q.sections) c.parts.view_is in
+    let symbols = c.deref-2.ensures.value ∙ ap (λ q. q.symbols) c.parts.view_is in
+    let held = table_held p _ _ c.in_ok-table.table sections symbols c.in_ok-table.ensures.held in
+    let long : c.len.result ≡ length c.in_ok-table.table.contents.items = search rules in
+    let many : c.len-2.result ≡ length c.in_ok-table.table.headers.items = search rules in
+    let headers = length-each_after written_header [] (file_sections p.sections p.symbols) in
+    omega (arith, long, many, ap length held.contents_held, ap length held.headers_held, headers, writable_size p c.requires)
 
 pub overflow_cast-len : goal.overflow_cast-len
 overflow_cast-len c =
@@ -50,7 +79,7 @@ returns-clause-bytes c =
     let flags = ap (λ q. q.flags) c.parts.view_is in
     let contents_are = c.deref-3.ensures.value ∙ held.contents_held in
     let headers_are = c.deref-4.ensures.value ∙ held.headers_held in
-    let header = c.in_ok-push_object_header.ensures ∙ (λ i. c.in_ok-file.ensures.items i ++ object_header (offset i) (flags i) (count i)) in
+    let header = c.in_ok-push_object_header.ensures.appended ∙ (λ i. c.in_ok-file.ensures.items i ++ object_header (offset i) (flags i) (count i)) in
     let filled = c.in_ok-extend_from_slice.ensures.items ∙ (λ i. header i ++ contents_are i) in
     c.in_ok-push_headers.ensures ∙ (λ i. filled i ++ flat_map section_bytes (headers_are i))
     ∙ append_assoc (object_header (headers_offset p) p.flags (section_total p)) (contents all) (flat_map section_bytes (headers_for all))
@@ -61,5 +90,6 @@ returns-clause-reads_back c =
     let sections = c.deref.ensures.value ∙ ap (λ q. q.sections) c.parts.view_is in
     let symbols = c.deref-2.ensures.value ∙ ap (λ q. q.symbols) c.parts.view_is in
     let sized = parts_sized p _ _ sections symbols c.in_ok-table.ensures.sized in
+    let flags : p.flags < 2 ^ 32 = omega (arith, c.in_ok-push_object_header.ensures.sized, ap (λ q. q.flags) c.parts.view_is) in
     let IsRead : List ℕ → Type 0 = λ file. IsObjectOf p file in
-    subst IsRead (sym (returns-clause-bytes c)) (object_back p c.requires sized)
+    subst IsRead (sym (returns-clause-bytes c)) (object_back p c.requires flags sized)

@@ -1,12 +1,16 @@
--- The parts of the object can be written.
+-- The parts of the object are sound, so they can be written.
 use Rattle.std.proofs.Common.{◌≡◌, ℕ, ◌<◌, List, [], ◌∷◌, false, codes, refl, sym, ◌∙◌, lit<, lit≤, arith, subst, pos, negsuc}
 use Rattle.std.specs.Int.Count.{ones}
+use Rattle.std.specs.Prelude.{All}
 use Rattle.std.proofs.lemmas.List.Elements.{All-from_recursion}
 use Rattle.elf32_read.specs.Parts.{ObjectParts, SectionParts, SymbolParts}
 use Rattle.elf32_read.specs.declared.header.SectionHeader.{SectionHeader}
 use Rattle.elf32_read.specs.declared.reloc.Reloc.{Reloc}
 use Rattle.elf32_write.specs.FileSections.{added_sections, file_sections}
-use Rattle.elf32_write.specs.Writable.{IsWritable, IsWritableSection, IsWritableSymbol}
+use Rattle.elf32_write.specs.Ranges.{IsPartsSized, IsRelocSized, IsSectionSized, IsSymbolSized}
+use Rattle.elf32_write.specs.Writable.{IsWritable}
+use Rattle.elf32_write.proofs.SoundBack.{sound_writable}
+use Rattle.elf32_write.proofs.SoundParts.{AreSoundParts, IsSoundSection, IsSoundSymbol}
 use Rattle.object_tests.proofs.written.mixed.Goals as goal
 
 given : List ℕ → List ℕ → List Reloc → SectionHeader → SectionParts
@@ -39,16 +43,15 @@ symbols =
 parts : ObjectParts
 parts = record { flags = 0x10; sections = sections; symbols = symbols }
 
-writable : IsWritable parts
+sound : AreSoundParts parts
 unfolding ones parts sections symbols given header code code_relocs data_relocs file_sections added_sections
-writable = record {
+sound = record {
   flags = refl;
-  sections = All-from_recursion (IsWritableSection 4) sections (
+  sections = All-from_recursion (IsSoundSection 0x10 4) sections (
     record {
       name = refl;
       kind = refl;
       plain = refl;
-      long = refl;
       bytes = refl;
       kept = λ _. record { kind = refl; shared = refl; align = refl; code = λ _. record { kind = refl; read_only = refl; size = refl } };
       dropped = λ h. absurd cc;
@@ -59,7 +62,6 @@ writable = record {
         name = refl;
         kind = refl;
         plain = refl;
-        long = refl;
         bytes = refl;
         kept = λ _. record { kind = refl; shared = refl; align = refl; code = λ h. absurd cc };
         dropped = λ _. refl;
@@ -70,7 +72,6 @@ writable = record {
           name = refl;
           kind = refl;
           plain = refl;
-          long = refl;
           bytes = refl;
           kept = λ _. record { kind = refl; shared = refl; align = refl; code = λ h. absurd cc };
           dropped = λ h. absurd cc;
@@ -80,7 +81,7 @@ writable = record {
       ),
     ),
   );
-  symbols = All-from_recursion (IsWritableSymbol parts) symbols (
+  symbols = All-from_recursion (IsSoundSymbol parts) symbols (
     record { name = refl; bind = lit≤ tt; kind = lit< tt; other_kind = refl; local = refl; home = refl; common = λ h. absurd (omega (arith, h)); within = λ _. lit≤ tt },
     (
       record { name = refl; bind = lit≤ tt; kind = lit< tt; other_kind = refl; local = refl; home = refl; common = λ h. absurd (omega (arith, h)); within = λ _. lit≤ tt },
@@ -94,6 +95,23 @@ writable = record {
   size = lit≤ tt;
 }
 
+sized : IsPartsSized sections symbols
+unfolding sections symbols given header code_relocs data_relocs
+sized = record {
+  sections_sized = All-from_recursion IsSectionSized sections (
+    record { kind = lit< tt; flags = lit< tt; align = lit< tt; size = lit< tt },
+    (record { kind = lit< tt; flags = lit< tt; align = lit< tt; size = lit< tt }, (record { kind = lit< tt; flags = lit< tt; align = lit< tt; size = lit< tt }, tt)),
+  );
+  relocs_sized = All-from_recursion (λ (s : SectionParts). All IsRelocSized s.relocs) sections (
+    All-from_recursion IsRelocSized code_relocs (record { offset = lit< tt; kind = lit< tt; addend = omega arith }, (record { offset = lit< tt; kind = lit< tt; addend = omega arith }, tt)),
+    (All-from_recursion IsRelocSized [] tt, (All-from_recursion IsRelocSized data_relocs (record { offset = lit< tt; kind = lit< tt; addend = omega arith }, tt), tt)),
+  );
+  symbols_sized = All-from_recursion IsSymbolSized symbols (
+    record { value = lit< tt; size = lit< tt; home = lit< tt },
+    (record { value = lit< tt; size = lit< tt; home = lit< tt }, (record { value = lit< tt; size = lit< tt; home = lit< tt }, tt)),
+  );
+}
+
 pub returns : goal.returns
 unfolding parts sections symbols given header code code_relocs data_relocs
 returns c =
@@ -103,4 +121,4 @@ returns c =
     let all = c.in_ok-vec.ensures.items ∙ (λ i. text i ∷ zeros i ∷ data_part i ∷ []) in
     let named = c.in_ok-vec-2.ensures.items ∙ (λ i. c.in_ok-x.ensures i ∷ c.in_ok-f.ensures i ∷ c.in_ok-code.ensures i ∷ []) in
     let same : parts ≡ (record { flags = 0x10; sections = c.in_ok-vec.field-0.items; symbols = c.in_ok-vec-2.field-0.items }) = sym (λ i. record { flags = 0x10; sections = all i; symbols = named i }) in
-    subst IsWritable same writable
+    subst IsWritable same (sound_writable parts sound sized)
