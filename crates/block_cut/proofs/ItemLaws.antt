@@ -21,7 +21,7 @@ use Rattle.block_cut.specs.declared.item.Item.TheVariants.{Branch, Jump, Align}
 use Rattle.block_cut.specs.Items.{call_item, code_at, instr_item, item_at, item_in, item_under, known_item, of_instr, raw_in, raw_pair, size_on, spelled_item, starts_on, target_away, target_of, to_place, transfer_item, transfer_under}
 use Rattle.block_cut.specs.PlainLayout.{after_item, padding_of}
 use Rattle.block_cut.specs.CodeSizes.{own_size, code_step}
-use Rattle.block_cut.specs.Relocs.{field_of, fits_at, instr_in, is_bad_kind, is_filling, is_ignored, is_padding, reloc_on}
+use Rattle.block_cut.specs.Relocs.{field_of, fits_at, instr_in, is_bad_kind, is_ignored, is_padding, reloc_on}
 use Rattle.psabi_sym.proofs.BlockLaws.{aligned_up-lt}
 use Rattle.block_cut.proofs.SoundLaws.{sound_at}
 use Rattle.block_cut.proofs.CodeSizeLaws.{step_even}
@@ -93,13 +93,6 @@ padded c n is =
     powers n false e2 false e4 false e8 false e16 false e32 true e64 b128 e128 some short = (refl, ltb-true n 64 e64, omega arith)
     powers n false e2 false e4 false e8 false e16 false e32 false e64 true e128 some short = (refl, ltb-true n 128 e128, omega arith)
     powers n false e2 false e4 false e8 false e16 false e32 false e64 false e128 some short = (refl, short, omega arith)
-
-pub filling : (c : Bool) (z : ℤ) → is_padding c z ≡ true → is_filling z ≡ true
-filling c (pos n) is =
-    let two = and_parts (ltb 0 n) _ is in
-    let rest = and_parts (ltb n 256) (eqb (n % code_step c) 0) two.1 in
-    ap (λ b. b && ltb n 256) two.0 ∙ rest.0
-filling c (negsuc n) is = absurd cc
 
 -- ALIGN is the one type of its kind
 pub align_kind : (n : ℕ) → kind_of n ≡ Some kind.Align → n ≡ 43

@@ -1,5 +1,5 @@
 -- Where code lies if it is written as it is: sections one after another, each item with its own size, and padding as its place needs.
-use Rattle.std.specs.Prelude.{ℕ, ◌+◌, ◌-◌, nat_lt, max, if◌then◌else◌, List, length, map, filter, Option, Some, None}
+use Rattle.std.specs.Prelude.{ℕ, ◌+◌, ◌-◌, nat_lt, max, if◌then◌else◌, List, length, filter, Option, Some, None}
 use Rattle.std.specs.List.{fold}
 use Rattle.std.specs.Option.{option_map, option_map_or}
 use Rattle.zc_base.specs.declared.counts.Counts.{Counts}
@@ -56,12 +56,9 @@ plain_end inputs = plain_end_of inputs (all_sections inputs.objects)
 
 -- ---- places
 
--- where items start in a section before an offset, and these items
+-- where items start in a section before an offset
 abbrev pub starts_before : SectionParts → ℕ → List ℕ
 starts_before s n = filter (λ m. nat_lt m n) (starts_in s)
-
-abbrev pub items_before : ParsedInputs → IndexedSection → ℕ → List Item
-items_before inputs l n = map (λ m. item_in inputs l.section (place_of l m)) (starts_before l.section n)
 
 -- the address of a place in a section
 abbrev pub address_on : ParsedInputs → Place → SectionParts → ℕ

@@ -77,11 +77,6 @@ is_bad_kind s None = true
 is_bad_kind s (Some k) =
     not (is_code_section s) && (not (is_ignored (Some k)) && not (is_word (Some k))) || is_rvc (Some k) && not s.compressed
 
--- 1 to 255 bytes
-abbrev pub is_filling : ℤ → Bool
-is_filling (pos n) = nat_lt 0 n && nat_lt n 256
-is_filling (negsuc n) = false
-
 -- padding of so many bytes, in whole steps
 abbrev pub is_padding : Bool → ℤ → Bool
 is_padding compressed (pos n) = nat_lt 0 n && (nat_lt n 256 && (n % code_step compressed == 0))

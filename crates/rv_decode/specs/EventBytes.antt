@@ -8,14 +8,6 @@ abbrev pub bytes_to : ℕ → Event → List ℕ
 bytes_to stream (Write fd bytes) = if fd == stream then bytes else []
 bytes_to stream other = []
 
--- the bytes that events write to a stream, in order
+-- the bytes that events write to a stream, in order: standard output has the number 1, and standard error the number 2
 abbrev pub written_to : ℕ → List Event → List ℕ
 written_to stream events = flat_map (bytes_to stream) events
-
--- standard output has the number 1
-abbrev pub out_of : List Event → List ℕ
-out_of events = written_to 1 events
-
--- and standard error the number 2
-abbrev pub err_of : List Event → List ℕ
-err_of events = written_to 2 events

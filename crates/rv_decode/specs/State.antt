@@ -1,5 +1,5 @@
 -- The state of the machine that runs RV32IM and Zc.
-use Rattle.std.specs.Prelude.{◌≡◌, ℕ, ◌+◌, ◌*◌, ◌^◌, ◌<◌, ◌==◌, if◌then◌else◌, List, ◌∷◌, length, All, Option, replicate, slice_index, slice_set}
+use Rattle.std.specs.Prelude.{◌≡◌, ℕ, ◌+◌, ◌*◌, ◌^◌, ◌<◌, ◌==◌, if◌then◌else◌, List, ◌∷◌, length, Option, replicate, slice_index, slice_set}
 use Rattle.rv_decode.specs.Memory.{Region, cell_at}
 
 -- what a program does to its environment: it reads input, writes output, or exits
@@ -59,8 +59,3 @@ pub record IsCore (z : ZcCore) : Type 0 where
   pub count : length z.regs ≡ 32
   pub words : (r : ℕ) → reg_in z r < 2 ^ 32
   pub bytes : (a : ℕ) → byte_in z a < 256
-
--- and the input that is left is bytes
-pub record IsState (z : ZcState) : Type 0 where
-  pub core : IsCore z.core
-  pub input : All (λ b. b < 256) z.input

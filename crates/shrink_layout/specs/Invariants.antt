@@ -1,4 +1,5 @@
--- What the tables of the code stand for. Only invariants and proofs name these; nothing that must be believed does.
+-- What the tables of the code stand for. Invariants, contracts of what keeps or reads the tables, and proofs name these; nothing that
+-- must be believed does.
 pub mod Blocks
 pub mod Widths
 pub mod Numbers
