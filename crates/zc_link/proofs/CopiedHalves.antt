@@ -14,10 +14,10 @@ use Rattle.psabi_reloc.specs.declared.kind.RelocKind.{RelocKind}
 use Rattle.psabi_reloc.specs.declared.kind.RelocKind.TheVariants as kind
 use Rattle.rv_decode.specs.declared.instr.Instr.{Instr}
 use Rattle.rv_decode.specs.declared.instr.Instr.TheVariants as instr
-use Rattle.block_cut.specs.Items.{call_item, code_at, instr_item, item_at, item_in, item_under, known_item, of_instr, raw_in, raw_pair, size_on, spelled_item, target_away, target_of, to_place, transfer_item, transfer_under}
+use Rattle.block_cut.specs.Items.{call_item, code_at, instr_item, item_at, item_under, known_item, of_instr, raw_in, raw_pair, size_on, spelled_item, target_away, target_of, to_place, transfer_item, transfer_under}
 use Rattle.block_cut.specs.Relocs.{instr_in, reloc_on}
 use Rattle.block_cut.specs.declared.item.Item.{Item}
-use Rattle.block_cut.specs.declared.item.Item.TheVariants.{Op, Hi, Lo, PcHi, PcLo, Branch, Jump, Call, Align, Word, Raw, RawShort, RawPair}
+use Rattle.block_cut.specs.declared.item.Item.TheVariants.{PcLo, Branch, Jump, Call, Align, Word, Raw, RawShort}
 use Rattle.block_cut.proofs.ItemLaws.{item_found}
 
 module _ (bytes : List ℕ) (n : ℕ) where

@@ -1,20 +1,17 @@
 -- A push, a pop or two moves that the objects have as one halfword: the halfword is copied, and its one commit is the program's one
 -- step, whatever interrupts come before it. The program makes its instructions one after another in that step.
-use Rattle.std.proofs.Common.{◌≡◌, ℕ, ◌+◌, ◌<◌, List, [], ◌∷◌, ◌++◌, length, length-append, Option, Some, None, Ok, refl, sym, ap, ◌∙◌, subst, arith}
+use Rattle.std.proofs.Common.{◌≡◌, ℕ, ◌+◌, ◌<◌, List, [], ◌∷◌, ◌++◌, length, length-append, Option, Some, None, refl, sym, ap, ◌∙◌, subst, arith}
 use Rattle.std.specs.Option.{option_and_then}
 use Rattle.std.proofs.lemmas.List.{append-nil}
 use Rattle.std.proofs.lemmas.Option.{none-some}
 use Rattle.zc_base.specs.declared.place.Place.{Place}
 use Rattle.interrupt_plan.specs.Plan.{Interrupt}
 use Rattle.rv_decode.specs.declared.instr.Instr.{Instr}
-use Rattle.rv_decode.specs.Run.{iterate}
 use Rattle.rv_decode.specs.State.{Event, ZcCore, ZcState}
-use Rattle.rv_decode.proofs.RunLaws.{bind_ok}
 use Rattle.block_cut.specs.declared.item.Item.{Item}
 use Rattle.block_cut.specs.declared.item.Item.TheVariants.{Op, Hi, Lo, PcHi, PcLo, Branch, Jump, Call, Align, Word, Raw, RawShort, RawPair}
 use Rattle.sym_machine.specs.Change.{Change, Does, Goes, Stops, jump_does, op_does, sets}
 use Rattle.sym_machine.specs.Program.{Program}
-use Rattle.sym_machine.specs.Run.{plain_turn}
 use Rattle.sym_machine.specs.Expansions.{expansion, item_expansion}
 use Rattle.sym_machine.specs.State.{PlainCore, PlainState, reg_of}
 use Rattle.sym_machine.specs.Step.{Went, after_change, applied, in_turn}
@@ -24,7 +21,7 @@ use Rattle.sym_machine.proofs.StepLaws.{Ended, ended}
 use Rattle.zc_decode.specs.Halfwords.{decoded16}
 use Rattle.zc_decode.specs.declared.short.Short.{Short}
 use Rattle.zc_decode.specs.declared.short.Short.TheVariants.{Push}
-use Rattle.zc_link.specs.Invariants.Groups.{A0First, A1First, Ending, GoesOn, GroupKind, IsGroup, MoveOrder, MovesFromSaved, MovesToSaved, PopOf, PushOf, Returns, Slot, ZeroBeforeRaise, ZeroBeforeReturn, ZeroFirst, adjust_of, group_half, group_ops, group_rest, loads_of, move_ops, ops_before_return, pop_kind, pop_ops, push_ops, raise_sp, rest_of, return_ops, return_to_ra, zero_a0}
+use Rattle.zc_link.specs.Invariants.Groups.{Ending, GoesOn, GroupKind, IsGroup, MovesFromSaved, MovesToSaved, PopOf, PushOf, Returns, Slot, ZeroBeforeRaise, ZeroBeforeReturn, ZeroFirst, adjust_of, group_half, group_ops, group_rest, loads_of, move_ops, ops_before_return, pop_kind, pop_ops, push_ops, raise_sp, rest_of, return_ops, return_to_ra, zero_a0}
 use Rattle.zc_link.specs.Image.{Image}
 use Rattle.zc_link.specs.IsSimulation.{Comes}
 use Rattle.zc_link.specs.Invariants.Room.{Room}
@@ -34,7 +31,7 @@ use Rattle.zc_link.proofs.Commits.{zc_turns-one}
 use Rattle.zc_link.proofs.GroupEnds.{FromPlace, arrives}
 use Rattle.zc_link.proofs.InTurn.{AllDone, OneFirst, all_done, in_turn-apart, in_turn-silent, one_first, went_same}
 use Rattle.zc_link.proofs.MovePairs.{from_saved_end, moves_some, moves_straight, saved_facts, to_saved_end}
-use Rattle.zc_link.proofs.Pops.{Before, PopRun, whole_before}
+use Rattle.zc_link.proofs.Pops.{Before, whole_before}
 use Rattle.zc_link.proofs.Pushes.{Pushed, push_straight, pushed, whole_alike}
 use Rattle.zc_link.proofs.Returns.{Lands, before_straight, goes_ends, jump_lands, lands_ends, return_ended}
 use Rattle.zc_link.proofs.ExpansionKinds.{IsExpansionKind, expansion_kind, kind_at}

@@ -1,6 +1,6 @@
 -- From a sound pair, where the objects have a push, a pop or two moves as one halfword, this one instruction is left to commit, with its
 -- accesses in the stack: the program's step, whatever was written to cells of data before it, shows that the frame lies there.
-use Rattle.std.proofs.Common.{◌≡◌, ℕ, ◌+◌, ◌^◌, ◌<◌, List, [], ◌++◌, refl, sym, ap, ◌∙◌, subst, arith}
+use Rattle.std.proofs.Common.{◌≡◌, ℕ, ◌<◌, List, [], ap, ◌∙◌, subst, arith}
 use Rattle.std.specs.Prelude.{All}
 use Rattle.zc_base.specs.declared.place.Place.{Place}
 use Rattle.rv_decode.specs.declared.instr.Instr.{Instr}
@@ -13,7 +13,7 @@ use Rattle.sym_machine.proofs.RunLaws.{SteppedExpansion}
 use Rattle.zc_decode.specs.declared.short.Short.{Short}
 use Rattle.zc_decode.specs.declared.short.Short.TheVariants.{MoveAs, MoveSa, Push}
 use Rattle.zc_link.specs.DataApart.{IsCell, all_poked}
-use Rattle.zc_link.specs.Invariants.Groups.{GroupKind, IsGroup, MovesFromSaved, MovesToSaved, PopOf, PushOf, adjust_of, group_half, group_ops, group_rest, ops_before_return, pop_kind, push_ops, rest_of, return_ops}
+use Rattle.zc_link.specs.Invariants.Groups.{GroupKind, IsGroup, MovesFromSaved, MovesToSaved, PopOf, PushOf, adjust_of, group_half, group_ops, group_rest, ops_before_return, pop_kind, push_ops, return_ops}
 use Rattle.zc_link.specs.Image.{Image}
 use Rattle.zc_link.specs.Invariants.Room.{Room}
 use Rattle.zc_link.specs.Sound.{Alike, Sound}

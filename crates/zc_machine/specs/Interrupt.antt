@@ -1,7 +1,7 @@
 -- What an interrupt does. It comes before a commit: if a push or pop stands at pc, some of its accesses were done then, and it
 -- starts again afterwards (RISC-V Zc specification 1.0, "Zcmp", "PUSH/POP Fault handling" and "Software view of execution"). And
 -- it may write below the stack pointer.
-use Rattle.std.specs.Prelude.{ℕ, ◌%◌, Bool, ◌==◌, ◌&&◌, nat_lt, if◌then◌else◌, List, [], ◌∷◌, Option, Some, None, slice_get}
+use Rattle.std.specs.Prelude.{ℕ, ◌%◌, ◌==◌, ◌&&◌, nat_lt, if◌then◌else◌, List, [], ◌∷◌, Option, Some, None, slice_get}
 use Rattle.interrupt_plan.specs.Plan.{Interrupt}
 use Rattle.rv_decode.specs.Memory.{changed, extents_of, is_data, is_stack, lies_in, written}
 use Rattle.rv_decode.specs.State.{ZcCore, reg_in}
