@@ -1,5 +1,5 @@
 -- The parts of the object are sound, so they can be written.
-use Rattle.std.proofs.Common.{◌≡◌, ℕ, ◌<◌, List, [], ◌∷◌, false, codes, refl, sym, ◌∙◌, lit<, lit≤, subst}
+use Rattle.std.proofs.Common.{◌≡◌, ℕ, ◌<◌, List, [], ◌∷◌, false, codes, refl, sym, ◌∙◌, rules, lit<, lit≤, subst}
 use Rattle.std.specs.Int.Count.{ones}
 use Rattle.std.specs.Prelude.{All}
 use Rattle.std.proofs.lemmas.List.Elements.{All-from_recursion}
@@ -58,5 +58,6 @@ unfolding parts text header code
 returns c =
     let one = c.in_ok-text.ensures ∙ (λ i. text (c.header.ensures i)) in
     let all = c.in_ok-vec.ensures.items ∙ (λ i. one i ∷ []) in
-    let same : parts ≡ (record { flags = 1; sections = c.in_ok-vec.field-0.items; symbols = [] }) = sym (λ i. record { flags = 1; sections = all i; symbols = [] }) in
+    let none : c.new.result.items ≡ [] = search rules in
+    let same : parts ≡ (record { flags = 1; sections = c.in_ok-vec.field-0.items; symbols = c.new.result.items }) = sym (λ i. record { flags = 1; sections = all i; symbols = none i }) in
     subst IsWritable same (sound_writable parts sound sized)
