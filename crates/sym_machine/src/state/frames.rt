@@ -75,6 +75,7 @@ impl State {
             return self.stuck(Why::TargetUnknown);
         };
         self.restore_all(sp, frame, registers, next);
+        self.restore_ra(end, ra, to, next);
         self.clear_a0(end, next);
         let _raised = self.move_sp(top, to);
         SymStep::Done
@@ -160,19 +161,35 @@ impl State {
         self.put_bytes(a, &[word.b0, word.b1, word.b2, word.b3], next);
     }
 
-    // Registers get the words below an offset from sp, one below the other.
+    // Registers but the last, which is ra, get the words below an offset from sp, one below the other.
     fn restore_all(&mut self, sp: u32, top: u32, registers: &[u8], next: Place)
         requires running { self.old.core.exit ≡ None }
         requires stack { HasStack self.old.map sp self.old.core }
         requires known { All IsFrameRegister registers.now }
         requires reached { AreReached self.old.core sp top (length registers.now) }
         ensures runs { (self.new.core.exit ≡ None) × (self.new.map ≡ self.old.map) }
-        ensures loaded { IsLoading self.old.map sp top (length registers.now) registers.now next self.old.core
+        ensures loaded { IsLoading self.old.map sp top (length registers.now - 1) registers.now next self.old.core
             self.new.core }
     {
-        for k in 0..registers.len() {
+        for k in 0..registers.len().saturating_sub(1) {
             let r = Reg::new(registers[k]).unwrap();
             self.restore(r, sp.wrapping_add(top - 4 * (k as u32 + 1)), next);
+        }
+    }
+
+    // ra gets the word at an address. If the pop returns, that is the address of the place where it leads.
+    #[tactic(auto, using(crate::proofs::WordLaws::code_is))]
+    fn restore_ra(&mut self, end: PopEnd, a: u32, to: Place, next: Place)
+        requires running { self.old.core.exit ≡ None }
+        requires leads { frames.pop_target end (code_of (load_word LoadOp.Lw self.old.core a)) next ≡ Some to }
+        ensures made { RunsOn (applied self.old.map self.old.core (Goes (sets 1 (load_word LoadOp.Lw self.old.core a)
+            next))) [] self.old.core self.new.core }
+        ensures map { self.new.map ≡ self.old.map }
+    {
+        let ra = Reg::new(1).unwrap();
+        match end {
+            PopEnd::GoesOn => self.restore(ra, a, next),
+            PopEnd::Returns | PopEnd::ReturnsZero => self.set_code(ra, to, next),
         }
     }
 

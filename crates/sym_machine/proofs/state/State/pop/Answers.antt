@@ -16,7 +16,7 @@ use Rattle.sym_machine.specs.Step.{PlainStep, Stuck, Went, applied, in_turn}
 use Rattle.sym_machine.specs.Words.{code_of, number_word}
 use Rattle.sym_machine.specs.declared.state.frames.PopEnd.{PopEnd}
 use Rattle.sym_machine.specs.declared.why.Why.TheVariants.{StackPointer, TargetUnknown}
-use Rattle.sym_machine.proofs.FrameLaws.{loads_stuck}
+use Rattle.sym_machine.proofs.FrameLaws.{loading_more, loads_stuck}
 use Rattle.sym_machine.proofs.PushPopLaws.{is_within, list_registers, loaded_of, loaded_some, pop_goes, raise_outside, return_stuck, returns_of}
 use Rattle.zc_decode.specs.Lists.{registers_of}
 use Rattle.zc_decode.specs.Operands.{IsFrameSize}
@@ -69,6 +69,18 @@ module _ (map : MemMap) (sp frame : ℕ) (end : PopEnd) (rs : List ℕ) (next : 
       let l = loaded_of map sp frame end rs next s of.some of.last s1 z loading cleared in
       l.same ∙ pop_goes map sp frame next z l.stack of.positive inside end to s4 (ap (λ w. frames.pop_target end (code_of w) next) l.ra ∙ target) h
 
+  -- behind all other loads ra's is made
+  all_loaded : (s1 s2 : PlainCore) → IsLoading map sp frame (length rs - 1) rs next s s1
+      → applied map s1 (Goes (sets 1 (load_word Lw s1 (word_address sp frame (length rs - 1))) next)) ≡ Went s2 [] → IsLoading map sp frame (length rs) rs next s s2
+  all_loaded s1 s2 loading h =
+      let k : ℕ = length rs - 1 in
+      let some = of.some in
+      let few : k < length rs = omega (arith, some) in
+      let all : k + 1 ≡ length rs = omega (arith, some) in
+      let own : applied map s1 (Goes (sets (get_or rs k 0) (load_word Lw s1 (word_address sp frame k)) next)) ≡ Went s2 [] =
+      ap (λ r. applied map s1 (Goes (sets r (load_word Lw s1 (word_address sp frame k)) next))) of.last ∙ h in
+      subst (λ (n : ℕ). IsLoading map sp frame n rs next s s2) all (loading_more map sp frame rs next s small of.known k s1 s2 few (reached.each k few) loading own)
+
 pub returns-in-Some : goal.returns-in-Some
 returns-in-Some c =
     let first = c.args.self.now in
@@ -109,6 +121,13 @@ returns-in_default-pop_target c =
 pub restore_all-requires-clause-known : goal.restore_all-requires-clause-known
 restore_all-requires-clause-known c = subst (All IsFrameRegister) (sym c.registers-registers.ensures.value) (list_registers c.args.list)
 
+pub restore_ra-requires-clause-leads : goal.restore_ra-requires-clause-leads
+restore_ra-requires-clause-leads c =
+    let s = c.args.self.now.core in
+    let ra : ℕ = (c.sp-sp.result + (c.from-frame.result - 4 * length c.registers-registers.result.now)) % 2 ^ 32 in
+    ap (λ m. frames.pop_target c.args.end (code_of (load_word Lw (record s { memory = m }) ra)) c.args.next) c.restore_all.ensures.loaded.memory
+    ∙ sym c.pop_target.ensures ∙ c.in-Some-pop_target.is
+
 pub returns : goal.returns
 returns c =
     let first = c.args.self.now in
@@ -119,19 +138,25 @@ returns c =
     let next = c.args.next in
     let to = c.in-Some-pop_target.to in
     let s1 = c.restore_all.new.self in
+    let s2 = c.restore_ra.new.self in
     let z = c.clear_a0.new.self in
     let s4 = c.move_sp-raised.new.self.core in
     let of = is_list c.args.list c.args.adjust frame rs c.requires.size c.from-frame.ensures c.registers-registers.ensures.value in
     let inside = sym c.has_sp.ensures ∙ c.if-not-has_sp.false in
+    let map1 = c.restore_all.ensures.runs.1 in
+    let map2 : s2.map ≡ first.map = c.restore_ra.ensures.map ∙ map1 in
+    let ra_made : applied first.map s1.core (Goes (sets 1 (load_word Lw s1.core (word_address sp frame (length rs - 1))) next)) ≡ Went s2.core [] =
+    (λ j. applied (sym map1 j) s1.core (Goes (sets 1 (load_word Lw s1.core (sym (ra_at sp frame (length rs) of.some) j)) next))) ∙ c.restore_ra.ensures.made.2 in
+    let loading = all_loaded first.map sp frame c.args.end rs next s c.sp-sp.type_inv of c.sp-sp.ensures c.in_default.ensures s1.core s2.core c.restore_all.ensures.loaded ra_made in
     let target = ap (λ a. frames.pop_target c.args.end (code_of (load_word Lw s a)) next) (sym (ra_at sp frame (length rs) of.some)) ∙ sym c.pop_target.ensures ∙ c.in-Some-pop_target.is in
-    let map_z : z.map ≡ first.map = c.clear_a0.ensures.runs.1 ∙ c.restore_all.ensures.runs.1 in
+    let map_z : z.map ≡ first.map = c.clear_a0.ensures.runs.1 ∙ map2 in
     let top : ℕ = (sp + frame) % 2 ^ 32 in
     let could = c.move_sp-raised.ensures.could ∙ ap (λ (m : MemMap). is_within m top) map_z ∙ inside in
     let made = subst (λ (b : Bool). OnTrue b (RunsOn (applied z.map z.core (Goes (sets 2 (number_word top) to))) [] z.core s4)) could c.move_sp-raised.ensures.made in
     let raised : applied first.map z.core (Goes (sets 2 (number_word top) to)) ≡ Went s4 [] = ap (λ (m : MemMap). applied m z.core (Goes (sets 2 (number_word top) to))) (sym map_z) ∙ made.2 in
-    let cleared = subst (λ (m : MemMap). IsZeroed c.args.end m next s1.core z.core) c.restore_all.ensures.runs.1 c.clear_a0.ensures.zeroed in (
+    let cleared = subst (λ (m : MemMap). IsZeroed c.args.end m next s2.core z.core) map2 c.clear_a0.ensures.zeroed in (
       c.requires.running,
       made.1,
       (λ j. in_turn first.map (restores (sym c.from-frame.ensures j) (sym c.registers-registers.ensures.value j) ++ behind_loads c.args.end (sym c.from-frame.ensures j)) next s)
-          ∙ goes first.map sp frame c.args.end rs next s c.sp-sp.type_inv of c.sp-sp.ensures c.in_default.ensures s1.core z.core s4 to inside target c.restore_all.ensures.loaded cleared raised,
+          ∙ goes first.map sp frame c.args.end rs next s c.sp-sp.type_inv of c.sp-sp.ensures c.in_default.ensures s2.core z.core s4 to inside target loading cleared raised,
     )

@@ -1,5 +1,5 @@
 -- Each word that is loaded is the next one's turn.
-use Rattle.std.proofs.Common.{◌≡◌, ℕ, ◌+◌, ◌-◌, ◌*◌, ◌%◌, ◌^◌, [], Option, IfSome, sym, ◌∙◌, arith, get_or, subst}
+use Rattle.std.proofs.Common.{◌≡◌, ℕ, ◌+◌, ◌-◌, ◌*◌, ◌%◌, ◌^◌, ◌<◌, [], length, Option, IfSome, sym, ◌∙◌, arith, get_or, subst}
 use Rattle.rv_decode.specs.declared.instr.LoadOp.TheVariants.{Lw}
 use Rattle.sym_machine.specs.Change.{Goes, load_word, sets}
 use Rattle.sym_machine.specs.Invariants.Frames.{word_address}
@@ -15,7 +15,7 @@ loop-k-preserved c =
     let s = c.loop-k.self.core in
     let s' = c.restore.new.self.core in
     let k = c.loop-k.k in
-    let few = c.loop-k-test.true in
+    let few : k < length c.args.registers.now = omega (arith, c.loop-k-test.true) in
     let r : ℕ = get_or c.args.registers.now k 0 in
     let r_is : c.unwrap-r.result ≡ r = subst (λ (o : Option ℕ). IfSome o (λ n. n ≡ r)) c.unwrap-r.ensures c.new.ensures.some in
     let at : (c.args.sp + (c.args.top - 4 * (k + 1))) % 2 ^ 32 ≡ word_address c.args.sp c.args.top k = omega arith in
