@@ -55,7 +55,7 @@ example: build/zcld
 check:
 	RT_JOBS=$$(scripts/gate_jobs) $(RT) ci
 	python3 scripts/check_program crates/zcld_program/out/zcld_program
-	python3 scripts/try_planted --lines
+	python3 scripts/try_must_fail --lines
 	python3 scripts/check_documents
 	python3 scripts/count_definitions --check
 

@@ -12,14 +12,14 @@ above 1 says that the earlier program took longer, or held more.
 
     bench/chains.py --model COUNT
 
-counts the rounds of chains of COUNT words by the model in fuzz/zc_link.py, and doesn't run the program.
+counts the rounds of chains of COUNT words by the model in models/zc_link.py, and doesn't run the program.
 """
 import os
 import sys
 import tempfile
 
 sys.path.insert(0, os.path.join(os.path.dirname(os.path.abspath(__file__)), os.pardir, 'scripts'))
-sys.path.insert(0, os.path.join(os.path.dirname(os.path.abspath(__file__)), os.pardir, 'fuzz'))
+sys.path[:0] = (os.path.join(os.path.dirname(os.path.abspath(__file__)), os.pardir, it) for it in ('fuzz', 'models'))
 
 import zc_link
 from links import NOW, compared, heads_of, programs_of, text_size, words_with_before

@@ -20,7 +20,7 @@ import tempfile
 import time
 from typing import NamedTuple
 
-sys.path.insert(0, os.path.join(os.path.dirname(os.path.abspath(__file__)), os.pardir, 'scripts'))
+sys.path[:0] = (os.path.join(os.path.dirname(os.path.abspath(__file__)), os.pardir, it) for it in ('scripts', 'models'))
 
 from c_programs import (BY_CLOCK, COMPRESSED, FIRMWARE, LIBRARIES, PLAIN, ZCMP, Differs, Left, Tools, compared, keep,
                         target_of)

@@ -17,7 +17,7 @@ import subprocess
 import sys
 import tempfile
 
-sys.path.insert(0, os.path.join(os.path.dirname(os.path.abspath(__file__)), os.pardir, 'scripts'))
+sys.path[:0] = (os.path.join(os.path.dirname(os.path.abspath(__file__)), os.pardir, it) for it in ('scripts', 'models'))
 
 from zcld_tools import programs
 from zcld_tools.elf import (ABS, DATA_FLAGS, GLOBAL, HEADER, INFO_LINK, NO_TYPE, PROGBITS, RELA, RELAX, RELOCATABLE, RELOCATION, R_32,

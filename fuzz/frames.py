@@ -6,7 +6,7 @@ ends of the stack. It knows nothing of that machine: it follows the model in zc_
 import os
 import sys
 
-sys.path.insert(0, os.path.join(os.path.dirname(os.path.abspath(__file__)), os.pardir, 'scripts'))
+sys.path[:0] = (os.path.join(os.path.dirname(os.path.abspath(__file__)), os.pardir, it) for it in ('scripts', 'models'))
 
 from zc_machine import MASK, SAVED, Machine, Stopped
 from zcld_tools.images import COMPRESSED, STACK_HIGH, STACK_LOW, TEXT_AT, image_bytes

@@ -1,4 +1,4 @@
-"""The symbols that scripts/symbols gives to images, against what the objects, the images and other programs say."""
+"""The symbols that tools/symbols gives to images, against what the objects, the images and other programs say."""
 import os
 import re
 import struct
@@ -22,7 +22,7 @@ from zcld_tools.programs import Failed
 from checks.c_programs import FOLDERS, STATUSES, objects_of, read
 from checks.harness import Skipped
 
-SCRIPT = os.path.join(TOP, 'scripts/symbols')
+SCRIPT = os.path.join(TOP, 'tools/symbols')
 ODD_NAME = 'it\'s "odd" \\ @name'
 
 

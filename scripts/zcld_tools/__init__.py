@@ -5,7 +5,7 @@ images and reads the segments of executables. `instructions` puts instructions t
 writes files, `programs` runs programs and says how they ended, `allocations` refuses them memory, and `measured` measures how
 long they take.
 
-Nothing here comes from the program that is checked, so the models in fuzz/ stand on it too.
+Nothing here comes from the program that is checked, so the models in models/ stand on it too.
 """
 import os
 

@@ -1,4 +1,4 @@
-// The generated objects: a hash of the lengths and bytes of their files (FNV-1a of 64 bits), which `fuzz/made_load.py`
+// The generated objects: a hash of the lengths and bytes of their files (FNV-1a of 64 bits), which `models/made_load.py`
 // prints too.
 
 use load_maker::make_objects::make_objects;

@@ -1,6 +1,6 @@
 """Groups: items of code that one instruction of Zcmp stands for, or two (RISC-V Zc specification 1.0, "Zcmp").
 
-    fuzz/groups.py FILE...
+    models/groups.py FILE...
 
 lists the groups of the files, or says their first fault. It knows nothing of the program, so that both can be compared.
 

@@ -1,6 +1,6 @@
 """The image that `zc` makes of a list of objects without a fault, as docs/FORMATS.md and the RISC-V ELF psABI have it.
 
-    fuzz/zc_link.py OUT FILE...
+    models/zc_link.py OUT FILE...
 
 writes the image of the files under OUT, and prints the certificate of its jump table; or it says their first fault. It knows
 nothing of the program, so that both can be compared. A group (groups.py) is a piece of a fixed size, and what stands inside

@@ -1,6 +1,6 @@
 """The items of code, and the faults of relocations and of the plain layout (RISC-V ELF psABI, "Relocations").
 
-    fuzz/object_items.py FILE...
+    models/object_items.py FILE...
 
 lists the items of the files, or says their first fault. It knows nothing of the program, so that both can be compared.
 """

@@ -1,6 +1,6 @@
 """Runs a list of objects without a fault before their code has addresses, as `trace` does.
 
-    fuzz/symbolic_machine.py [--steps N] FILE...
+    models/symbolic_machine.py [--steps N] FILE...
 
 takes standard input, writes what the program writes, and ends like `trace`. It knows nothing of the program, so that both can
 be compared. A byte is a number, a part of an address of code, or undefined; a word is a number, an address of code (or an upper

@@ -1,7 +1,7 @@
 """Short forms of instructions: the halfword of Zca or Zcb that does what a word does (RISC-V unprivileged manual, "C Extension for
 Compressed Instructions"; RISC-V Zc specification 1.0, "Zcb").
 
-    fuzz/halfwords.py WORD...
+    models/halfwords.py WORD...
 
 says the short form of each word. It knows nothing of the program, so that both can be compared. The way back is in
 expansions.py.

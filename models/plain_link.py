@@ -1,6 +1,6 @@
 """The plain image of a list of objects without a fault, as docs/FORMATS.md and the RISC-V ELF psABI have it.
 
-    fuzz/plain_link.py OUT FILE...
+    models/plain_link.py OUT FILE...
 
 writes the image of the files under OUT, or says their first fault. It knows nothing of the program, so that both can be
 compared.

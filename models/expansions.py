@@ -1,7 +1,7 @@
 """The words that halfwords of Zca and Zcb stand for, one of each, and those that halfwords of Zcmp stand for, one after another
 (RISC-V unprivileged manual, "RVC Instruction Set Listings"; RISC-V Zc specification 1.0, "Zcb", "Zcmp").
 
-    fuzz/expansions.py HALFWORD...
+    models/expansions.py HALFWORD...
 
 says the words of each halfword. The way back is in halfwords.py. It knows nothing of the program, so that both can be
 compared.

@@ -1,7 +1,7 @@
 #!/usr/bin/env python3
 """The report that `zc` prints of a link, as docs/FORMATS.md has it ("The report").
 
-    fuzz/size_report.py FILE...
+    models/size_report.py FILE...
 
 prints the report of the files, or says their first fault. It knows nothing of the program, so that both can be compared: the
 counts are those of the layout in zc_link.py, and the savings, the slots and the net those of its table.

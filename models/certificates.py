@@ -2,7 +2,7 @@
 """Certificates of jump tables (docs/FORMATS.md, "The certificate"): what a text says, what its slots save, the bound by
 its prices, and whether a checker may say yes.
 
-    fuzz/certificates.py FILE...
+    models/certificates.py FILE...
 
 says of each file `net N`, `rejected`, or which line of it is bad. It knows nothing of the program, so that both can be
 compared.

@@ -1,7 +1,7 @@
 #!/usr/bin/env python3
 """The programs that `make` generates, as docs/FORMATS.md has them ("Generated objects"), and the summary of what becomes of them.
 
-    fuzz/made_load.py [--out PREFIX] NUMBER FUNCTIONS
+    models/made_load.py [--out PREFIX] NUMBER FUNCTIONS
 
 prints the summary that `make` prints, and with PREFIX writes the objects as `make` does. It knows nothing of the program, so that
 both can be compared: the objects are made by the rule, the links are those of plain_link.py and zc_link.py, and they run on

@@ -1,6 +1,6 @@
 """Runs an image under a plan of interrupts, as `run` does.
 
-    fuzz/zc_machine.py [--plan PLAN] [--steps N] IMAGE
+    models/zc_machine.py [--plan PLAN] [--steps N] IMAGE
 
 takes standard input, writes what the program writes, and ends like `run`. It knows nothing of the program, so that both can be
 compared: it follows the RISC-V unprivileged manual ("RV32I", "M", "RVC Instruction Set Listings") and the RISC-V Zc specification
