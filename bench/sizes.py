@@ -5,10 +5,10 @@
 
 The programs are those in examples/, and two larger ones in bench/sizes/: `library`, with what it needs of picolibc and libgcc,
 which Debian has for RV32IM and for RV32IMAC (objects for Zcmp get that for RV32IMAC); and `pack`, over the sources of zlib in
-FOLDER, as `apt-get source zlib` gives them. Each is compiled with -Os by GCC and by Clang, with hints for relaxation and each function in a section of its own: for
-RV32IM, and with compressed code (C, Zcb, Zcmp) as far as the compiler has it. `zcld` and the others link the same objects of
-RV32IM, the same ones with C, and the same ones with C, Zcb and Zcmp. GNU ld and LLD relax, but where a column says
-otherwise. With `gc` they leave out the sections that nothing needs; for `zcld` GNU ld does that before, in a link that keeps
+FOLDER, as `apt-get source zlib` gives them. Each is compiled with -Os by GCC and by Clang, with hints for relaxation and each
+function in a section of its own: for RV32IM, and with compressed code (C, Zcb, Zcmp) as far as the compiler has it. `zcld` and
+the others link the same objects of RV32IM, the same ones with C, and the same ones with C, Zcb and Zcmp. GNU ld and LLD relax,
+but where a column says otherwise. With `gc` they leave out the sections that nothing needs; for `zcld` GNU ld does that before, in a link that keeps
 relocations (`ld -r --gc-sections`). GNU ld and LLD put constants behind the text, and in the columns of far constants where
 `zcld` puts them. In those of GNU ld without gp nothing is called `__global_pointer$`, so that it doesn't reach data by gp, and
 all data, constants too, lie where `zcld` puts them.
@@ -213,9 +213,9 @@ TODAY = (('`zc`', 'zc', PLAIN), ('C: `zc`', 'zc', COMPRESSED), ('gc, `zc`', 'zc'
          ('gc, C: LLD', 'LLD', COMPRESSED, GC), ('gc, Zcb: LLD', 'LLD', ZCB, GC), ('gc, Zcb and Zcmp: LLD', 'LLD', ZCMP, GC))
 NO_GP = '--no-relax-gp'
 FRAMES = (('`zc`, RV32IM', 'zc', PLAIN), ('`zc`, C', 'zc', COMPRESSED), ('`zc`, Zcmp', 'zc', ZCMP), ('GNU ld, C', 'ld', COMPRESSED),
-          ('LLD without gp, Zcmp', 'LLD', ZCMP, NO_GP), ('LLD, Zcmp', 'LLD', ZCMP), ('gc, `zc`, RV32IM', 'zc', PLAIN, GC),
+          ('LLD without gp, Zcmp', 'LLD', ZCMP, NO_GP), ('LLD with gp, Zcmp', 'LLD', ZCMP), ('gc, `zc`, RV32IM', 'zc', PLAIN, GC),
           ('gc, `zc`, C', 'zc', COMPRESSED, GC), ('gc, `zc`, Zcmp', 'zc', ZCMP, GC), ('gc, GNU ld, C', 'ld', COMPRESSED, GC),
-          ('gc, LLD without gp, Zcmp', 'LLD', ZCMP, GC, NO_GP), ('gc, LLD, Zcmp', 'LLD', ZCMP, GC))
+          ('gc, LLD without gp, Zcmp', 'LLD', ZCMP, GC, NO_GP), ('gc, LLD with gp, Zcmp', 'LLD', ZCMP, GC))
 TABLES = SAME, SHORT, TODAY, FRAMES
 
 
