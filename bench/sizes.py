@@ -36,6 +36,8 @@ from zcld_tools.programs import Failed, told
 EXAMPLES, LARGER = (os.path.join(TOP, *it) for it in (('examples',), ('bench', 'sizes')))
 # The layout of what GNU ld links without gp, but for the name that it gives to what gp holds.
 OBJCOPIES = tuple(prefix + 'objcopy' for prefix in programs.PREFIXES)
+# Why `trace` may be stuck in the library.
+KNOWN_CAUSES = (b'NoInstruction', b'ConditionUnknown')
 SCRIPT, POINTER, OTHER_POINTER = os.path.join(TOP, 'fuzz', 'c_runtime', 'memory.ld'), '__global_pointer$', 'pointer'
 FIRMWARE = os.path.join(EXAMPLES, 'firmware')
 PLAIN, COMPRESSED, ZCB, ZCMP = 'rv32im', 'rv32imc', 'rv32imc_zcb', 'rv32im_zca_zcb_zcmp'
@@ -179,8 +181,8 @@ class Links:
                        for words, files in (('run', [out]), ('trace', paths)))
         if ran != traced or not ran.err.startswith(b'exited '):
             ended = f'{self.program.name}, {link}: run ends with {ran}, and trace with {traced}'
-            is_stuck = traced.err.startswith(b'stuck ') and ran.out.startswith(traced.out)
-            if not (self.program.has_library and is_stuck):
+            is_known = traced.err.startswith(b'stuck ') and traced.err.split()[-1] in KNOWN_CAUSES and ran.out.startswith(traced.out)
+            if not (self.program.has_library and is_known):
                 raise Failed(ended)
             if ended not in self.said:
                 self.said.append(ended)
