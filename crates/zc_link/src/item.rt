@@ -135,7 +135,8 @@ fn item_word<L: Layout>(layout: &L, extent: ItemExtent, item: Item) -> u32
     }
 }
 
-// What is written for an item whose instruction is known before the layout, in two bytes: its halfword, or its own.
+// The two bytes of an item whose instruction is known before the layout: its short form, if the layout writes that, or
+// else the object's own.
 fn short_code<'a, L: Layout>(layout: &L, extent: ItemExtent<'a>, item: Item) -> Code<'a>
     requires stands { StandsHere (L.layout layout.now) extent.code.now extent.at item extent.address extent.size }
     requires number { IsPlaceNumber (parsed (L.layout layout.now).inputs).objects extent.at extent.number }
