@@ -36,12 +36,12 @@ word_address sp top k = add32 sp (pos (top - 4 * (k + 1)))
 abbrev pub IsReached : PlainCore → ℕ → Type 0
 IsReached s a = (go : ℕ → Does) → accessing 4 (Some a) s go ≡ go a
 
--- so many words, from the highest down, each of which can be loaded and stored
+-- the first n words, from the highest down, can each be loaded and stored
 pub record AreReached (s : PlainCore) (sp top n : ℕ) : Type 0 where
   pub room : 4 * n ≤ top
   pub each : (k : ℕ) → k < n → IsReached s (word_address sp top k)
 
--- the first of so many words that can't be, and why
+-- the first of n words that can't be, and why
 pub record IsObstacle (s : PlainCore) (sp top n : ℕ) (why : Why) : Type 0 where
   pub at : ℕ
   pub within : at < n

@@ -1,6 +1,6 @@
 // Pushes and pops.
 
-ghost use Rattle.std.specs.Prelude.{◌≡◌, ◌≢◌, ◌∷◌, ◌++◌, ◌-◌, ◌*◌, ◌≤◌, ◌%◌, ◌&&◌, [], All, MatchOption, None, Some, length, nat_le, negsuc};
+ghost use Rattle.std.specs.Prelude.{◌≡◌, ◌≢◌, ◌∷◌, ◌++◌, ◌-◌, ◌*◌, ◌≤◌, ◌%◌, ◌&&◌, [], All, IfSome, MatchOption, None, Some, length, nat_le, negsuc};
 ghost use Rattle.rv_decode.specs.declared.instr.ImmOp.TheVariants.{Addi};
 ghost use Rattle.rv_decode.specs.declared.instr.Instr.TheVariants.{WithImm};
 ghost use Rattle.sym_machine.specs.AddressParts.{bytes_of};
@@ -11,7 +11,7 @@ ghost use Rattle.sym_machine.specs.Invariants.Frames as frames;
 ghost use Rattle.sym_machine.specs.Invariants.Frames.{AreReached, HasStack, IsFrameRegister, IsLoading, IsObstacle, IsZeroed, behind_loads};
 ghost use Rattle.sym_machine.specs.State.{reg_of};
 ghost use Rattle.sym_machine.specs.Step.{applied, in_turn};
-ghost use Rattle.sym_machine.specs.Words.{code_of, number_of};
+ghost use Rattle.sym_machine.specs.Words.{code_of, number_of, number_word};
 ghost use Rattle.zc_decode.specs.Lists.{registers_of};
 ghost use Rattle.zc_decode.specs.Operands.{IsFrameSize};
 
@@ -86,6 +86,7 @@ impl State {
     fn sp(&self) -> u32
         ensures { HasStack self.now.map result self.now.core }
     {
+        // The invariant speaks of the registers, so it is read here.
         let _ = &self.registers;
         self.memory.kept_from()
     }
@@ -98,7 +99,7 @@ impl State {
         self.memory.has_sp(sp)
     }
 
-    // Why so many words, from the highest down below an offset from sp, can't all be loaded and stored, if they can't.
+    // The first cause why `count` words, from the highest down below an offset from sp, can't be loaded and stored.
     // Most frames lie in the stack as a whole.
     fn obstacle(&self, sp: u32, top: u32, count: usize) -> Option<Why>
         requires room { 4 * count ≤ top }
@@ -149,7 +150,7 @@ impl State {
         self.save_bytes(r, a, next);
     }
 
-    // The same of any word.
+    // The word of a register, of whatever kind, goes to an address.
     #[inline(never)]
     fn save_bytes(&mut self, r: Reg, a: u32, next: Place)
         requires { self.old.core.exit ≡ None }
@@ -203,13 +204,21 @@ impl State {
             next))) [] self.old.core self.new.core }
         ensures map { self.new.map ≡ self.old.map }
     {
-        match self.loaded_number(LoadOp::Lw, a) {
+        match self.loaded_word(a) {
             Some(n) => self.set_number(r, n, next),
             None => self.restore_bytes(r, a, next),
         }
     }
 
-    // The same of what may be no number.
+    // The word at an address, if it is a number. Loads have `loaded_number` to themselves, so that it is part of their code.
+    #[inline(always)]
+    fn loaded_word(&self, a: u32) -> Option<u32>
+        ensures { IfSome result (λ n. number_word n ≡ load_word LoadOp.Lw self.now.core a) }
+    {
+        self.memory.word_at(a)
+    }
+
+    // Restores a word of any kind.
     #[inline(never)]
     fn restore_bytes(&mut self, r: Reg, a: u32, next: Place)
         requires running { self.old.core.exit ≡ None }
