@@ -1,6 +1,6 @@
 // Pushes and pops.
 
-ghost use Rattle.std.specs.Prelude.{◌≡◌, ◌≢◌, ◌∷◌, ◌++◌, ◌-◌, ◌*◌, ◌≤◌, ◌%◌, ◌&&◌, [], All, IfSome, MatchOption, None, Some, length, nat_le, negsuc};
+ghost use Rattle.std.specs.Prelude.{◌≡◌, ◌≢◌, ◌∷◌, ◌++◌, ◌-◌, ◌*◌, ◌≤◌, ◌%◌, ◌&&◌, [], All, MatchOption, None, Some, length, nat_le, negsuc};
 ghost use Rattle.rv_decode.specs.declared.instr.ImmOp.TheVariants.{Addi};
 ghost use Rattle.rv_decode.specs.declared.instr.Instr.TheVariants.{WithImm};
 ghost use Rattle.sym_machine.specs.AddressParts.{bytes_of};
@@ -11,7 +11,7 @@ ghost use Rattle.sym_machine.specs.Invariants.Frames as frames;
 ghost use Rattle.sym_machine.specs.Invariants.Frames.{AreReached, HasStack, IsFrameRegister, IsLoading, IsObstacle, IsZeroed, behind_loads};
 ghost use Rattle.sym_machine.specs.State.{reg_of};
 ghost use Rattle.sym_machine.specs.Step.{applied, in_turn};
-ghost use Rattle.sym_machine.specs.Words.{code_of, number_of, number_word};
+ghost use Rattle.sym_machine.specs.Words.{code_of, number_of};
 ghost use Rattle.zc_decode.specs.Lists.{registers_of};
 ghost use Rattle.zc_decode.specs.Operands.{IsFrameSize};
 
@@ -195,32 +195,7 @@ impl State {
     }
 
     // A register that is neither register 0 nor sp gets the word at an address.
-    #[inline(always)]
     fn restore(&mut self, r: Reg, a: u32, next: Place)
-        requires running { self.old.core.exit ≡ None }
-        requires some { r ≢ 0 }
-        requires other { r ≢ 2 }
-        ensures made { RunsOn (applied self.old.map self.old.core (Goes (sets r (load_word LoadOp.Lw self.old.core a)
-            next))) [] self.old.core self.new.core }
-        ensures map { self.new.map ≡ self.old.map }
-    {
-        match self.loaded_word(a) {
-            Some(n) => self.set_number(r, n, next),
-            None => self.restore_bytes(r, a, next),
-        }
-    }
-
-    // The word at an address, if it is a number. Loads have `loaded_number` to themselves, so that it is part of their code.
-    #[inline(always)]
-    fn loaded_word(&self, a: u32) -> Option<u32>
-        ensures { IfSome result (λ n. number_word n ≡ load_word LoadOp.Lw self.now.core a) }
-    {
-        self.memory.word_at(a)
-    }
-
-    // Restores a word of any kind.
-    #[inline(never)]
-    fn restore_bytes(&mut self, r: Reg, a: u32, next: Place)
         requires running { self.old.core.exit ≡ None }
         requires some { r ≢ 0 }
         requires other { r ≢ 2 }
