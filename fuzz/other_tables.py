@@ -12,8 +12,11 @@ The status is 1 if a check failed.
 """
 import argparse
 import itertools
+import os
 import random
 import sys
+
+sys.path.insert(0, os.path.join(os.path.dirname(os.path.abspath(__file__)), os.pardir, 'models'))
 
 from certificates import LOW_SLOTS, MOST_SLOTS, Saving, accepts, best, cost, saved
 
