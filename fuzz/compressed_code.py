@@ -153,14 +153,15 @@ class Code:
         self.starts = [piece.at for piece in joined]
         self.ends = {*self.starts, self.length}
 
-    def spoil(self):
-        """Gives some pushes, pops and moves a relocation, or puts a jump through a table in their place."""
+    def spoil(self, must_exit):
+        """Gives some pushes, pops and moves a relocation, or puts a jump through a table in their place, at which a run that must
+        exit would be stuck."""
         for piece in self.pieces:
             which = self.rng.random()
             if piece.is_group and which < 0.05:
                 kind = self.rng.choice((RVC_BRANCH, RVC_JUMP, BRANCH, JAL, HI20, PCREL_HI20, LO12_I, *CALLS))
                 self.section.relocs.append(Reloc(piece.at, kind, None, 0))
-            elif piece.is_group and which < 0.1:
+            elif piece.is_group and which < 0.1 and not must_exit:
                 piece.content = halves_of(table_half(self.rng.randrange(256)))
 
     def choose(self, share, is_near, is_odd):
@@ -310,8 +311,9 @@ def groups_in(objects):
     return found
 
 
-def compress(rng, objects, chosen, is_odd=False, has_slips=True):
-    """Writes the code of the chosen ones of some objects anew. Of odd ones branches and jumps may not reach."""
+def compress(rng, objects, chosen, is_odd=False, must_exit=False, has_slips=True):
+    """Writes the code of the chosen ones of some objects anew. Of odd ones branches and jumps may not reach, and runs may be stuck
+    unless they must exit."""
     is_near, must_reach = sum(map(room, objects)) <= NEAR, not is_odd or rng.random() < 0.9
     codes = {id(section): Code(rng, section) for read in chosen for section in read.sections if is_code(section)}
     share = rng.choice((0, 0.5, 0.9, 1))
@@ -321,7 +323,7 @@ def compress(rng, objects, chosen, is_odd=False, has_slips=True):
     for section, code in codes.items():
         code.join(groups.get(section, {}), share)
         if is_odd:
-            code.spoil()
+            code.spoil(must_exit)
         code.choose(rng.choice((0, 0.3, 0.8, 1, 1)), is_near, is_odd)
         if has_slips and code.length <= MOST_WITH_SLIPS:
             code.slip()
@@ -334,8 +336,8 @@ def compress(rng, objects, chosen, is_odd=False, has_slips=True):
         reloc.addend = code.moved(place) - symbol.value
 
 
-def compress_some(rng, objects, is_odd=False):
+def compress_some(rng, objects, is_odd=False, must_exit=False):
     """Writes the code of none of some objects anew, of all of them, or of some."""
     which = rng.randrange(4)
     if which:
-        compress(rng, objects, [read for read in objects if which < 3 or rng.random() < 0.5], is_odd)
+        compress(rng, objects, [read for read in objects if which < 3 or rng.random() < 0.5], is_odd, must_exit)

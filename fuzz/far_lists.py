@@ -128,5 +128,5 @@ def far_list(rng):
         if rng.random() < 0.3:
             section.add_edge()
         section.end(read.symbol(b'part%d' % (number + 1)) if number + 1 < many else None)
-    compress_some(rng, objects, rng.random() < 0.2)
+    compress_some(rng, objects, rng.random() < 0.2, must_exit=True)
     return [read.bytes() for read in objects]
