@@ -31,7 +31,7 @@ use Rattle.psabi_sym.proofs.ContentLaws.{address_of_data, none_of_code, none_of_
 use Rattle.psabi_sym.proofs.PlaceLaws.{not_common}
 use Rattle.block_cut.specs.Faults.{has_bad_target, if_so, is_stray, lacks_pcrel_hi, reloc_fault, section_fault}
 use Rattle.block_cut.specs.Relocs.{is_bad_kind, is_bad_place, overlaps_another, is_ignored, is_placed, is_word}
-use Rattle.block_cut.specs.DataWords.{data_word, data_words, held_address, resolved_word, words_in}
+use Rattle.block_cut.specs.DataWords.{data_word, data_words, held_address, resolved_word, data_words_in}
 use Rattle.block_cut.specs.Resolved.{asks, resolved_reloc, resolved_relocs}
 use Rattle.block_cut.specs.declared.data_word.DataWord.{DataWord}
 use Rattle.block_cut.specs.declared.resolved_reloc.ResolvedReloc.{ResolvedReloc}
@@ -192,7 +192,7 @@ module _ (inputs : ParsedInputs) (l : IndexedSection) where
       by false kind is = of kind (role_of l.section) refl is
 
   -- no file holds it, or it is code or dropped, so it has no words
-  pub words_unheld : held_address inputs l ≡ None → words_in inputs l ≡ []
+  pub words_unheld : held_address inputs l ≡ None → data_words_in inputs l ≡ []
   words_unheld none = by (eqb l.section.kind 8) (data_address inputs l.object l.index) none
     where
       by : (b : Bool) (o : Option ℕ) → cond b None o ≡ None → cond b [] (option_map_or (λ at. map (data_word inputs l at) (filter (λ (r : Reloc). is_word (kind_of r.kind)) l.section.relocs)) o []) ≡ []
@@ -230,7 +230,7 @@ module _ (inputs : ParsedInputs) (l : IndexedSection) where
       by false false word asks rest = rest
 
   -- else these are its words
-  pub words_held : (at : ℕ) → IsHeld inputs l at → words_in inputs l ≡ map (resolved_word at) (filter (λ d. is_word d.kind) (resolved_relocs inputs l))
+  pub words_held : (at : ℕ) → IsHeld inputs l at → data_words_in inputs l ≡ map (resolved_word at) (filter (λ d. is_word d.kind) (resolved_relocs inputs l))
   words_held at is =
       (λ j. cond (is.held j) [] (option_map_or (λ at. map (data_word inputs l at) (filter (λ (r : Reloc). is_word (kind_of r.kind)) l.section.relocs)) (is.address j) []))
       ∙ sym (words_decided at l.section.relocs)
@@ -250,13 +250,13 @@ module _ (inputs : ParsedInputs) (l : IndexedSection) where
 
 -- those of one section more
 pub words_next : (inputs : ParsedInputs) (k : ℕ) (l : IndexedSection) → slice_get (all_sections inputs.objects) k ≡ Some l
-    → flat_map (words_in inputs) (take (k + 1) (all_sections inputs.objects)) ≡ flat_map (words_in inputs) (take k (all_sections inputs.objects)) ++ words_in inputs l
+    → flat_map (data_words_in inputs) (take (k + 1) (all_sections inputs.objects)) ≡ flat_map (data_words_in inputs) (take k (all_sections inputs.objects)) ++ data_words_in inputs l
 words_next inputs k l at =
-    ap (flat_map (words_in inputs)) (take_next (all_sections inputs.objects) k l at)
-    ∙ flat_map-append (words_in inputs) (take k (all_sections inputs.objects)) (l ∷ [])
-    ∙ ap (λ m. flat_map (words_in inputs) (take k (all_sections inputs.objects)) ++ m) (append-nil (words_in inputs l))
+    ap (flat_map (data_words_in inputs)) (take_next (all_sections inputs.objects) k l at)
+    ∙ flat_map-append (data_words_in inputs) (take k (all_sections inputs.objects)) (l ∷ [])
+    ∙ ap (λ m. flat_map (data_words_in inputs) (take k (all_sections inputs.objects)) ++ m) (append-nil (data_words_in inputs l))
 
 -- those of all sections
-pub all_words : (inputs : ParsedInputs) → flat_map (words_in inputs) (all_sections inputs.objects) ≡ data_words inputs
+pub all_words : (inputs : ParsedInputs) → flat_map (data_words_in inputs) (all_sections inputs.objects) ≡ data_words inputs
 unfolding data_words
 all_words inputs = refl

@@ -11,13 +11,13 @@ use Rattle.zc_decode.specs.Halfwords.{decoded16}
 use Rattle.zc_decode.specs.declared.short.Short.{Short}
 use Rattle.zc_decode.specs.declared.short.Short.TheVariants.{Base, Push, Pop, PopRet, PopRetz, MoveSa, MoveAs, TableJump}
 use Rattle.zc_decode.proofs.RangeLaws.{half_in_range, half_registers}
-use Rattle.block_cut.specs.Relocs.{base_of, instr_in}
+use Rattle.block_cut.specs.Relocs.{normal_base, instr_in}
 
 -- what holds of the normal form of each instruction that a halfword spells holds of what one spells
-half_by : (P : Instr → Type 0) (half : ℕ) (i : Instr) → ((j : Instr) → decoded16 half ≡ Some (Base j) → P (normal_of j)) → base_of (decoded16 half) ≡ Some i → P i
+half_by : (P : Instr → Type 0) (half : ℕ) (i : Instr) → ((j : Instr) → decoded16 half ≡ Some (Base j) → P (normal_of j)) → normal_base (decoded16 half) ≡ Some i → P i
 half_by P half i each is = by (decoded16 half) refl is
   where
-    by : (o : Option Short) → decoded16 half ≡ o → base_of o ≡ Some i → P i
+    by : (o : Option Short) → decoded16 half ≡ o → normal_base o ≡ Some i → P i
     by None spells is = absurd cc
     by (Some (Base j)) spells is = let same : normal_of j ≡ i = cc in subst P same (each j spells)
     by (Some (Push list adjust)) spells is = absurd cc
@@ -31,13 +31,13 @@ half_by P half i each is = by (decoded16 half) refl is
 pub in_range_in : (size : ℕ) (bytes : List ℕ) (n : ℕ) (i : Instr) → instr_in size bytes n ≡ Some i → InRange i
 in_range_in size bytes n i is = by (eqb size 2) is
   where
-    by : (b : Bool) → cond b (base_of (decoded16 (half_in bytes n))) (decoded (word_in bytes n)) ≡ Some i → InRange i
+    by : (b : Bool) → cond b (normal_base (decoded16 (half_in bytes n))) (decoded (word_in bytes n)) ≡ Some i → InRange i
     by true is = half_by InRange (half_in bytes n) i (half_in_range (half_in bytes n)) is
     by false is = decoded-in_range (word_in bytes n) i is
 
 pub registers_in : (size : ℕ) (bytes : List ℕ) (n : ℕ) (i : Instr) → instr_in size bytes n ≡ Some i → HasRegisters i
 registers_in size bytes n i is = by (eqb size 2) is
   where
-    by : (b : Bool) → cond b (base_of (decoded16 (half_in bytes n))) (decoded (word_in bytes n)) ≡ Some i → HasRegisters i
+    by : (b : Bool) → cond b (normal_base (decoded16 (half_in bytes n))) (decoded (word_in bytes n)) ≡ Some i → HasRegisters i
     by true is = half_by HasRegisters (half_in bytes n) i (half_registers (half_in bytes n)) is
     by false is = decoded-registers (word_in bytes n) i is

@@ -24,7 +24,7 @@ use Rattle.block_cut.specs.Items.{code_only, is_target_at, place_of}
 use Rattle.block_cut.specs.Leaders.{is_place, section_leads}
 use Rattle.block_cut.specs.Relocs.{is_transfer}
 use Rattle.block_cut.specs.Resolved.{code_relocs, fault_of, resolved_fault, placed_relocs}
-use Rattle.block_cut.specs.Invariants.SectionText.{by_halfword, number_on, numbers_in}
+use Rattle.block_cut.specs.Invariants.SectionText.{by_halfword, number_on, numbers_of_section}
 use Rattle.block_cut.specs.declared.resolved_reloc.RelocFault.{RelocFault}
 use Rattle.block_cut.specs.declared.resolved_reloc.ResolvedReloc.{ResolvedReloc}
 use Rattle.block_cut.proofs.JudgeLaws.{section_resolved}
@@ -188,7 +188,7 @@ marked_is objects sections q marked = by (eqb (q.offset % 2) 0) refl (section_nu
 
 -- code may lead to a halfword of a section with a number
 pub numbered_target : (inputs : Inputs) (l : IndexedSection) (numbers : List ℕ) (n : ℕ) → gather_fault inputs ≡ None → section_at (parsed inputs).objects l.object l.index ≡ Some l.section
-    → numbers ≡ numbers_in l.section → n % 2 ≡ 0 → get_or numbers (n / 2) 0 ≢ 0 → is_target_at (parsed inputs).objects (place_of l n) ≡ true
+    → numbers ≡ numbers_of_section l.section → n % 2 ≡ 0 → get_or numbers (n / 2) 0 ≢ 0 → is_target_at (parsed inputs).objects (place_of l n) ≡ true
 numbered_target inputs l numbers n none found are even some = by (is_code_section l.section) refl are
   where
     by : (b : Bool) → is_code_section l.section ≡ b → numbers ≡ cond b (by_halfword (number_on l.section) l.section) [] → is_target_at (parsed inputs).objects (place_of l n) ≡ true

@@ -26,7 +26,7 @@ use Rattle.block_cut.specs.PlainLayout.{address_on, after_item, after_start, aft
 use Rattle.block_cut.specs.CodeSizes.{code_step, own_size}
 use Rattle.block_cut.specs.Relocs.{is_bad_kind, is_ignored, reloc_on}
 use Rattle.block_cut.specs.Resolved.{asks, is_right_at, resolved_reloc, resolved_relocs}
-use Rattle.block_cut.specs.Invariants.SectionText.{HasRoom, SectionTables, by_halfword, number_on, numbered, numbers_in, read_length, section_tables}
+use Rattle.block_cut.specs.Invariants.SectionText.{HasRoom, SectionTables, by_halfword, number_on, numbered, numbers_of_section, read_length, section_tables}
 use Rattle.block_cut.specs.Invariants.CodeTables.{IsCodeSpan}
 use Rattle.block_cut.specs.Whole.{IsWhole}
 use Rattle.block_cut.specs.declared.code_place.CodePlace.{CodePlace}
@@ -287,7 +287,7 @@ pub record IsNumberOf (inputs : Inputs) (l : IndexedSection) (n number : ℕ) : 
   pub index : number ≢ 0 → number - 1 ≡ index_on l.section n
 
 pub by_number : (inputs : Inputs) (l : IndexedSection) (n number : ℕ) (numbers : List ℕ) → gather_fault inputs ≡ None → section_at (parsed inputs).objects l.object l.index ≡ Some l.section
-    → numbers ≡ numbers_in l.section → ((s : SectionParts) → is_code_section s ≡ true → IsWhole s → numbers ≡ by_halfword (number_on s) s → number ≡ number_on s n) → (numbers ≡ [] → number ≡ 0)
+    → numbers ≡ numbers_of_section l.section → ((s : SectionParts) → is_code_section s ≡ true → IsWhole s → numbers ≡ by_halfword (number_on s) s → number ≡ number_on s n) → (numbers ≡ [] → number ≡ 0)
     → IsNumberOf inputs l n number
 by_number inputs l n number numbers none found are value empty = by (is_code_section l.section) refl
   where
@@ -318,7 +318,7 @@ by_number inputs l n number numbers none found are value empty = by (is_code_sec
 
 -- what is kept of a section, one by one
 pub record AreTables (inputs : ParsedInputs) (l : IndexedSection) (t : SectionTables) : Type 0 where
-  pub numbers : t.numbers ≡ numbers_in l.section
+  pub numbers : t.numbers ≡ numbers_of_section l.section
   pub places : t.places ≡ code_places inputs l
 
 pub tables_of : (inputs : ParsedInputs) (l : IndexedSection) (t : SectionTables) → t ≡ section_tables inputs l → AreTables inputs l t

@@ -17,14 +17,14 @@ abbrev pub data_word : ParsedInputs → IndexedSection → ℕ → Reloc → Dat
 data_word inputs l at r = record { at = at + r.offset; target = target_of inputs l.object r }
 
 -- those of a section, in the order of its relocations; code has none, and in NOBITS (8) nothing is filled in
-abbrev pub words_in : ParsedInputs → IndexedSection → List DataWord
-words_in inputs l =
+abbrev pub data_words_in : ParsedInputs → IndexedSection → List DataWord
+data_words_in inputs l =
     if l.section.kind == 8 then []
     else option_map_or (λ at. map (data_word inputs l at) (filter (λ r. is_word (kind_of r.kind)) l.section.relocs)) (data_address inputs l.object l.index) []
 
 -- those of all data, by object, section and relocation
 unfoldable pub data_words : ParsedInputs → List DataWord
-data_words inputs = flat_map (words_in inputs) (all_sections inputs.objects)
+data_words inputs = flat_map (data_words_in inputs) (all_sections inputs.objects)
 
 -- ---- by relocations that are decided
 

@@ -83,13 +83,13 @@ is_padding compressed (pos n) = nat_lt 0 n && (nat_lt n 256 && (n % code_step co
 is_padding compressed (negsuc n) = false
 
 -- the instruction that a halfword spells, if a word spells it too, in its normal form
-abbrev pub base_of : Option Short → Option Instr
-base_of (Some (Base i)) = Some (normal_of i)
-base_of other = None
+abbrev pub normal_base : Option Short → Option Instr
+normal_base (Some (Base i)) = Some (normal_of i)
+normal_base other = None
 
 -- the instruction of so many bytes at an offset
 abbrev pub instr_in : ℕ → List ℕ → ℕ → Option Instr
-instr_in size bytes n = if size == 2 then base_of (decoded16 (half_in bytes n)) else decoded (word_in bytes n)
+instr_in size bytes n = if size == 2 then normal_base (decoded16 (half_in bytes n)) else decoded (word_in bytes n)
 
 -- what a kind asks of the addend and of the instructions at an offset
 abbrev pub fits_at : SectionParts → ℕ → ℤ → Option RelocKind → Bool

@@ -11,7 +11,7 @@ ghost use Rattle.block_cut.specs.Invariants.Led.{has_place, mark_in};
 ghost use Rattle.block_cut.specs.Items.{is_target_at, item_at};
 ghost use Rattle.block_cut.specs.Places.{IsPlaceNumber, code_places, place_there};
 ghost use Rattle.block_cut.specs.PlainLayout.{plain_address};
-ghost use Rattle.block_cut.specs.Invariants.SectionText.{no_tables, numbers_in};
+ghost use Rattle.block_cut.specs.Invariants.SectionText.{no_tables, numbers_of_section};
 
 use crate::code_place::CodePlace;
 use crate::code_span::CodeSpan;
@@ -75,7 +75,7 @@ impl CodeTables {
         requires { section < length self.now.sections.items }
         ensures { (inputs : Inputs) (l : IndexedSection) → AreCodeTables (parsed inputs) self.now
             → slice_get (all_sections (parsed inputs).objects) section ≡ Some l
-            → result.now ≡ numbers_in l.section }
+            → result.now ≡ numbers_of_section l.section }
     {
         self.sections[section as usize].numbers()
     }

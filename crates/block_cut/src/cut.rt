@@ -10,7 +10,7 @@ ghost use Rattle.block_cut.specs.Faults.{first_fault, relocs_fault};
 ghost use Rattle.block_cut.specs.Items.{entry_in, entry_of, is_target_at, item_at, place_after, start_only};
 ghost use Rattle.block_cut.specs.Leaders.{is_leader_at};
 ghost use Rattle.block_cut.specs.Invariants.CodeTables.{AreCodeTables};
-ghost use Rattle.block_cut.specs.Invariants.SectionText.{numbers_in};
+ghost use Rattle.block_cut.specs.Invariants.SectionText.{numbers_of_section};
 ghost use Rattle.block_cut.specs.Places.{IsPlaceNumber, code_places, place_there};
 ghost use Rattle.block_cut.specs.PlainLayout.{plain_address, plain_counts};
 
@@ -139,7 +139,7 @@ impl Cut {
     pub fn numbers(&self, section: u32) -> &[u32]
         requires { section < length (all_sections (parsed self.now).objects) }
         ensures { (l : IndexedSection) → slice_get (all_sections (parsed self.now).objects) section ≡ Some l
-            → result.now ≡ numbers_in l.section }
+            → result.now ≡ numbers_of_section l.section }
     {
         self.tables.numbers(section)
     }

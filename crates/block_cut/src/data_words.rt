@@ -4,7 +4,7 @@ ghost use Rattle.std.specs.Prelude.{◌≡◌, false, ◌<◌, ◌+◌, ◌^◌,
 ghost use Rattle.elf32_read.specs.Parts.{is_code_section};
 ghost use Rattle.psabi_sym.specs.Inputs.{parsed};
 ghost use Rattle.psabi_sym.specs.Indexed.{section_at};
-ghost use Rattle.block_cut.specs.DataWords.{held_address, resolved_word, words_in};
+ghost use Rattle.block_cut.specs.DataWords.{held_address, resolved_word, data_words_in};
 ghost use Rattle.block_cut.specs.Faults.{section_fault};
 ghost use Rattle.block_cut.specs.Relocs.{is_word};
 ghost use Rattle.block_cut.specs.Resolved.{resolved_relocs};
@@ -62,7 +62,7 @@ pub fn add_section_words(
     requires relocs { is_code_section section.now.section ≡ false
         → relocs.now ≡ resolved_relocs (parsed objects.now) section.now }
     requires faultless { section_fault (parsed objects.now) section.now ≡ None }
-    ensures { IfOk result (λ _. words.new.items ≡ words.old.items ++ words_in (parsed objects.now) section.now) }
+    ensures { IfOk result (λ _. words.new.items ≡ words.old.items ++ data_words_in (parsed objects.now) section.now) }
 {
     // No data lie beyond this, so no address is too large.
     let _end = objects.data_end();

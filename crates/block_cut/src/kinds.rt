@@ -2,7 +2,7 @@
 
 ghost use Rattle.std.specs.Prelude.{◌≡◌, ◌+◌, ◌%◌, ◌==◌, if◌then◌else◌, length, nat_le, None};
 ghost use Rattle.block_cut.specs.CodeSizes.{code_step};
-ghost use Rattle.block_cut.specs.Relocs.{base_of, instr_in, is_ignored, is_padding, is_pcrel_hi, is_pcrel_lo, is_rvc, is_transfer, is_word};
+ghost use Rattle.block_cut.specs.Relocs.{normal_base, instr_in, is_ignored, is_padding, is_pcrel_hi, is_pcrel_lo, is_rvc, is_transfer, is_word};
 
 use psabi_reloc::kind::RelocKind;
 use rv_decode::decode::decode;
@@ -92,8 +92,8 @@ pub fn instr_at(bytes: &[u8], at: usize) -> Option<Instr>
 }
 
 // The instruction that a halfword spells, if a word spells it too, in its normal form.
-fn base_of(short: Option<Short>) -> Option<Instr>
-    ensures { result ≡ base_of short }
+fn normal_base(short: Option<Short>) -> Option<Instr>
+    ensures { result ≡ normal_base short }
 {
     match short {
         Some(Short::Base(instr)) => Some(normal(instr)),
@@ -117,5 +117,5 @@ pub fn short_instr_at(bytes: &[u8], at: usize) -> Option<Instr>
     if bytes.len() < 2 || bytes.len() - 2 < at {
         return None;
     }
-    base_of(decode16(u16_at(bytes, at)))
+    normal_base(decode16(u16_at(bytes, at)))
 }

@@ -9,7 +9,7 @@ ghost use Rattle.psabi_sym.specs.Indexed.{all_sections, section_at, IndexedSecti
 ghost use Rattle.block_cut.specs.Invariants.CodeTargets.{AreCodeTargets};
 ghost use Rattle.block_cut.specs.Faults.{relocs_fault, section_fault};
 ghost use Rattle.block_cut.specs.Invariants.RelocTargets.{AreRelocTargets};
-ghost use Rattle.block_cut.specs.Invariants.SectionText.{numbers_in};
+ghost use Rattle.block_cut.specs.Invariants.SectionText.{numbers_of_section};
 ghost use Rattle.block_cut.specs.Resolved.{placed_relocs};
 ghost use Rattle.block_cut.specs.Invariants.CodeTables.{AreCodeTables};
 
@@ -61,7 +61,7 @@ fn relocs_left(
     requires gathered { gather_fault objects.now ≡ None }
     requires section { section_at (parsed objects.now).objects section.now.object section.now.index
         ≡ Some section.now.section }
-    requires numbers { IfSome numbers (λ ns. ns.now ≡ numbers_in section.now.section) }
+    requires numbers { IfSome numbers (λ ns. ns.now ≡ numbers_of_section section.now.section) }
     ensures { IfOk result (λ relocs. relocs.items ≡ (if is_code_section section.now.section && is_none numbers.entry then []
         else placed_relocs (parsed objects.now) section.now)) }
 {
@@ -85,7 +85,7 @@ fn numbers_left(tables: &CodeTables, section: u32, fine: bool) -> Option<&[u32]>
     ensures fine { is_none result ≡ fine }
     ensures numbers { (inputs : Inputs) (l : IndexedSection) → AreCodeTables (parsed inputs) tables.now
         → slice_get (all_sections (parsed inputs).objects) section ≡ Some l
-        → IfSome result (λ ns. ns.now ≡ numbers_in l.section) }
+        → IfSome result (λ ns. ns.now ≡ numbers_of_section l.section) }
 {
     if fine {
         return None;

@@ -8,7 +8,7 @@ use Rattle.clap.specs.Lexer.{usize_max}
 use Rattle.clap.specs.Simple.{App, Shape, built, help_shape}
 use Rattle.clap.specs.Walk.{Row, Text, first_of}
 use Rattle.clap.proofs.OnLiterals.{clap_on_literals}
-use Rattle.command_words.specs.Command.{Command, Meaning, Spelled, Words, check_of, command_of, found_in, make_of, meaning, meaning_of, meanings, plain_of, read_by_clap, run_of, trace_of, values_in, zc_of}
+use Rattle.command_words.specs.Command.{Command, Meaning, Spelled, Words, check_of, command_of, found_in, make_of, meaning, meaning_named, meanings, plain_of, read_by_clap, run_of, trace_of, values_in, zc_of}
 use Rattle.command_words.specs.PlainForm.{IsReadAsPlain, is_plain_form, plain_command_of, spelled_words}
 use Rattle.command_words.specs.Table.{OptionSyntax, Syntax, check_syntax, make_syntax, one, plain_syntax, program_app, run_syntax, several, trace_syntax, zc_syntax}
 use Rattle.command_words.proofs.Given.{Given, all_of-given, first_of-given, lookup, rows_for, same_text}
@@ -244,7 +244,7 @@ plain_before words command (Some m) e = some_before m.command (spelled_words m.f
 
 is_plain : (words : List Text) (command : Command) → plain_command_of words ≡ Some command → is_plain_form words ≡ true
 is_plain [] command e = absurd (none-some command e)
-is_plain (name ∷ words) command e = plain_before words command (meaning_of name) e
+is_plain (name ∷ words) command e = plain_before words command (meaning_named name) e
 
 pub read_as_plain : (words : List Text) → IsReadAsPlain words
 read_as_plain words = record {

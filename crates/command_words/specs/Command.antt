@@ -49,10 +49,10 @@ words_at positional rows =
     else unwrap_or (option_map (λ word. word ∷ []) (first_of positional.name rows)) []
 
 -- all positional words
-abbrev pub words_in : List PositionalSyntax → List Row → List Text
-words_in [] rows = []
-words_in (p ∷ []) rows = words_at p rows
-words_in (p ∷ q ∷ ps) rows = words_at p rows ++ words_in (q ∷ ps) rows
+abbrev pub positional_words : List PositionalSyntax → List Row → List Text
+positional_words [] rows = []
+positional_words (p ∷ []) rows = words_at p rows
+positional_words (p ∷ q ∷ ps) rows = words_at p rows ++ positional_words (q ∷ ps) rows
 
 -- the values of options
 abbrev pub values_in : List OptionSyntax → List Row → List (Option Text)
@@ -60,7 +60,7 @@ values_in options rows = map (λ option. first_of option.name rows) options
 
 -- what is found of a command's options and positional words
 abbrev pub found_in : Syntax → List Row → Spelled
-found_in form rows = Words (values_in form.options rows) (words_in form.positionals rows)
+found_in form rows = Words (values_in form.options rows) (positional_words form.positionals rows)
 
 -- ---- what it means
 
@@ -117,12 +117,12 @@ meanings =
     ∷ record { form = check_syntax; command = check_of } ∷ record { form = make_syntax; command = make_of } ∷ []
 
 -- the meaning of a command's name
-abbrev pub meaning_of : Text → Option Meaning
-meaning_of name = find (λ m. bytes_eq name m.form.name) meanings
+abbrev pub meaning_named : Text → Option Meaning
+meaning_named name = find (λ m. bytes_eq name m.form.name) meanings
 
 -- the command of a subcommand's name and of what is found of its arguments
 abbrev pub meaning : Text → List Row → Option Command
-meaning name rows = option_and_then (λ m. m.command (found_in m.form rows)) (meaning_of name)
+meaning name rows = option_and_then (λ m. m.command (found_in m.form rows)) (meaning_named name)
 
 -- the command that words spell
 abbrev pub command_of : List Text → Option Command
@@ -143,13 +143,13 @@ abbrev pub make_meant : MakeArgs → Command
 make_meant args = Make (option_copied args.prefix) args.number args.functions
 
 -- a command
-abbrev pub meant : CommandLine → Command
-meant (line.Plain memory out objects) = Plain memory out.now (texts objects.items)
-meant (line.Zc memory out cert objects) = Zc memory out.now cert.now (texts objects.items)
-meant (line.Run args) = run_meant args
-meant (line.Trace memory steps objects) = Trace memory steps (texts objects.items)
-meant (line.Check cert) = Check cert.now
-meant (line.Make args) = make_meant args
+abbrev pub meant_command : CommandLine → Command
+meant_command (line.Plain memory out objects) = Plain memory out.now (texts objects.items)
+meant_command (line.Zc memory out cert objects) = Zc memory out.now cert.now (texts objects.items)
+meant_command (line.Run args) = run_meant args
+meant_command (line.Trace memory steps objects) = Trace memory steps (texts objects.items)
+meant_command (line.Check cert) = Check cert.now
+meant_command (line.Make args) = make_meant args
 
 -- a command's map, if it has one, is one that a link may be made for
 abbrev pub HasMap : CommandLine → Type 0

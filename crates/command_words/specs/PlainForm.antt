@@ -6,7 +6,7 @@ use Rattle.std.specs.List.{list_all, list_any, position, zip}
 use Rattle.std.specs.Str.{bytes_eq}
 use Rattle.clap.specs.Lexer.{usize_max}
 use Rattle.clap.specs.Walk.{Text}
-use Rattle.command_words.specs.Command.{Command, Spelled, Words, command_of, meaning_of}
+use Rattle.command_words.specs.Command.{Command, Spelled, Words, command_of, meaning_named}
 use Rattle.command_words.specs.Table.{PositionalSyntax, Syntax}
 
 -- a word that begins with `-`: an option, and no value or positional word
@@ -71,12 +71,12 @@ spelled_words form words =
 abbrev pub plain_command_of : List Text → Option Command
 plain_command_of [] = None
 plain_command_of (name ∷ words) =
-    option_and_then (λ m. option_and_then m.command (spelled_words m.form words)) (meaning_of name)
+    option_and_then (λ m. option_and_then m.command (spelled_words m.form words)) (meaning_named name)
 
 -- the words are in the plain form of a command, whatever they mean
 abbrev pub is_plain_form : List Text → Bool
 is_plain_form [] = false
-is_plain_form (name ∷ words) = option_map_or (λ m. is_some (spelled_words m.form words)) (meaning_of name) false
+is_plain_form (name ∷ words) = option_map_or (λ m. is_some (spelled_words m.form words)) (meaning_named name) false
 
 -- clap reads words in the plain form as they stand here, so it finds each command that they spell
 pub record IsReadAsPlain (words : List Text) : Type 0 where

@@ -5,7 +5,7 @@ ghost use Rattle.std.specs.Option.{option_and_then, option_copied};
 ghost use Rattle.clap.specs.Matches.{found_of};
 ghost use Rattle.clap.specs.Simple.{subcommand_rows_of};
 ghost use Rattle.clap.specs.Walk.{all_of, first_of, rows_of};
-ghost use Rattle.command_words.specs.Command.{HasMap, check_of, command_of, found_in, make_of, meaning, meant, plain_of, read_by_clap, run_of, steps_given, texts, trace_of, zc_of};
+ghost use Rattle.command_words.specs.Command.{HasMap, check_of, command_of, found_in, make_of, meaning, meant_command, plain_of, read_by_clap, run_of, steps_given, texts, trace_of, zc_of};
 ghost use Rattle.command_words.specs.MapWords.{address_given, map_given};
 ghost use Rattle.command_words.specs.PlainForm.{IsReadAsPlain};
 ghost use Rattle.command_words.specs.Table.{check_syntax, make_syntax, plain_syntax, program_app, run_syntax, trace_syntax, zc_syntax};
@@ -26,7 +26,7 @@ use zc_base::mem_map::MemMap;
 /// may run out before it is known whether they spell one.
 #[tactic(auto, using(crate::proofs::PlainLaws::read_as_plain))]
 pub fn read(alloc: Global, words: &[String]) -> Result<Option<CommandLine<'_>>, AllocError>
-    ensures spells { IfOk result (λ c. option_map meant c ≡ command_of (texts words.now)) }
+    ensures spells { IfOk result (λ c. option_map meant_command c ≡ command_of (texts words.now)) }
     ensures plain { IsReadAsPlain (texts words.now) }
     ensures maps { IfOk result (λ c. IfSome c HasMap) }
 {
@@ -56,7 +56,7 @@ fn entered<'a>(
     matches: &ArgMatches<'a>,
 ) -> Result<Option<CommandLine<'a>>, AllocError>
     ensures spells { IfOk result (λ c.
-        option_map meant c ≡ option_and_then (λ p. meaning p.0 p.1) (subcommand_rows_of matches.now)) }
+        option_map meant_command c ≡ option_and_then (λ p. meaning p.0 p.1) (subcommand_rows_of matches.now)) }
     ensures maps { IfOk result (λ c. IfSome c HasMap) }
 {
     match matches.subcommand() {
@@ -70,7 +70,7 @@ fn by_name<'a>(
     name: &str,
     found: &ArgMatches<'a>,
 ) -> Result<Option<CommandLine<'a>>, AllocError>
-    ensures spells { IfOk result (λ c. option_map meant c ≡ meaning name.now (rows_of (found_of found.now))) }
+    ensures spells { IfOk result (λ c. option_map meant_command c ≡ meaning name.now (rows_of (found_of found.now))) }
     ensures maps { IfOk result (λ c. IfSome c HasMap) }
 {
     match name {
@@ -86,7 +86,7 @@ fn by_name<'a>(
 
 fn plain<'a>(alloc: Global, found: &ArgMatches<'a>) -> Result<Option<CommandLine<'a>>, AllocError>
     ensures spells { IfOk result (λ c.
-        option_map meant c ≡ plain_of (found_in plain_syntax (rows_of (found_of found.now)))) }
+        option_map meant_command c ≡ plain_of (found_in plain_syntax (rows_of (found_of found.now)))) }
     ensures maps { IfOk result (λ c. IfSome c HasMap) }
 {
     let Some(map) = given_map(found) else {
@@ -102,7 +102,7 @@ fn plain<'a>(alloc: Global, found: &ArgMatches<'a>) -> Result<Option<CommandLine
 // `zc`, unless the two files that it writes are one.
 fn zc<'a>(alloc: Global, found: &ArgMatches<'a>) -> Result<Option<CommandLine<'a>>, AllocError>
     ensures spells { IfOk result (λ c.
-        option_map meant c ≡ zc_of (found_in zc_syntax (rows_of (found_of found.now)))) }
+        option_map meant_command c ≡ zc_of (found_in zc_syntax (rows_of (found_of found.now)))) }
     ensures maps { IfOk result (λ c. IfSome c HasMap) }
 {
     let Some(map) = given_map(found) else {
@@ -127,7 +127,7 @@ fn zc<'a>(alloc: Global, found: &ArgMatches<'a>) -> Result<Option<CommandLine<'a
 }
 
 fn run<'a>(found: &ArgMatches<'a>) -> Option<CommandLine<'a>>
-    ensures spells { option_map meant result ≡ run_of (found_in run_syntax (rows_of (found_of found.now))) }
+    ensures spells { option_map meant_command result ≡ run_of (found_in run_syntax (rows_of (found_of found.now))) }
     ensures maps { IfSome result HasMap }
 {
     let map = given_map(found)?;
@@ -143,7 +143,7 @@ fn run<'a>(found: &ArgMatches<'a>) -> Option<CommandLine<'a>>
 
 fn trace<'a>(alloc: Global, found: &ArgMatches<'a>) -> Result<Option<CommandLine<'a>>, AllocError>
     ensures spells { IfOk result (λ c.
-        option_map meant c ≡ trace_of (found_in trace_syntax (rows_of (found_of found.now)))) }
+        option_map meant_command c ≡ trace_of (found_in trace_syntax (rows_of (found_of found.now)))) }
     ensures maps { IfOk result (λ c. IfSome c HasMap) }
 {
     let Some(map) = given_map(found) else {
@@ -161,7 +161,7 @@ fn trace<'a>(alloc: Global, found: &ArgMatches<'a>) -> Result<Option<CommandLine
 }
 
 fn check<'a>(found: &ArgMatches<'a>) -> Option<CommandLine<'a>>
-    ensures spells { option_map meant result ≡ check_of (found_in check_syntax (rows_of (found_of found.now))) }
+    ensures spells { option_map meant_command result ≡ check_of (found_in check_syntax (rows_of (found_of found.now))) }
     ensures maps { IfSome result HasMap }
 {
     let cert = value(found, "CERT")?;
@@ -169,7 +169,7 @@ fn check<'a>(found: &ArgMatches<'a>) -> Option<CommandLine<'a>>
 }
 
 fn make<'a>(found: &ArgMatches<'a>) -> Option<CommandLine<'a>>
-    ensures spells { option_map meant result ≡ make_of (found_in make_syntax (rows_of (found_of found.now))) }
+    ensures spells { option_map meant_command result ≡ make_of (found_in make_syntax (rows_of (found_of found.now))) }
     ensures maps { IfSome result HasMap }
 {
     let number = value(found, "NUMBER")?;

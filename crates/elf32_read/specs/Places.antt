@@ -15,13 +15,13 @@ places_sections bytes = filter (λ header. is_name_at (codes ".zcld.places") (se
 
 -- an entry: a half for the object, a half for the section, a word for the offset, and a word for
 -- the address
-unfoldable pub entry_at : List ℕ → ℕ → Place × ℕ
-entry_at content i =
+unfoldable pub place_entry_at : List ℕ → ℕ → Place × ℕ
+place_entry_at content i =
     (record { object = half_in content (12 * i); section = half_in content (12 * i + 2); offset = word_in content (12 * i + 4) }, word_in content (12 * i + 8))
 
 -- the entries of a section
 abbrev pub entries_of : List ℕ → List (Place × ℕ)
-entries_of content = map (entry_at content) (range_with_len 0 (length content / 12))
+entries_of content = map (place_entry_at content) (range_with_len 0 (length content / 12))
 
 -- the places that the image lists, each with its address: none without the section
 abbrev pub place_list : List ℕ → List (Place × ℕ)

@@ -7,7 +7,7 @@ ghost use Rattle.elf32_read.specs.Header.{content_of, headers_of, is_empty_kind,
 ghost use Rattle.elf32_read.specs.Image.{bad_places, is_bad_section};
 ghost use Rattle.elf32_read.specs.Names.{is_name_at, is_unnamed_section, lacks_strings, section_names};
 ghost use Rattle.elf32_read.specs.Object.{passes_end};
-ghost use Rattle.elf32_read.specs.Places.{entries_of, entry_at, is_ascending, is_outside, place_list, places_sections};
+ghost use Rattle.elf32_read.specs.Places.{entries_of, place_entry_at, is_ascending, is_outside, place_list, places_sections};
 ghost use Rattle.elf32_read.specs.declared.image_fault.ImageFault.TheVariants.{BadPlaces};
 ghost use Rattle.zc_base.specs.Places.{is_before};
 
@@ -26,10 +26,10 @@ const NAME: &[u8; 13] = b".zcld.places\0";
 pub const ENTRY_SIZE: usize = 12;
 
 /// An entry of a list of places.
-#[tactic(auto, unfolding(crate::specs::Places::entry_at))]
+#[tactic(auto, unfolding(crate::specs::Places::place_entry_at))]
 pub fn entry(entries: &[u8], i: usize) -> (Place, u32)
     requires { 12 * i + 12 ≤ length entries.now }
-    ensures { result ≡ entry_at entries.now i }
+    ensures { result ≡ place_entry_at entries.now i }
 {
     let at = ENTRY_SIZE * i;
     let place = Place {

@@ -7,10 +7,10 @@ use Rattle.zc_base.specs.Fields.{half_in, word_in, word_bytes}
 use Rattle.zc_base.specs.declared.place.Place.{Place}
 use Rattle.elf32_read.specs.Header.{section_table, program_table, header_of, program_header_of}
 use Rattle.elf32_read.specs.declared.header.ProgramHeader.{ProgramHeader}
-use Rattle.elf32_read.specs.Places.{entry_at}
+use Rattle.elf32_read.specs.Places.{place_entry_at}
 use Rattle.elf32_read.specs.declared.header.SectionHeader.{SectionHeader}
 use Rattle.elf32_write.specs.Image.{section_bytes, segment_bytes, place_bytes}
-use Rattle.elf32_write.specs.Loadable.{IsEntry}
+use Rattle.elf32_write.specs.Loadable.{IsPlaceEntry}
 use Rattle.elf32_write.proofs.After.{word_of_bytes, half_of_bytes, word_in-append, half_in-append, rows_back}
 
 -- a word of a row that stands after other bytes
@@ -147,7 +147,7 @@ entry_in : List ℕ → ℕ → Place × ℕ
 entry_in bytes at =
     (record { object = half_in bytes at; section = half_in bytes (at + 2); offset = word_in bytes (at + 4) }, word_in bytes (at + 8))
 
-entry_back : (front rest : List ℕ) (entry : Place × ℕ) → IsEntry entry → entry_in (front ++ (place_bytes entry ++ rest)) (length front) ≡ entry
+entry_back : (front rest : List ℕ) (entry : Place × ℕ) → IsPlaceEntry entry → entry_in (front ++ (place_bytes entry ++ rest)) (length front) ≡ entry
 unfolding entry_in half_in word_in
 entry_back front rest entry h =
     let row = place_bytes entry ++ rest in
@@ -159,9 +159,9 @@ entry_back front rest entry h =
     λ i. (record { object = object i; section = section i; offset = offset i }, address i)
 
 -- entries of places read back
-pub entries_back : (entries : List (Place × ℕ)) → All IsEntry entries → map (entry_at (flat_map place_bytes entries)) (range_with_len 0 (length entries)) ≡ entries
-unfolding entry_at entry_in
+pub entries_back : (entries : List (Place × ℕ)) → All IsPlaceEntry entries → map (place_entry_at (flat_map place_bytes entries)) (range_with_len 0 (length entries)) ≡ entries
+unfolding place_entry_at entry_in
 entries_back entries small =
     let bytes = flat_map place_bytes entries in
     let at : ℕ → ℕ = λ i. 12 * i in
-    rows_back entry_in place_bytes 12 IsEntry at entry_back (λ _. refl) (λ k. omega arith) bytes [] entries [] 0 (sym (append-nil bytes)) refl small
+    rows_back entry_in place_bytes 12 IsPlaceEntry at entry_back (λ _. refl) (λ k. omega arith) bytes [] entries [] 0 (sym (append-nil bytes)) refl small

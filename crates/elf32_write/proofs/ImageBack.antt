@@ -13,14 +13,14 @@ use Rattle.elf32_read.specs.Header.{are_known_flags, begins_as, content_of, entr
 use Rattle.elf32_read.specs.Image.{bad_places, bad_segments, image_fault, image_truncated, is_bad_load, is_bad_section, not_image, some_overlap}
 use Rattle.elf32_read.specs.Names.{has_end, is_name_at, is_unnamed_section, lacks_strings, section_names}
 use Rattle.elf32_read.specs.Object.{passes_end}
-use Rattle.elf32_read.specs.Places.{places_sections, entry_at, entries_of, place_list, is_ascending, is_outside}
+use Rattle.elf32_read.specs.Places.{places_sections, place_entry_at, entries_of, place_list, is_ascending, is_outside}
 use Rattle.elf32_read.specs.Segments.{is_entry_of, loads_of, overlap_in_memory, segment_of}
 use Rattle.elf32_read.specs.Rows.{first_of}
 use Rattle.elf32_read.specs.declared.header.SectionHeader.{SectionHeader}
 use Rattle.elf32_read.specs.declared.image_fault.ImageFault.TheVariants.{NotElf, Truncated, BadSegment, BadPlaces, TooLarge}
 use Rattle.elf32_read.proofs.Tests.{load_passes_end}
 use Rattle.elf32_write.specs.Image.{pad, padded, padded_length, file_header, program_headers, place_bytes, shstrtab_content, section_headers, sections_of, places_section, shstrtab_header, text_segment, data_segment, data_offset, places_offset, names_offset, sections_offset, image_bytes, NumbersFit}
-use Rattle.elf32_write.specs.Loadable.{IsEntry, IsLoadable, ReadsBack}
+use Rattle.elf32_write.specs.Loadable.{IsPlaceEntry, IsLoadable, ReadsBack}
 use Rattle.elf32_write.specs.Parts.{Parts}
 use Rattle.elf32_write.proofs.After.{part_between, word_of_bytes}
 use Rattle.elf32_write.proofs.HeadersBack.{IsHeader, IsProgramHeader, headers_back, program_headers_back, entries_back}
@@ -335,15 +335,15 @@ places_sections_back parts w =
     ap (λ l. filter (named l) (headers_of (image_bytes parts))) (section_names_back parts w)
     ∙ ap (filter (named shstrtab_content)) (sections_back parts w)
 
-entries_of_back : (parts : Parts) → All IsEntry parts.places → entries_of (content_of (image_bytes parts) (places_section parts)) ≡ parts.places
+entries_of_back : (parts : Parts) → All IsPlaceEntry parts.places → entries_of (content_of (image_bytes parts) (places_section parts)) ≡ parts.places
 entries_of_back parts small =
     let content = flat_map place_bytes parts.places in
     let count : length content / 12 ≡ length parts.places = omega (arith, length-places parts.places) in
     ap entries_of (places_bytes_back parts)
-    ∙ ap (λ n. map (entry_at content) (range_with_len 0 n)) count
+    ∙ ap (λ n. map (place_entry_at content) (range_with_len 0 n)) count
     ∙ entries_back parts.places small
 
-places_back : (parts : Parts) → Words parts → All IsEntry parts.places → place_list (image_bytes parts) ≡ parts.places
+places_back : (parts : Parts) → Words parts → All IsPlaceEntry parts.places → place_list (image_bytes parts) ≡ parts.places
 places_back parts w small =
     let bytes = image_bytes parts in
     ap (flat_map (λ header. entries_of (content_of bytes header))) (places_sections_back parts w)

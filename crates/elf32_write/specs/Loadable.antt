@@ -11,7 +11,7 @@ use Rattle.elf32_write.specs.Image.{sections_offset}
 use Rattle.elf32_write.specs.Parts.{Parts}
 
 -- the numbers of a place and its address have room in their halves and words
-pub record IsEntry (entry : Place × ℕ) : Type 0 where
+pub record IsPlaceEntry (entry : Place × ℕ) : Type 0 where
   pub object : entry.0.object < 2 ^ 16
   pub section : entry.0.section < 2 ^ 16
   pub offset : entry.0.offset < 2 ^ 32
@@ -30,7 +30,7 @@ pub record IsLoadable (parts : Parts) (memory : MemMap) : Type 0 where
   pub entry_even : parts.entry % 2 ≡ 0
   pub entry_low : parts.text_at ≤ parts.entry
   pub entry_high : parts.entry ≤ parts.text_at + length parts.text
-  pub entries : All IsEntry parts.places
+  pub entries : All IsPlaceEntry parts.places
   pub ascending : is_ascending parts.places ≡ true
   pub inside : list_any (is_outside memory) parts.places ≡ false
 

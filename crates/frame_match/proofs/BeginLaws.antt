@@ -10,10 +10,10 @@ use Rattle.rv_decode.specs.declared.instr.Instr.{Instr}
 use Rattle.block_cut.specs.declared.code_place.CodePlace.{CodePlace}
 use Rattle.frame_match.specs.Groups.{op_then, ops_behind, spot_on, Spot}
 use Rattle.frame_match.specs.Matches.{before, either_pair, is_begun, longer_of, longest_of, moves_in, pops_in, pushes_in}
-use Rattle.frame_match.specs.Read.{accessed, is_zero, is_zero_instr, lowered, move_of, moved, slot_of}
+use Rattle.frame_match.specs.Read.{slot_accessed, is_zero, is_zero_instr, lowered, move_of, moved, slot_of}
 use Rattle.frame_match.specs.Invariants.Frames.{IsSlot}
 use Rattle.frame_match.specs.Invariants.Kinds.{IsPop, IsPush, longer_or}
-use Rattle.frame_match.specs.Invariants.Runs.{ArePlacesOf, begins_with, may_begin, op_in, run_of, spots_of}
+use Rattle.frame_match.specs.Invariants.Runs.{ArePlacesOf, begins_with, may_begin, op_in, run_from, spots_of}
 use Rattle.frame_match.specs.declared.found.Ending.{Ending}
 use Rattle.frame_match.specs.declared.found.Ending.TheVariants.{GoesOn, Returns, ZeroFirst, ZeroBeforeRaise, ZeroBeforeReturn}
 use Rattle.frame_match.specs.declared.found.Found.{Found}
@@ -23,7 +23,7 @@ use Rattle.frame_match.proofs.FoundLaws.{longest_split, pop_longest, push_longes
 -- what such an instruction isn't
 record BeginsNothing (i : Option Instr) : Type 0 where
   lowers : lowered i ≡ None
-  loads : accessed Restores i ≡ None
+  loads : slot_accessed Restores i ≡ None
   moves : moved i ≡ None
   zero : is_zero i ≡ false
 
@@ -80,7 +80,7 @@ nothing_begins is h = none_found is (begins_nothing (slice_get is 0) h)
 
 -- the first instruction of a run is that of the first place
 first_op : (inputs : ParsedInputs) (l : IndexedSection) (ps : List CodePlace) → ArePlacesOf inputs l ps → begins_with (option_and_then op_in (slice_get ps 0)) ≡ false
-    → begins_with (slice_get (run_of (spots_of inputs l ps)) 0) ≡ false
+    → begins_with (slice_get (run_from (spots_of inputs l ps)) 0) ≡ false
 first_op inputs l [] are h = refl
 first_op inputs l (p ∷ ps) are h = by (spot_on inputs l p.offset).op (ap op_in (are 0 p refl)) h
   where
@@ -92,5 +92,5 @@ first_op inputs l (p ∷ ps) are h = by (spot_on inputs l p.offset).op (ap op_in
     by (Some i) same h = ap begins_with (sym same) ∙ h
 
 pub nothing_at : (inputs : ParsedInputs) (l : IndexedSection) (ps : List CodePlace) → ArePlacesOf inputs l ps
-    → begins_with (option_and_then op_in (slice_get ps 0)) ≡ false → longest_of (run_of (spots_of inputs l ps)) ≡ None
-nothing_at inputs l ps are h = nothing_begins (run_of (spots_of inputs l ps)) (first_op inputs l ps are h)
+    → begins_with (option_and_then op_in (slice_get ps 0)) ≡ false → longest_of (run_from (spots_of inputs l ps)) ≡ None
+nothing_at inputs l ps are h = nothing_begins (run_from (spots_of inputs l ps)) (first_op inputs l ps are h)

@@ -13,7 +13,7 @@ use Rattle.frame_match.specs.declared.found.Found.{Found}
 use Rattle.frame_match.specs.declared.slot.Access.TheVariants.{Restores, Saves}
 use Rattle.frame_match.specs.Matches.{before, endings, frame_at, has_accesses, is_begun, is_frame, lists, longer_of, longest_of, moves_in, pop_by, pop_in, pop_of, pops_in, push_in, push_of, pushes_in}
 use Rattle.frame_match.specs.Read.{lowered}
-use Rattle.frame_match.specs.Invariants.Frames.{list_of}
+use Rattle.frame_match.specs.Invariants.Frames.{list_leaving_out}
 use Rattle.frame_match.specs.Invariants.Kinds.{longer_or, Beats, IsPop, IsPush}
 use Rattle.frame_match.proofs.AccessLaws.{fills_from, fills_known}
 use Rattle.frame_match.proofs.ListLaws.{known_facts, list_facts}
@@ -49,7 +49,7 @@ push_known is g h = by (lowered (slice_get is 0)) refl h
 push_from : (is : List Instr) (g : Found) → IsPush is g → In g (pushes_in is)
 push_from is g p =
     let k = known_facts p.left_out p.known in
-    let list = list_of p.left_out in
+    let list = list_leaving_out p.left_out in
     let h = k.high in
     let fits = and_from (is_frame list p.bytes) _ p.framed.fits (fills_from Saves p.bytes p.left_out is 1 p.known p.framed.there) in
     let i : In g (push_in is list p.bytes) = subst (λ b. In g (cond b (push_of list p.bytes ∷ []) [])) (sym fits) (inl p.found_is) in
@@ -108,7 +108,7 @@ pop_known is g h =
 pop_from : (is : List Instr) (g : Found) → IsPop is g → In g (pops_in is)
 pop_from is g p =
     let k = known_facts p.left_out p.known in
-    let list = list_of p.left_out in
+    let list = list_leaving_out p.left_out in
     let h = k.high in
     let c = k.count in
     let s = p.size in

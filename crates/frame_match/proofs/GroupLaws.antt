@@ -14,9 +14,9 @@ use Rattle.rv_decode.specs.declared.instr.Instr.{Instr}
 use Rattle.zc_decode.specs.declared.short.Short.{Short}
 use Rattle.block_cut.specs.Items.{place_of, starts_in}
 use Rattle.block_cut.specs.Leaders.{is_leader_at}
-use Rattle.frame_match.specs.Groups.{group_at, items_behind, op_then, ops_behind, ops_from, role_of, roles_from, roles_in, spot_on, Spot}
-use Rattle.frame_match.specs.Matches.{all_found, before, behind, either_pair, frame_at, longer_of, longest_of, moves_in, pops_in, pushes_in}
-use Rattle.frame_match.specs.Read.{accessed, is_return, is_zero, moved, raised}
+use Rattle.frame_match.specs.Groups.{group_at, items_behind, op_then, ops_behind, ops_from, group_role, roles_from, roles_in, spot_on, Spot}
+use Rattle.frame_match.specs.Matches.{all_found, before, ending_items, either_pair, frame_at, longer_of, longest_of, moves_in, pops_in, pushes_in}
+use Rattle.frame_match.specs.Read.{slot_accessed, is_return, is_zero, moved, raised}
 use Rattle.frame_match.specs.Invariants.Kinds.{IsPop, IsPush}
 use Rattle.frame_match.specs.declared.found.Ending.{Ending}
 use Rattle.frame_match.specs.declared.found.Ending.TheVariants.{GoesOn, Returns, ZeroFirst, ZeroBeforeRaise, ZeroBeforeReturn}
@@ -41,7 +41,7 @@ some_within [] k h = absurd cc
 some_within (i ∷ is) zero h = omega arith
 some_within (i ∷ is) (suc k) h = let r = some_within is k h in omega (arith, r)
 
-some_used : (which : Access) (o : Option Instr) (d : Slot) → accessed which o ≡ Some d → is_some o ≡ true
+some_used : (which : Access) (o : Option Instr) (d : Slot) → slot_accessed which o ≡ Some d → is_some o ≡ true
 some_used which None d h = absurd (none-some d h)
 some_used which (Some i) d h = refl
 
@@ -74,7 +74,7 @@ push_sized is g p =
     record { least = omega (arith, c, small, items); most = omega (arith, c, small, items); within = omega (arith, c, small, items, last) }
 
 -- the last instruction of a pop is there
-pop_last : (e : Ending) (is : List Instr) (n b : ℕ) → frame_at e is n ≡ Some b → n + behind e ≤ length is
+pop_last : (e : Ending) (is : List Instr) (n b : ℕ) → frame_at e is n ≡ Some b → n + ending_items e ≤ length is
 pop_last GoesOn is n b h = let l = some_within is n (some_raised (slice_get is n) b h) in omega (arith, l)
 pop_last Returns is n b h =
     let k = if_known (is_return (slice_get is (n + 1))) (raised (slice_get is n)) b h in
@@ -93,7 +93,7 @@ pop_last ZeroBeforeReturn is n b h =
     let l = some_within is (n + 2) (some_return (slice_get is (n + 2)) (and_parts (is_zero (slice_get is (n + 1))) (is_return (slice_get is (n + 2))) k.0).1) in
     omega (arith, l)
 
-ends_size : (e : Ending) → (1 ≤ behind e) × (before e + behind e ≤ 3)
+ends_size : (e : Ending) → (1 ≤ ending_items e) × (before e + ending_items e ≤ 3)
 ends_size GoesOn = (omega arith, omega arith)
 ends_size Returns = (omega arith, omega arith)
 ends_size ZeroFirst = (omega arith, omega arith)
@@ -176,21 +176,21 @@ joined left s ss h = by s.leader s.op refl h
     by false (Some i) e h = (e, omega (arith, h))
 
 -- so many items belong to the group that starts at one
-left_within : (s : Spot) (ss : List Spot) → items_behind (role_of s.place (longest_of (ops_from s ss))) ≤ length (ops_behind ss)
+left_within : (s : Spot) (ss : List Spot) → items_behind (group_role s.place (longest_of (ops_from s ss))) ≤ length (ops_behind ss)
 left_within s ss = by (longest_of (ops_from s ss)) refl
   where
     few : (o : Option Instr) → length (op_then o (ops_behind ss)) ≤ 1 + length (ops_behind ss)
     few None = omega arith
     few (Some i) = omega arith
 
-    by : (o : Option Found) → longest_of (ops_from s ss) ≡ o → items_behind (role_of s.place o) ≤ length (ops_behind ss)
+    by : (o : Option Found) → longest_of (ops_from s ss) ≡ o → items_behind (group_role s.place o) ≤ length (ops_behind ss)
     by None e = omega arith
     by (Some f) e =
         let z = (longest_sized (ops_from s ss) f e).within in
         let l = few s.op in
         omega (arith, z, l)
 
-role_no_inside : (s : Spot) (o : Option Found) → role_of s.place o ≡ Inside → ⊥
+role_no_inside : (s : Spot) (o : Option Found) → group_role s.place o ≡ Inside → ⊥
 role_no_inside s None h = cc
 role_no_inside s (Some f) h = cc
 
@@ -199,7 +199,7 @@ inside_leads_not left [] j s le r g = absurd (none-some s g)
 inside_leads_not (suc left) (t ∷ ss) zero s le r g = ap (λ (u : Spot). u.leader) (sym (same_Some t s g)) ∙ (joined left t ss le).0
 inside_leads_not (suc left) (t ∷ ss) (suc j) s le r g = inside_leads_not left ss j s (joined left t ss le).1 r g
 inside_leads_not zero (t ∷ ss) zero s le r g = absurd (role_no_inside t (longest_of (ops_from t ss)) (same_Some _ _ r))
-inside_leads_not zero (t ∷ ss) (suc j) s le r g = inside_leads_not (items_behind (role_of t.place (longest_of (ops_from t ss)))) ss j s (left_within t ss) r g
+inside_leads_not zero (t ∷ ss) (suc j) s le r g = inside_leads_not (items_behind (group_role t.place (longest_of (ops_from t ss)))) ss j s (left_within t ss) r g
 
 -- no basic block begins at an item inside a group, by its index in its section
 pub inside_no_leader : (inputs : ParsedInputs) (l : IndexedSection) (j n : ℕ) → is_code_section l.section ≡ true
@@ -250,14 +250,14 @@ one_on s ss r rs j g x = record {
   inside = λ k some less. let e : suc j + k ≡ suc (j + k) = omega arith in ap (slice_get (r ∷ rs)) e ∙ x.inside k some less;
 }
 
-first_here : (s : Spot) (ss : List Spot) (g : Group) → role_of s.place (longest_of (ops_from s ss)) ≡ First g → StartsGroup (s ∷ ss) (roles_from 0 (s ∷ ss)) 0 g
+first_here : (s : Spot) (ss : List Spot) (g : Group) → group_role s.place (longest_of (ops_from s ss)) ≡ First g → StartsGroup (s ∷ ss) (roles_from 0 (s ∷ ss)) 0 g
 first_here s ss g h = by (longest_of (ops_from s ss)) refl h
   where
     few : (o : Option Instr) → length (op_then o (ops_behind ss)) ≤ 1 + length (ops_behind ss)
     few None = omega arith
     few (Some i) = omega arith
 
-    by : (o : Option Found) → longest_of (ops_from s ss) ≡ o → role_of s.place o ≡ First g → StartsGroup (s ∷ ss) (roles_from 0 (s ∷ ss)) 0 g
+    by : (o : Option Found) → longest_of (ops_from s ss) ≡ o → group_role s.place o ≡ First g → StartsGroup (s ∷ ss) (roles_from 0 (s ∷ ss)) 0 g
     by None e h = absurd cc
     by (Some f) e h =
         let group : group_at s.place f ≡ g = cc in
@@ -265,7 +265,7 @@ first_here s ss g h = by (longest_of (ops_from s ss)) refl h
         let l = few s.op in
         let o = ops_few ss in
         let items : f.items ≡ g.items = ap (λ (u : Group). u.items) group in
-        let left : items_behind (role_of s.place (longest_of (ops_from s ss))) ≡ f.items - 1 = ap (λ x. items_behind (role_of s.place x)) e in
+        let left : items_behind (group_role s.place (longest_of (ops_from s ss))) ≡ f.items - 1 = ap (λ x. items_behind (group_role s.place x)) e in
         record {
           spot = s;
           rest = ss;
@@ -278,7 +278,7 @@ first_here s ss g h = by (longest_of (ops_from s ss)) refl h
               let w = z.within in
               let n : 0 + k ≡ suc (k - 1) = omega (arith, some) in
               ap (slice_get (roles_from 0 (s ∷ ss))) n
-              ∙ insides (items_behind (role_of s.place (longest_of (ops_from s ss)))) ss (k - 1) (omega (arith, some, less, items, left)) (omega (arith, some, less, items, w, l, o));
+              ∙ insides (items_behind (group_role s.place (longest_of (ops_from s ss)))) ss (k - 1) (omega (arith, some, less, items, left)) (omega (arith, some, less, items, w, l, o));
         }
 
 first_from : (left : ℕ) (ss : List Spot) (j : ℕ) (g : Group) → slice_get (roles_from left ss) j ≡ Some (First g) → StartsGroup ss (roles_from left ss) j g
@@ -288,8 +288,8 @@ first_from (suc left) (s ∷ ss) zero g h = let e = same_Some Inside (First g) h
 first_from (suc left) (s ∷ ss) (suc j) g h = one_on s ss Inside (roles_from left ss) j g (first_from left ss j g h)
 first_from zero (s ∷ ss) zero g h = first_here s ss g (same_Some _ _ h)
 first_from zero (s ∷ ss) (suc j) g h =
-    one_on s ss (role_of s.place (longest_of (ops_from s ss))) (roles_from (items_behind (role_of s.place (longest_of (ops_from s ss)))) ss) j g
-    (first_from (items_behind (role_of s.place (longest_of (ops_from s ss)))) ss j g h)
+    one_on s ss (group_role s.place (longest_of (ops_from s ss))) (roles_from (items_behind (group_role s.place (longest_of (ops_from s ss)))) ss) j g
+    (first_from (items_behind (group_role s.place (longest_of (ops_from s ss)))) ss j g h)
 
 -- so it is with each group of a section, by the index of its first item
 pub group_starts : (inputs : ParsedInputs) (l : IndexedSection) (j : ℕ) (g : Group) → is_code_section l.section ≡ true

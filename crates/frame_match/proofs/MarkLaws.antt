@@ -4,7 +4,7 @@ use Rattle.std.proofs.Common.{◌≡◌, ◌∙◌, ℕ, suc, ◌+◌, List, [],
 use Rattle.std.specs.List.{flat_map, slice_get}
 use Rattle.std.proofs.lemmas.Option.{none-some, same_Some}
 use Rattle.psabi_sym.specs.Indexed.{IndexedSection}
-use Rattle.frame_match.specs.Groups.{first_of}
+use Rattle.frame_match.specs.Groups.{starting_group}
 use Rattle.frame_match.specs.Invariants.Marks.{marks_from, section_marks}
 use Rattle.frame_match.specs.declared.group.Group.{Group}
 use Rattle.frame_match.specs.declared.role.Role.{Role}
@@ -18,7 +18,7 @@ take_next (suc k) (y ∷ ys) x h =
 
 -- the groups of one section
 abbrev pub firsts : (IndexedSection → List Role) → IndexedSection → List Group
-firsts f l = flat_map first_of (f l)
+firsts f l = flat_map starting_group (f l)
 
 -- of one section more: so many groups come before it as there are so far
 section_marks_more : (f : IndexedSection → List Role) (n : ℕ) (ls : List IndexedSection) (l : IndexedSection)

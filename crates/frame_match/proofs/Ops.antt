@@ -6,7 +6,7 @@ use Rattle.std.specs.Option.{is_some, option_and_then}
 use Rattle.rv_decode.specs.declared.instr.Instr.{Instr}
 use Rattle.block_cut.specs.declared.code_place.CodePlace.{CodePlace}
 use Rattle.frame_match.specs.Groups.{op_then}
-use Rattle.frame_match.specs.Invariants.Runs.{op_in, ops_of, AreOps}
+use Rattle.frame_match.specs.Invariants.Runs.{op_in, ops_of, HaveOps}
 
 -- with one before them
 get_then : (o : Option Instr) (is : List Instr) (n : ℕ) → is_some o ≡ true → slice_get (op_then o is) (suc n) ≡ slice_get is n
@@ -17,7 +17,7 @@ first_then : (o : Option Instr) (is : List Instr) → is_some o ≡ true → sli
 first_then None is h = absurd cc
 first_then (Some i) is h = refl
 
-pub get-ops_of : (ps : List CodePlace) → AreOps ps → (n : ℕ) → slice_get (ops_of ps) n ≡ option_and_then op_in (slice_get ps n)
+pub get-ops_of : (ps : List CodePlace) → HaveOps ps → (n : ℕ) → slice_get (ops_of ps) n ≡ option_and_then op_in (slice_get ps n)
 get-ops_of [] ops n = refl
 get-ops_of (p ∷ ps) ops zero = first_then (op_in p) (ops_of ps) (ops 0 p refl)
 get-ops_of (p ∷ ps) ops (suc n) =

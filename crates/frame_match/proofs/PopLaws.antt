@@ -10,16 +10,16 @@ use Rattle.frame_match.specs.declared.found.Ending.TheVariants.{GoesOn, Returns,
 use Rattle.frame_match.specs.declared.found.Found.{Found}
 use Rattle.frame_match.specs.declared.pops.Tail.{Tail}
 use Rattle.frame_match.specs.declared.slot.Access.TheVariants.{Restores}
-use Rattle.frame_match.specs.Matches.{before, behind, frame_at, is_begun, pop_of}
-use Rattle.frame_match.specs.Read.{accessed, is_zero}
-use Rattle.frame_match.specs.Invariants.Frames.{list_of, IsKnown}
+use Rattle.frame_match.specs.Matches.{before, ending_items, frame_at, is_begun, pop_of}
+use Rattle.frame_match.specs.Read.{slot_accessed, is_zero}
+use Rattle.frame_match.specs.Invariants.Frames.{list_leaving_out, IsKnown}
 use Rattle.frame_match.specs.Invariants.Kinds.{tail_at, Beats, IsFramed, IsPop}
 use Rattle.frame_match.proofs.ReadLaws.{zero_no_load}
 use Rattle.frame_match.proofs.TailLaws.{before_is, begun_is, frame_no_load, tail_best, tail_known, zeroes_first, BestTail}
 
 -- a load at an index
 abbrev pub is_load : List Instr → ℕ → Bool
-is_load run n = is_some (accessed Restores (slice_get run n))
+is_load run n = is_some (slot_accessed Restores (slice_get run n))
 
 -- what the code knows of how many loads stand from an index on
 pub record Loads (run : List Instr) (from count : ℕ) : Type 0 where
@@ -38,7 +38,7 @@ pub record PopFound (run : List Instr) (g : Found) (count : ℕ) : Type 0 where
   pub first : zeroes_first ending ≡ is_zero (slice_get run 0)
   pub raises : frame_at ending run (start (is_zero (slice_get run 0)) + count) ≡ Some bytes
   pub framed : IsFramed Restores bytes left_out run (start (is_zero (slice_get run 0)))
-  pub found_is : g ≡ pop_of ending (list_of left_out) bytes
+  pub found_is : g ≡ pop_of ending (list_leaving_out left_out) bytes
 
 -- the loads of a pop
 own_loads : (run : List Instr) (g : Found) (p : IsPop run g) (m : ℕ) → m < p.count → is_load run (before p.ending + m) ≡ true
@@ -96,7 +96,7 @@ found_best run g count x = tail_best (is_zero (slice_get run 0)) run _ x.ending 
 -- what is found stands there
 pub pop_made : (run : List Instr) (count left_out : ℕ) (t : Tail) → IsKnown left_out → count + left_out ≡ 13
     → Some t ≡ tail_at (is_zero (slice_get run 0)) run (start (is_zero (slice_get run 0)) + count)
-    → IsFramed Restores t.bytes left_out run (start (is_zero (slice_get run 0))) → IsPop run (pop_of t.ending (list_of left_out) t.bytes)
+    → IsFramed Restores t.bytes left_out run (start (is_zero (slice_get run 0))) → IsPop run (pop_of t.ending (list_leaving_out left_out) t.bytes)
 pop_made run count left_out t known size is framed =
     let k = tail_known (is_zero (slice_get run 0)) run _ t (sym is) in
     let from : before t.ending ≡ start (is_zero (slice_get run 0)) = before_is t.ending ∙ ap start k.first in
@@ -116,7 +116,7 @@ pop_made run count left_out t known size is framed =
 -- and has more items than any other pop there, or is it
 pub pop_beats : (run : List Instr) (g : Found) (count left_out : ℕ) (t : Tail) (h : Found) → PopFound run g count → count + left_out ≡ 13
     → Some t ≡ tail_at (is_zero (slice_get run 0)) run (start (is_zero (slice_get run 0)) + count)
-    → h ≡ pop_of t.ending (list_of left_out) t.bytes → Beats (Some h) g
+    → h ≡ pop_of t.ending (list_leaving_out left_out) t.bytes → Beats (Some h) g
 pop_beats run g count left_out t h x size is h_is = record { best = h; is = refl; more = by b.more }
   where
     b : BestTail (tail_at (is_zero (slice_get run 0)) run (start (is_zero (slice_get run 0)) + count)) x.ending x.bytes
@@ -128,8 +128,8 @@ pop_beats run g count left_out t h x size is h_is = record { best = h; is = refl
     same : t ≡ record { ending = b.best; bytes = x.bytes }
     same = let e : Some t ≡ Some (record { ending = b.best; bytes = x.bytes }) = is ∙ b.is in cc
 
-    made : h ≡ pop_of b.best (list_of x.left_out) x.bytes
-    made = h_is ∙ ap (λ (u : Tail). pop_of u.ending (list_of left_out) u.bytes) same ∙ ap (λ n. pop_of b.best (list_of n) x.bytes) out
+    made : h ≡ pop_of b.best (list_leaving_out x.left_out) x.bytes
+    made = h_is ∙ ap (λ (u : Tail). pop_of u.ending (list_leaving_out left_out) u.bytes) same ∙ ap (λ n. pop_of b.best (list_leaving_out n) x.bytes) out
 
     heads : before x.ending ≡ before b.best
     heads =
@@ -137,8 +137,8 @@ pop_beats run g count left_out t h x size is h_is = record { best = h; is = refl
         ap zeroes_first (sym (ap (λ (u : Tail). u.ending) same)) ∙ (tail_known (is_zero (slice_get run 0)) run _ t (sym is)).first in
         before_is x.ending ∙ ap start (x.first ∙ sym f) ∙ sym (before_is b.best)
 
-    by : (x.ending ≡ b.best) ⊎ (behind x.ending < behind b.best) → (g ≡ h) ⊎ (g.items < h.items)
-    by (inl e) = inl (x.found_is ∙ ap (λ e. pop_of e (list_of x.left_out) x.bytes) e ∙ sym made)
+    by : (x.ending ≡ b.best) ⊎ (ending_items x.ending < ending_items b.best) → (g ≡ h) ⊎ (g.items < h.items)
+    by (inl e) = inl (x.found_is ∙ ap (λ e. pop_of e (list_leaving_out x.left_out) x.bytes) e ∙ sym made)
     by (inr less) =
         let a = ap (λ (u : Found). u.items) made in
         let c = ap (λ (u : Found). u.items) x.found_is in

@@ -8,7 +8,7 @@ use Rattle.rv_decode.specs.declared.instr.Instr.{Instr}
 use Rattle.rv_decode.specs.declared.instr.Instr.TheVariants.{WithImm}
 use Rattle.rv_decode.specs.declared.instr.ImmOp.TheVariants.{Addi}
 use Rattle.frame_match.specs.declared.slot.Access.TheVariants.{Restores}
-use Rattle.frame_match.specs.Read.{accessed, is_zero, raised, up_by}
+use Rattle.frame_match.specs.Read.{slot_accessed, is_zero, raised, up_by}
 
 -- `addi a0,x0,0` doesn't raise sp
 pub zero_raised : (i : Option Instr) → is_zero i ≡ true → raised i ≡ None
@@ -18,11 +18,11 @@ zero_raised (Some (WithImm Addi rd first imm)) h =
 zero_raised _ h = absurd cc
 
 -- nor is it a load
-pub zero_no_load : (i : Option Instr) → is_zero i ≡ true → is_some (accessed Restores i) ≡ false
+pub zero_no_load : (i : Option Instr) → is_zero i ≡ true → is_some (slot_accessed Restores i) ≡ false
 zero_no_load (Some (WithImm Addi rd first imm)) h = refl
 zero_no_load _ h = absurd cc
 
-pub raised_no_load : (i : Option Instr) (f : ℕ) → raised i ≡ Some f → is_some (accessed Restores i) ≡ false
+pub raised_no_load : (i : Option Instr) (f : ℕ) → raised i ≡ Some f → is_some (slot_accessed Restores i) ≡ false
 raised_no_load (Some (WithImm Addi rd first imm)) f h = refl
 raised_no_load _ f h = absurd cc
 

@@ -18,7 +18,7 @@ use Rattle.block_cut.specs.Places.{IsPlaceNumber}
 use Rattle.block_cut.specs.declared.place_number.PlaceNumber.{PlaceNumber}
 use Rattle.block_cut.proofs.StartLaws.{before_end_all}
 use Rattle.block_cut.proofs.WholeLaws.{code_is_section, code_whole}
-use Rattle.frame_match.specs.Groups.{first_of, groups_in, groups_of, items_behind, role_at, role_of, role_on, roles_from, roles_in, spot_on, Spot, ops_from}
+use Rattle.frame_match.specs.Groups.{starting_group, groups_in, groups_of, items_behind, role_at, group_role, role_on, roles_from, roles_in, spot_on, Spot, ops_from}
 use Rattle.frame_match.specs.Matches.{longest_of}
 use Rattle.frame_match.specs.Invariants.Marks.{marks_from, section_marks, ArePlanned}
 use Rattle.frame_match.specs.declared.group.Group.{Group}
@@ -82,7 +82,7 @@ filter_less n (x ∷ xs) h = by (or_cases (eqb x n) (list_any (λ m. eqb m n) xs
 roles_count : (left : ℕ) (ss : List Spot) → length (roles_from left ss) ≡ length ss
 roles_count zero [] = refl
 roles_count (suc left) [] = refl
-roles_count zero (s ∷ ss) = ap suc (roles_count (items_behind (role_of s.place (longest_of (ops_from s ss)))) ss)
+roles_count zero (s ∷ ss) = ap suc (roles_count (items_behind (group_role s.place (longest_of (ops_from s ss)))) ss)
 roles_count (suc left) (s ∷ ss) = ap suc (roles_count left ss)
 
 roles_length : (inputs : ParsedInputs) (l : IndexedSection) → is_code_section l.section ≡ true → length (roles_in inputs l) ≡ length (starts_in l.section)
@@ -100,14 +100,14 @@ mark_of n (First g) = Start n
 mark_of n Inside = Within
 
 marks_get : (n : ℕ) (rs : List Role) (j : ℕ) (r : Role) → slice_get rs j ≡ Some r
-    → slice_get (marks_from n rs) j ≡ Some (mark_of (n + length (flat_map first_of (take j rs))) r)
+    → slice_get (marks_from n rs) j ≡ Some (mark_of (n + length (flat_map starting_group (take j rs))) r)
 marks_get n [] j r h = absurd (none-some r h)
 marks_get n (Alone ∷ rs) zero r h = ap (λ x. Some (mark_of (n + 0) x)) (same_Some Alone r h)
 marks_get n (First g ∷ rs) zero r h = let e : n ≡ n + 0 = omega arith in ap (λ m. Some (Start m)) e ∙ ap (λ x. Some (mark_of (n + 0) x)) (same_Some (First g) r h)
 marks_get n (Inside ∷ rs) zero r h = ap (λ x. Some (mark_of (n + 0) x)) (same_Some Inside r h)
 marks_get n (Alone ∷ rs) (suc j) r h = marks_get n rs j r h
 marks_get n (First g ∷ rs) (suc j) r h =
-    let e : n + 1 + length (flat_map first_of (take j rs)) ≡ n + suc (length (flat_map first_of (take j rs))) = omega arith in
+    let e : n + 1 + length (flat_map starting_group (take j rs)) ≡ n + suc (length (flat_map starting_group (take j rs))) = omega arith in
     marks_get (n + 1) rs j r h ∙ ap (λ m. Some (mark_of m r)) e
 marks_get n (Inside ∷ rs) (suc j) r h = marks_get n rs j r h
 
@@ -180,21 +180,21 @@ is_kept inputs groups sections are q number start has = made
               ∙ section_get (roles_in inputs) 0 all number.section l own
               ∙ ap (λ n. Some (marks_from n rs)) zero_less;
           role = r.0;
-          before = before + length (flat_map first_of (take (index_on has.section q.offset) rs));
+          before = before + length (flat_map starting_group (take (index_on has.section q.offset) rs));
           mark = ap (slice_get (marks_from before rs)) has.index_is ∙ marks_get before rs (index_on has.section q.offset) r.0 r.1;
           role_is = role_here inputs q has.section r.0 has.here starts r.1;
           group = λ g e.
-              let own_number = length (flat_map first_of (take (index_on has.section q.offset) rs)) in
+              let own_number = length (flat_map starting_group (take (index_on has.section q.offset) rs)) in
               let none : own_number + 0 ≡ own_number = omega arith in
-              let one : slice_get (first_of r.0) 0 ≡ Some g = ap (λ x. slice_get (first_of x) 0) e in
+              let one : slice_get (starting_group r.0) 0 ≡ Some g = ap (λ x. slice_get (starting_group x) 0) e in
               let mine : slice_get (groups_in inputs l) own_number ≡ Some g =
-              ap (slice_get (groups_in inputs l)) (sym none) ∙ flat_get first_of rs (index_on has.section q.offset) r.0 0 g r.1 one in
+              ap (slice_get (groups_in inputs l)) (sym none) ∙ flat_get starting_group rs (index_on has.section q.offset) r.0 0 g r.1 one in
               ap (λ gs. slice_get gs (before + own_number)) are.groups_are ∙ flat_get (groups_in inputs) all number.section l own_number g own mine;
         }
 
 -- ---- how many groups there are
 
-firsts_few : (rs : List Role) → length (flat_map first_of rs) ≤ length rs
+firsts_few : (rs : List Role) → length (flat_map starting_group rs) ≤ length rs
 firsts_few [] = omega arith
 firsts_few (Alone ∷ rs) = let h = firsts_few rs in omega (arith, h)
 firsts_few (First g ∷ rs) = let h = firsts_few rs in omega (arith, h)
@@ -204,7 +204,7 @@ section_few : (inputs : ParsedInputs) (l : IndexedSection) → length (groups_in
 unfolding roles_in
 section_few inputs l = by (is_code_section l.section)
   where
-    by : (b : Bool) → length (flat_map first_of (cond b (roles_from 0 (map (spot_on inputs l) (starts_in l.section))) []))
+    by : (b : Bool) → length (flat_map starting_group (cond b (roles_from 0 (map (spot_on inputs l) (starts_in l.section))) []))
         ≤ length (map (item_in inputs l.section) (cond b (map (place_of l) (starts_in l.section)) []))
     by true =
         let a = firsts_few (roles_from 0 (map (spot_on inputs l) (starts_in l.section))) in

@@ -14,7 +14,7 @@ use Rattle.psabi_sym.specs.Indexed.{IndexedSection}
 use Rattle.rv_decode.specs.declared.instr.Instr.{Instr}
 use Rattle.block_cut.specs.declared.code_place.CodePlace.{CodePlace}
 use Rattle.frame_match.specs.Groups.{op_then, ops_behind, spot_on, Spot}
-use Rattle.frame_match.specs.Invariants.Runs.{joins, op_in, ops_of, run_of, spots_of, AreOps, ArePlacesOf, IsRun}
+use Rattle.frame_match.specs.Invariants.Runs.{joins, op_in, ops_of, run_from, spots_of, HaveOps, ArePlacesOf, IsRun}
 
 -- ---- by index
 
@@ -42,7 +42,7 @@ Joined inputs l ps n =
     (k : ℕ) (p : CodePlace) → k < n → slice_get ps k ≡ Some p
     → (is_some (op_in p) ≡ true) × (joins (eqb k 0) (spot_on inputs l p.offset) ≡ true)
 
-pub joined_ops : (inputs : ParsedInputs) (l : IndexedSection) (ps : List CodePlace) (n : ℕ) → Joined inputs l ps n → AreOps (take n ps)
+pub joined_ops : (inputs : ParsedInputs) (l : IndexedSection) (ps : List CodePlace) (n : ℕ) → Joined inputs l ps n → HaveOps (take n ps)
 joined_ops inputs l ps n h k p g = let w = get_taken n ps k p g in (h k p w.0 w.1).0
 
 pub joined_run : (inputs : ParsedInputs) (l : IndexedSection) (ps : List CodePlace) (n : ℕ) → n ≤ length ps → n ≤ 16 → Joined inputs l ps n
@@ -75,7 +75,7 @@ at_false zero = refl
 at_false (suc k) = refl
 
 abbrev run_on : Bool → List Spot → List Instr
-run_on true ss = run_of ss
+run_on true ss = run_from ss
 run_on false ss = ops_behind ss
 
 run_none : (first : Bool) → run_on first [] ≡ []
@@ -129,7 +129,7 @@ taken inputs l first (p ∷ ps) (suc n) (suc m) are le within each stops =
     ∙ ap (take (suc m)) (sym w.2)
 
 pub run_is : (inputs : ParsedInputs) (l : IndexedSection) (ps : List CodePlace) (n : ℕ) → ArePlacesOf inputs l ps → IsRun (spots_of inputs l ps) n
-    → take 16 (ops_of (take n ps)) ≡ take 16 (run_of (spots_of inputs l ps))
+    → take 16 (ops_of (take n ps)) ≡ take 16 (run_from (spots_of inputs l ps))
 run_is inputs l ps n are r =
     taken inputs l true ps n 16 are r.few (let e = length-map ps (λ p. spot_on inputs l p.offset) in let w = r.within in omega (arith, e, w))
     (λ k p lt g. ap (λ b. joins b (spot_on inputs l p.offset)) (sym (at_is k)) ∙ r.each k (spot_on inputs l p.offset) lt (get_map (λ p. spot_on inputs l p.offset) ps k p g))

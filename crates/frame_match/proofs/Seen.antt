@@ -6,7 +6,7 @@ use Rattle.std.specs.List.{slice_get}
 use Rattle.rv_decode.specs.declared.instr.Instr.{Instr}
 use Rattle.frame_match.specs.declared.slot.Access.{Access}
 use Rattle.frame_match.specs.Invariants.Frames.{IsSlot}
-use Rattle.frame_match.specs.Read.{accessed}
+use Rattle.frame_match.specs.Read.{slot_accessed}
 
 -- of so many instructions from an index on each uses a slot, and those slots are marked
 pub record Seen (which : Access) (bytes left_out : ℕ) (is : List Instr) (from : ℕ) (seen : List Bool) (n : ℕ) : Type 0 where
@@ -45,7 +45,7 @@ seen_more which bytes left_out is from seen n j s new only =
         by : (m ≡ n) ⊎ (m ≢ n) → get_or (set seen j true) k false ≡ true
         by (inl e) =
             let at : slice_get is (from + m) ≡ slice_get is (from + n) = ap (λ x. slice_get is (from + x)) e in
-            let same : k ≡ j = let q = only k (i.0, ap (accessed which) (sym at) ∙ i.1) in cc in
+            let same : k ≡ j = let q = only k (i.0, ap (slot_accessed which) (sym at) ∙ i.1) in cc in
             rw same (get_or-set_same seen j true false bound)
         by (inr ne) = kept k (s.marked m k (omega arith) i)
 

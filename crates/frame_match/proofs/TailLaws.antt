@@ -9,8 +9,8 @@ use Rattle.frame_match.specs.declared.found.Ending.{Ending}
 use Rattle.frame_match.specs.declared.found.Ending.TheVariants.{GoesOn, Returns, ZeroFirst, ZeroBeforeRaise, ZeroBeforeReturn}
 use Rattle.frame_match.specs.declared.pops.Tail.{Tail}
 use Rattle.frame_match.specs.declared.slot.Access.TheVariants.{Restores}
-use Rattle.frame_match.specs.Matches.{before, behind, frame_at, frame_by, is_begun}
-use Rattle.frame_match.specs.Read.{accessed, is_return, is_zero, raised}
+use Rattle.frame_match.specs.Matches.{before, ending_items, frame_at, frame_by, is_begun}
+use Rattle.frame_match.specs.Read.{slot_accessed, is_return, is_zero, raised}
 use Rattle.frame_match.specs.Invariants.Kinds.{tail_as, tail_at}
 use Rattle.frame_match.proofs.ReadLaws.{raised_no_load, raised_no_zero, zero_no_load}
 
@@ -43,7 +43,7 @@ if_known true o f h = (refl, h)
 if_known false o f h = absurd cc
 
 -- the first instruction is no load
-pub frame_no_load : (e : Ending) (i j k : Option Instr) (f : ℕ) → frame_by e i j k ≡ Some f → is_some (accessed Restores i) ≡ false
+pub frame_no_load : (e : Ending) (i j k : Option Instr) (f : ℕ) → frame_by e i j k ≡ Some f → is_some (slot_accessed Restores i) ≡ false
 frame_no_load GoesOn i j k f h = raised_no_load i f h
 frame_no_load Returns i j k f h = raised_no_load i f (if_known (is_return j) (raised i) f h).1
 frame_no_load ZeroFirst i j k f h = raised_no_load i f (if_known (is_return j) (raised i) f h).1
@@ -93,7 +93,7 @@ tail_known false is n t h = by (or_known (tail_as ZeroBeforeRaise is n) _ t h)
 pub record BestTail (found : Option Tail) (e : Ending) (f : ℕ) : Type 0 where
   pub best : Ending
   pub is : found ≡ Some (record { ending = best; bytes = f })
-  pub more : (e ≡ best) ⊎ (behind e < behind best)
+  pub more : (e ≡ best) ⊎ (ending_items e < ending_items best)
 
 as_is : (e : Ending) (is : List Instr) (n f : ℕ) → frame_at e is n ≡ Some f → tail_as e is n ≡ Some (record { ending = e; bytes = f })
 as_is e is n f h = ap (option_map (λ b. record { ending = e; bytes = b })) h

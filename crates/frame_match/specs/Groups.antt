@@ -45,9 +45,9 @@ abbrev pub group_at : Place → Found → Group
 group_at q f = record { start = q; items = f.items; kind = f.kind; rest = f.rest }
 
 -- an item is the first of a group if one starts there
-abbrev pub role_of : Place → Option Found → Role
-role_of q None = Alone
-role_of q (Some f) = First (group_at q f)
+abbrev pub group_role : Place → Option Found → Role
+group_role q None = Alone
+group_role q (Some f) = First (group_at q f)
 
 -- how many items behind the first belong to it
 abbrev pub items_behind : Role → ℕ
@@ -61,7 +61,7 @@ abbrev pub roles_from : ℕ → List Spot → List Role
 roles_from left [] = []
 roles_from (suc left) (s ∷ ss) = Inside ∷ roles_from left ss
 roles_from zero (s ∷ ss) =
-    role_of s.place (longest_of (ops_from s ss)) ∷ roles_from (items_behind (role_of s.place (longest_of (ops_from s ss)))) ss
+    group_role s.place (longest_of (ops_from s ss)) ∷ roles_from (items_behind (group_role s.place (longest_of (ops_from s ss)))) ss
 
 -- ---- all code
 
@@ -75,14 +75,14 @@ unfoldable pub roles_in : ParsedInputs → IndexedSection → List Role
 roles_in inputs l = if is_code_section l.section then roles_from 0 (map (spot_on inputs l) (starts_in l.section)) else []
 
 -- the group that starts with an item
-abbrev pub first_of : Role → List Group
-first_of Alone = []
-first_of (First g) = g ∷ []
-first_of Inside = []
+abbrev pub starting_group : Role → List Group
+starting_group Alone = []
+starting_group (First g) = g ∷ []
+starting_group Inside = []
 
 -- the groups of a section, in order
 abbrev pub groups_in : ParsedInputs → IndexedSection → List Group
-groups_in inputs l = flat_map first_of (roles_in inputs l)
+groups_in inputs l = flat_map starting_group (roles_in inputs l)
 
 -- those of all code, by object, section and offset
 abbrev pub groups_of : ParsedInputs → List Group

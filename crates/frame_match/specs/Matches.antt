@@ -5,8 +5,8 @@ use Rattle.std.specs.Option.{option_map, option_map_or, option_or, option_to_lis
 use Rattle.rv_decode.specs.declared.instr.Instr.{Instr}
 use Rattle.zc_decode.specs.declared.short.Short.{Short}
 use Rattle.zc_decode.specs.declared.short.Short.TheVariants.{Push, Pop, PopRet, PopRetz, MoveSa, MoveAs}
-use Rattle.zc_decode.specs.Lists.{base_of, registers_of}
-use Rattle.frame_match.specs.Read.{accessed, is_return, is_zero, lowered, moved, raised}
+use Rattle.zc_decode.specs.Lists.{stack_adjust_base, registers_of}
+use Rattle.frame_match.specs.Read.{slot_accessed, is_return, is_zero, lowered, moved, raised}
 use Rattle.frame_match.specs.declared.found.Ending.{Ending}
 use Rattle.frame_match.specs.declared.found.Ending.TheVariants.{GoesOn, Returns, ZeroFirst, ZeroBeforeRaise, ZeroBeforeReturn}
 use Rattle.frame_match.specs.declared.found.Found.{Found}
@@ -23,7 +23,7 @@ lists = range_with_len 4 12
 
 -- a list may have a frame of so many bytes
 abbrev pub is_frame : ℕ → ℕ → Bool
-is_frame list frame = frame % 16 == 0 && (nat_le (base_of list) frame && nat_le frame 2032)
+is_frame list frame = frame % 16 == 0 && (nat_le (stack_adjust_base list) frame && nat_le frame 2032)
 
 -- the slots of registers below an offset: each register has the word below the one before it
 abbrev pub slots_below : ℕ → List ℕ → List Slot
@@ -32,17 +32,17 @@ slots_below top (r ∷ rs) = record { offset = top - 4; register = r } ∷ slots
 
 -- what one halfword doesn't move sp by: what is above the list's base and 48
 abbrev pub rest_of : ℕ → ℕ → ℕ
-rest_of list frame = frame - (base_of list + 48)
+rest_of list frame = frame - (stack_adjust_base list + 48)
 
 -- so many items, with the halfword of a list and a frame
-abbrev pub found : ℕ → (ℕ → ℕ → Short) → ℕ → ℕ → Found
-found items kind list frame = record { items = items; kind = kind list (frame - rest_of list frame); rest = rest_of list frame }
+abbrev pub found_in_frame : ℕ → (ℕ → ℕ → Short) → ℕ → ℕ → Found
+found_in_frame items kind list frame = record { items = items; kind = kind list (frame - rest_of list frame); rest = rest_of list frame }
 
 -- ---- accesses
 
 -- an instruction uses a slot
 abbrev pub is_access : Access → Slot → Instr → Bool
-is_access which d i = option_map_or (λ e. e.offset == d.offset && e.register == d.register) (accessed which (Some i)) false
+is_access which d i = option_map_or (λ e. e.offset == d.offset && e.register == d.register) (slot_accessed which (Some i)) false
 
 -- instructions use slots in any order: there are as many, each uses one of them, and each slot is used
 abbrev pub are_accesses : Access → List Slot → List Instr → Bool
@@ -59,7 +59,7 @@ has_accesses which list frame is n =
 
 -- `addi sp,sp,-frame`, and the stores of a list in any order
 abbrev pub push_of : ℕ → ℕ → Found
-push_of list frame = found (1 + length (registers_of list)) Push list frame
+push_of list frame = found_in_frame (1 + length (registers_of list)) Push list frame
 
 -- the push of a list that instructions begin with, by the frame
 abbrev pub push_in : List Instr → ℕ → ℕ → List Found
@@ -81,12 +81,12 @@ before ZeroFirst = 1
 before ZeroBeforeRaise = 0
 before ZeroBeforeReturn = 0
 
-abbrev pub behind : Ending → ℕ
-behind GoesOn = 1
-behind Returns = 2
-behind ZeroFirst = 2
-behind ZeroBeforeRaise = 3
-behind ZeroBeforeReturn = 3
+abbrev pub ending_items : Ending → ℕ
+ending_items GoesOn = 1
+ending_items Returns = 2
+ending_items ZeroFirst = 2
+ending_items ZeroBeforeRaise = 3
+ending_items ZeroBeforeReturn = 3
 
 -- those before them are right
 abbrev pub is_begun : Ending → List Instr → Bool
@@ -117,7 +117,7 @@ pop_kind ZeroBeforeRaise list adjust = PopRetz list adjust
 pop_kind ZeroBeforeReturn list adjust = PopRetz list adjust
 
 abbrev pub pop_of : Ending → ℕ → ℕ → Found
-pop_of e list frame = found (before e + length (registers_of list) + behind e) (pop_kind e) list frame
+pop_of e list frame = found_in_frame (before e + length (registers_of list) + ending_items e) (pop_kind e) list frame
 
 -- the pop of a list that instructions begin with, by the frame: the loads in any order
 abbrev pub pop_by : List Instr → ℕ → Ending → ℕ → List Found

@@ -23,14 +23,14 @@ op_of _ = None
 -- ---- of an instruction
 
 -- the slot at an offset from a base, which has to be sp
-abbrev pub slot_from : ℕ → ℤ → ℕ → Option Slot
-slot_from base (pos offset) r = if base == 2 then Some (record { offset = offset; register = r }) else None
-slot_from base (negsuc n) r = None
+abbrev pub slot_at_offset : ℕ → ℤ → ℕ → Option Slot
+slot_at_offset base (pos offset) r = if base == 2 then Some (record { offset = offset; register = r }) else None
+slot_at_offset base (negsuc n) r = None
 
 -- the slot that `sw r,offset(sp)` saves to, or `lw r,offset(sp)` restores from
 abbrev pub slot_of : Access → Instr → Option Slot
-slot_of Saves (Store Sw r base imm) = slot_from base imm r
-slot_of Restores (Load Lw r base imm) = slot_from base imm r
+slot_of Saves (Store Sw r base imm) = slot_at_offset base imm r
+slot_of Restores (Load Lw r base imm) = slot_at_offset base imm r
 slot_of _ _ = None
 
 -- what `addi sp,sp,imm` moves sp by
@@ -56,8 +56,8 @@ is_return_instr _ = false
 -- ---- of one that may not be there
 
 -- the slot that it uses
-abbrev pub accessed : Access → Option Instr → Option Slot
-accessed which i = option_and_then (slot_of which) i
+abbrev pub slot_accessed : Access → Option Instr → Option Slot
+slot_accessed which i = option_and_then (slot_of which) i
 
 -- by how many bytes it lowers sp, or raises it
 abbrev pub down_by : ℤ → Option ℕ

@@ -1,9 +1,9 @@
 // Frames of register lists.
 
 ghost use Rattle.std.specs.Prelude.{◌≡◌, ◌≤◌, ◌<◌, ◌-◌, length};
-ghost use Rattle.zc_decode.specs.Lists.{base_of as base_of_list, registers_of};
+ghost use Rattle.zc_decode.specs.Lists.{stack_adjust_base, registers_of};
 ghost use Rattle.frame_match.specs.Matches as matches;
-ghost use Rattle.frame_match.specs.Invariants.Frames.{list_of, IsKnown};
+ghost use Rattle.frame_match.specs.Invariants.Frames.{list_leaving_out, IsKnown};
 
 /// The frame of a register list: how many of the 13 registers the list leaves out, and how many bytes the frame has.
 #[derive(Clone, Copy)]
@@ -13,8 +13,8 @@ pub struct Frame {
 }
 
 // What the stack pointer moves by at least.
-fn base_of(list: u8) -> u32
-    ensures { result ≡ base_of_list list }
+fn stack_adjust_base(list: u8) -> u32
+    ensures { result ≡ stack_adjust_base list }
 {
     if list == 15 {
         64
@@ -31,7 +31,7 @@ impl Frame {
     /// The list's number.
     pub fn list(self) -> u8
         requires { self.left_out < 13 }
-        ensures { result ≡ list_of self.left_out }
+        ensures { result ≡ list_leaving_out self.left_out }
     {
         if self.left_out == 0 {
             15
@@ -43,7 +43,7 @@ impl Frame {
     /// How many registers the list has.
     pub fn count(self) -> u32
         requires { IsKnown self.left_out }
-        ensures count { result ≡ length (registers_of (list_of self.left_out)) }
+        ensures count { result ≡ length (registers_of (list_leaving_out self.left_out)) }
         ensures few { result ≤ 13 }
     {
         13 - u32::from(self.left_out)
@@ -52,26 +52,27 @@ impl Frame {
     /// Whether the list may have a frame of so many bytes.
     pub fn is_fit(self) -> bool
         requires { self.left_out < 13 }
-        ensures { result ≡ matches.is_frame (list_of self.left_out) self.bytes }
+        ensures { result ≡ matches.is_frame (list_leaving_out self.left_out) self.bytes }
     {
-        self.bytes % 16 == 0 && base_of(self.list()) <= self.bytes && self.bytes <= 2032
+        self.bytes % 16 == 0 && stack_adjust_base(self.list()) <= self.bytes && self.bytes <= 2032
     }
 
     /// What one halfword doesn't move the stack pointer by.
     pub fn rest(self) -> u16
         requires list { self.left_out < 13 }
         requires bytes { self.bytes ≤ 2032 }
-        ensures { result ≡ matches.rest_of (list_of self.left_out) self.bytes }
+        ensures { result ≡ matches.rest_of (list_leaving_out self.left_out) self.bytes }
     {
-        self.bytes.saturating_sub(base_of(self.list()) + 48) as u16
+        self.bytes
+            .saturating_sub(stack_adjust_base(self.list()) + 48) as u16
     }
 
     /// And what it does.
     pub fn adjust(self) -> u8
         requires list { self.left_out < 13 }
         requires bytes { self.bytes ≤ 2032 }
-        ensures { result ≡ self.bytes - matches.rest_of (list_of self.left_out) self.bytes }
+        ensures { result ≡ self.bytes - matches.rest_of (list_leaving_out self.left_out) self.bytes }
     {
-        self.bytes.min(base_of(self.list()) + 48) as u8
+        self.bytes.min(stack_adjust_base(self.list()) + 48) as u8
     }
 }

@@ -6,15 +6,15 @@ ghost use Rattle.frame_match.specs.declared.found.Ending.TheVariants.{GoesOn, Re
 ghost use Rattle.frame_match.specs.declared.found.Found.{Found};
 ghost use Rattle.frame_match.specs.declared.slot.Access.TheVariants.{Restores};
 ghost use Rattle.frame_match.specs.Matches as matches;
-ghost use Rattle.frame_match.specs.Matches.{before, behind, pop_of};
-ghost use Rattle.frame_match.specs.Read.{accessed as access_of};
-ghost use Rattle.frame_match.specs.Invariants.Frames.{list_of, IsKnown};
+ghost use Rattle.frame_match.specs.Matches.{before, ending_items, pop_of};
+ghost use Rattle.frame_match.specs.Read.{slot_accessed};
+ghost use Rattle.frame_match.specs.Invariants.Frames.{list_leaving_out, IsKnown};
 ghost use Rattle.frame_match.specs.Invariants.Kinds.{tail_as, tail_at, Beats, IsPop};
 
 use crate::found::{Ending, Found};
 use crate::frame::Frame;
 use crate::pushes::is_framed;
-use crate::read::{accessed, is_return, is_zero, raised};
+use crate::read::{is_return, is_zero, raised, slot_accessed};
 use crate::run::Run;
 use crate::slot::Access;
 use zc_decode::short::Short;
@@ -36,12 +36,12 @@ fn first_load(zeroed: bool) -> usize
 // How many loads stand from an index on, at most 14.
 fn loads(run: &Run, from: usize) -> u8
     requires { from < 2 }
-    ensures loads { (m : ℕ) → m < result → is_some (access_of Restores (slice_get run.now (from + m))) ≡ true }
-    ensures stops { result < 14 → is_some (access_of Restores (slice_get run.now (from + result))) ≡ false }
+    ensures loads { (m : ℕ) → m < result → is_some (slot_accessed Restores (slice_get run.now (from + m))) ≡ true }
+    ensures stops { result < 14 → is_some (slot_accessed Restores (slice_get run.now (from + result))) ≡ false }
     ensures few { result ≤ 14 }
 {
     for n in 0..14u8 {
-        if accessed(Access::Restores, run.get(from + usize::from(n))).is_none() {
+        if slot_accessed(Access::Restores, run.get(from + usize::from(n))).is_none() {
             return n;
         }
     }
@@ -126,7 +126,7 @@ fn tail_behind(zeroed: bool, run: &Run, n: usize) -> Option<Tail>
 
 // How many instructions of a pop are not loads.
 fn around(ending: Ending) -> u32
-    ensures count { result ≡ before ending + behind ending }
+    ensures count { result ≡ before ending + ending_items ending }
     ensures few { result ≤ 3 }
 {
     match ending {
@@ -152,7 +152,7 @@ fn pop_kind(ending: Ending, list: u8, adjust: u8) -> Short
 fn popped(ending: Ending, frame: Frame) -> Found
     requires known { IsKnown frame.left_out }
     requires bytes { frame.bytes ≤ 2032 }
-    ensures { result ≡ pop_of ending (list_of frame.left_out) frame.bytes }
+    ensures { result ≡ pop_of ending (list_leaving_out frame.left_out) frame.bytes }
 {
     Found {
         items: frame.count() + around(ending),

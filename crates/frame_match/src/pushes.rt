@@ -4,7 +4,7 @@ ghost use Rattle.std.specs.Prelude.{◌≡◌, ◌↔◌, ◌<◌, ◌≤◌, �
 ghost use Rattle.frame_match.specs.declared.found.Found.{Found};
 ghost use Rattle.frame_match.specs.declared.slot.Access.TheVariants.{Saves};
 ghost use Rattle.frame_match.specs.Matches.{push_of};
-ghost use Rattle.frame_match.specs.Invariants.Frames.{list_of, IsKnown};
+ghost use Rattle.frame_match.specs.Invariants.Frames.{list_leaving_out, IsKnown};
 ghost use Rattle.frame_match.specs.Invariants.Kinds.{IsFramed, IsPush};
 
 use crate::found::Found;
@@ -28,7 +28,7 @@ pub fn is_framed(which: Access, run: &Run, from: usize, frame: Frame) -> bool
 fn pushed(frame: Frame) -> Found
     requires known { IsKnown frame.left_out }
     requires bytes { frame.bytes ≤ 2032 }
-    ensures { result ≡ push_of (list_of frame.left_out) frame.bytes }
+    ensures { result ≡ push_of (list_leaving_out frame.left_out) frame.bytes }
 {
     Found {
         items: 1 + frame.count(),

@@ -2,7 +2,7 @@
 
 ghost use Rattle.std.specs.Prelude.{◌≡◌, IfSome};
 ghost use Rattle.frame_match.specs.Read as read;
-ghost use Rattle.frame_match.specs.Read.{is_return_instr, is_zero_instr, move_of, op_of as op_of_item, slot_from, slot_of as slot_of_instr, sp_move_of};
+ghost use Rattle.frame_match.specs.Read.{is_return_instr, is_zero_instr, move_of, op_of as op_of_item, slot_at_offset, slot_of as slot_of_instr, sp_move_of};
 ghost use Rattle.frame_match.specs.Invariants.Runs as runs;
 ghost use Rattle.frame_match.specs.declared.slot.Access.TheVariants.{Restores, Saves};
 
@@ -22,7 +22,7 @@ pub fn op_of(item: &Item) -> Option<Instr>
 }
 
 fn slot_at(base: u8, imm: i32, register: u8) -> Option<Slot>
-    ensures { result ≡ slot_from base imm register }
+    ensures { result ≡ slot_at_offset base imm register }
 {
     if base == 2 && imm >= 0 {
         Some(Slot {
@@ -72,8 +72,8 @@ fn slot_of(which: Access, instr: &Instr) -> Option<Slot>
 }
 
 /// The slot that an instruction saves a register to, or restores one from.
-pub fn accessed(which: Access, instr: Option<Instr>) -> Option<Slot>
-    ensures { result ≡ read.accessed which instr }
+pub fn slot_accessed(which: Access, instr: Option<Instr>) -> Option<Slot>
+    ensures { result ≡ read.slot_accessed which instr }
 {
     match instr {
         Some(instr) => slot_of(which, &instr),

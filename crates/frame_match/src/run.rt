@@ -7,7 +7,7 @@ ghost use Rattle.block_cut.specs.Items.{place_of};
 ghost use Rattle.block_cut.specs.Places.{code_place};
 ghost use Rattle.frame_match.specs.Groups.{spot_on};
 ghost use Rattle.frame_match.specs.Invariants.Runs as runs;
-ghost use Rattle.frame_match.specs.Invariants.Runs.{op_in, run_of, spots_of, AreOps, ArePlacesOf, IsRun};
+ghost use Rattle.frame_match.specs.Invariants.Runs.{op_in, run_from, spots_of, HaveOps, ArePlacesOf, IsRun};
 
 use crate::read::op_of;
 use block_cut::code_place::CodePlace;
@@ -26,13 +26,13 @@ pub struct Run<'a> {
 impl<'a> Model for Run<'a> {
     ghost use Rattle.std.specs.Prelude.{List};
     ghost use Rattle.rv_decode.specs.declared.instr.Instr.{Instr};
-    ghost use Rattle.frame_match.specs.Invariants.Runs.{ops_of, AreOps};
+    ghost use Rattle.frame_match.specs.Invariants.Runs.{ops_of, HaveOps};
 
     ghost Value = { List Instr };
 
     ghost view = { λ run. ops_of run.places.now };
 
-    ghost invariant = { λ run. AreOps run.places.now };
+    ghost invariant = { λ run. HaveOps run.places.now };
 }
 
 /// The instruction at a place, if it has no relocation.
@@ -69,7 +69,7 @@ fn joins(cut: &Cut, section: &SectionRef, place: &CodePlace, is_first: bool) -> 
 fn run_length(cut: &Cut, section: &SectionRef, places: &[CodePlace]) -> usize
     requires { ArePlacesOf (parsed cut.now) section.now places.now }
     ensures within { result ≤ length places.now }
-    ensures ops { AreOps (take result places.now) }
+    ensures ops { HaveOps (take result places.now) }
     ensures run { IsRun (spots_of (parsed cut.now) section.now places.now) result }
 {
     let limit = places.len().min(16);
@@ -85,7 +85,7 @@ impl<'a> Run<'a> {
     /// The instructions from the first of some places of a section on, as far as a group may reach.
     pub fn new(cut: &Cut, section: &SectionRef, places: &'a [CodePlace]) -> Run<'a>
         requires { ArePlacesOf (parsed cut.now) section.now places.now }
-        ensures { take 16 result ≡ take 16 (run_of (spots_of (parsed cut.now) section.now places.now)) }
+        ensures { take 16 result ≡ take 16 (run_from (spots_of (parsed cut.now) section.now places.now)) }
     {
         let count = run_length(cut, section, places);
         Run {

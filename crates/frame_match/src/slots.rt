@@ -2,10 +2,10 @@
 
 ghost use Rattle.std.specs.Prelude.{◌≡◌, ◌↔◌, ℕ, ◌+◌, ◌*◌, ◌≤◌, ◌<◌, IsTrue, IfSome, Option, Some, slice_index};
 ghost use Rattle.zc_decode.specs.Lists.{saved_registers};
-ghost use Rattle.frame_match.specs.Invariants.Frames.{rank_of, slot_at, Fills, IsKnown, IsSlot};
+ghost use Rattle.frame_match.specs.Invariants.Frames.{saved_index, frame_slot, Fills, IsKnown, IsSlot};
 
 use crate::frame::Frame;
-use crate::read::accessed;
+use crate::read::slot_accessed;
 use crate::run::Run;
 use crate::slot::{Access, Slot};
 use rv_decode::instr::Instr;
@@ -21,7 +21,7 @@ fn saved(rank: usize) -> u8
 
 // Where a register stands in that list; 13 if it isn't there.
 fn rank(register: u8) -> u8
-    ensures { result ≡ rank_of register }
+    ensures { result ≡ saved_index register }
 {
     match register {
         18..=27 => 27 - register,
@@ -47,8 +47,8 @@ fn number_at(offset: u32, bytes: u32) -> Option<u32>
 fn number_of(slot: Slot, frame: Frame) -> Option<usize>
     requires some { frame.left_out < 13 }
     requires room { 52 ≤ frame.bytes + 4 * frame.left_out }
-    ensures known { IfSome result (λ j. (j + frame.left_out < 13) × (slot ≡ slot_at frame.bytes frame.left_out j)) }
-    ensures each { (j : ℕ) → j + frame.left_out < 13 → slot ≡ slot_at frame.bytes frame.left_out j
+    ensures known { IfSome result (λ j. (j + frame.left_out < 13) × (slot ≡ frame_slot frame.bytes frame.left_out j)) }
+    ensures each { (j : ℕ) → j + frame.left_out < 13 → slot ≡ frame_slot frame.bytes frame.left_out j
         → result ≡ Some j }
 {
     let j = number_at(slot.offset, frame.bytes)? as usize;
@@ -67,7 +67,7 @@ fn slot_number(which: Access, instr: Option<Instr>, frame: Frame) -> Option<usiz
     ensures known { IfSome result (λ j. IsSlot which frame.bytes frame.left_out j instr) }
     ensures each { (j : ℕ) → IsSlot which frame.bytes frame.left_out j instr → result ≡ Some j }
 {
-    let slot = accessed(which, instr)?;
+    let slot = slot_accessed(which, instr)?;
     number_of(slot, frame)
 }
 
@@ -75,7 +75,7 @@ fn slot_number(which: Access, instr: Option<Instr>, frame: Frame) -> Option<usiz
 fn left_out_at(slot: Slot, bytes: u32) -> Option<u8>
     ensures known { IfSome result (λ left_out. IsKnown left_out) }
     ensures each { (left_out j : ℕ) → IsKnown left_out → j + left_out < 13 → 4 * (j + 1) ≤ bytes
-        → slot ≡ slot_at bytes left_out j → result ≡ Some left_out }
+        → slot ≡ frame_slot bytes left_out j → result ≡ Some left_out }
 {
     let j = number_at(slot.offset, bytes)?;
     let rank = rank(slot.register);
@@ -92,7 +92,7 @@ pub fn left_out_by(which: Access, instr: Option<Instr>, bytes: u32) -> Option<u8
     ensures each { (left_out j : ℕ) → IsKnown left_out → 4 * (j + 1) ≤ bytes
         → IsSlot which bytes left_out j instr → result ≡ Some left_out }
 {
-    let slot = accessed(which, instr)?;
+    let slot = slot_accessed(which, instr)?;
     left_out_at(slot, bytes)
 }
 

@@ -10,7 +10,7 @@ ghost use Rattle.frame_match.specs.declared.mark.Mark.TheVariants.{Start};
 ghost use Rattle.frame_match.specs.Matches.{longest_of};
 ghost use Rattle.frame_match.specs.Groups.{group_at, groups_in, roles_in};
 ghost use Rattle.frame_match.specs.Invariants.Marks.{groups_after, marks_after, marks_from, WalksOn};
-ghost use Rattle.frame_match.specs.Invariants.Runs.{begins_with, op_in, run_of, spots_of, ArePlacesOf};
+ghost use Rattle.frame_match.specs.Invariants.Runs.{begins_with, op_in, run_from, spots_of, ArePlacesOf};
 
 use crate::found::Found;
 use crate::group::Group;
@@ -49,7 +49,7 @@ fn begins(places: &[CodePlace]) -> bool
 // looked at once.
 fn found_at(cut: &Cut, section: &SectionRef, places: &[CodePlace]) -> Option<Found>
     requires { ArePlacesOf (parsed cut.now) section.now places.now }
-    ensures { result ≡ longest_of (run_of (spots_of (parsed cut.now) section.now places.now)) }
+    ensures { result ≡ longest_of (run_from (spots_of (parsed cut.now) section.now places.now)) }
 {
     if begins(places) {
         longest(&Run::new(cut, section, places))

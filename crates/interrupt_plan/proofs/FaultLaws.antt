@@ -10,10 +10,10 @@ use Rattle.std.proofs.lemmas.List.Splits.{join_with_byte-slice_split, slice_spli
 use Rattle.std.proofs.lemmas.Slice.Eq.{bytes_eq-Decides}
 use Rattle.text_lines.specs.Lines.{lines_of, words_of}
 use Rattle.text_lines.proofs.SplitLaws.{some_part, split_found, split_none, text_found}
-use Rattle.interrupt_plan.specs.Fault.{BeginsAsPlan, IsFault, bad_line, earlier, first_line, large, memory}
+use Rattle.interrupt_plan.specs.Fault.{BeginsAsPlan, IsPlanFault, bad_line, earlier, first_line, large, memory}
 use Rattle.interrupt_plan.specs.Order.{IsInOrder}
 use Rattle.interrupt_plan.specs.Plan.{Entry}
-use Rattle.interrupt_plan.specs.Text.{FitsEntry, entries_behind, entries_in, entry_line, entry_of_words, entry_then, plan_in, plan_text, with_first}
+use Rattle.interrupt_plan.specs.Text.{FitsEntry, entries_behind, entries_of_lines, entry_line, entry_of_words, entry_then, plan_in, plan_text, with_first}
 use Rattle.interrupt_plan.specs.declared.fault.PlanFault.{PlanFault}
 use Rattle.interrupt_plan.specs.declared.fault.PlanFault.TheVariants.{BadLine, OutOfMemory, OutOfOrder, TooLarge}
 use Rattle.interrupt_plan.proofs.EntryLaws.{in_order_pushed, last_pushed}
@@ -76,7 +76,7 @@ module _ (text : List ℕ) (before : List Entry) (low : ℕ) (rest : List ℕ) (
         none = λ empty. absurd (omega (arith, size, empty));
       }
 
-  too_early : (e : Entry) (behind : List ℕ) → FitsEntry e → rest ≡ entry_line e ++ (10 ∷ behind) → e.at < low → IsFault text (OutOfOrder (length before + 2))
+  too_early : (e : Entry) (behind : List ℕ) → FitsEntry e → rest ≡ entry_line e ++ (10 ∷ behind) → e.at < low → IsPlanFault text (OutOfOrder (length before + 2))
   too_early e behind fits is late =
       let P : List ℕ → Type 0 = BeginsAsPlan text before in
       earlier before e behind (subst P is at.begins) fits (λ sorted. unsorted sorted (cases_lt 0 (length before)))
@@ -101,11 +101,11 @@ with_first_err : (e : Entry) (r : Result (List Entry) PlanFault) (fault : PlanFa
 with_first_err e (Ok more) fault is = wrong (e ∷ more) fault is
 with_first_err e (Err other) fault is = is
 
-same_fault : (text : List ℕ) (a b : PlanFault) → ◌≡◌ {A = Result (List Entry) PlanFault} (Err a) (Err b) → IsFault text a → IsFault text b
-same_fault text a b is here = let same : a ≡ b = cc in let P : PlanFault → Type 0 = IsFault text in subst P same here
+same_fault : (text : List ℕ) (a b : PlanFault) → ◌≡◌ {A = Result (List Entry) PlanFault} (Err a) (Err b) → IsPlanFault text a → IsPlanFault text b
+same_fault text a b is here = let same : a ≡ b = cc in let P : PlanFault → Type 0 = IsPlanFault text in subst P same here
 
 -- the last line has no line feed
-unended : (text : List ℕ) (before : List Entry) (low : ℕ) (rest line : List ℕ) (fault : PlanFault) (b : Bool) → Reached text before low rest → lines_of rest ≡ line ∷ [] → bytes_eq line [] ≡ b → ◌≡◌ {A = Result (List Entry) PlanFault} (cond b (Ok []) (Err (BadLine (length before + 2)))) (Err fault) → IsFault text fault
+unended : (text : List ℕ) (before : List Entry) (low : ℕ) (rest line : List ℕ) (fault : PlanFault) (b : Bool) → Reached text before low rest → lines_of rest ≡ line ∷ [] → bytes_eq line [] ≡ b → ◌≡◌ {A = Result (List Entry) PlanFault} (cond b (Ok []) (Err (BadLine (length before + 2)))) (Err fault) → IsPlanFault text fault
 unended text before low rest line fault true at is empty stops = wrong [] fault stops
 unended text before low rest line fault false at is some stops =
     same_fault text (BadLine (length before + 2)) fault stops
@@ -114,7 +114,7 @@ unended text before low rest line fault false at is some stops =
     (λ e more fits same. let parts = ap lines_of same ∙ line_behind e more fits in no_part more (let none : lines_of more ≡ [] = cc in none)))
 
 -- a line that is no entry's
-no_entry : (text : List ℕ) (before : List Entry) (low : ℕ) (rest line next : List ℕ) (lines : List (List ℕ)) → Reached text before low rest → lines_of rest ≡ line ∷ (next ∷ lines) → entry_of_words (words_of line) ≡ None → IsFault text (BadLine (length before + 2))
+no_entry : (text : List ℕ) (before : List Entry) (low : ℕ) (rest line next : List ℕ) (lines : List (List ℕ)) → Reached text before low rest → lines_of rest ≡ line ∷ (next ∷ lines) → entry_of_words (words_of line) ≡ None → IsPlanFault text (BadLine (length before + 2))
 no_entry text before low rest line next lines at is bad =
     bad_line before rest at.begins
     (λ none. let parts = ap lines_of none in absurd cc)
@@ -124,22 +124,22 @@ no_entry text before low rest line next lines at is bad =
     let good : entry_of_words (words_of line) ≡ Some e = ap (λ l. entry_of_words (words_of l)) line_is ∙ ap entry_of_words (words_back e fits) ∙ entry_back e fits in
     absurd cc)
 
-lines_stop : (lines : List (List ℕ)) (text line : List ℕ) (before : List Entry) (low : ℕ) (rest : List ℕ) (fault : PlanFault) → Reached text before low rest → lines_of rest ≡ line ∷ lines → entries_in (length before + 2) low (line ∷ lines) ≡ Err fault → IsFault text fault
+lines_stop : (lines : List (List ℕ)) (text line : List ℕ) (before : List Entry) (low : ℕ) (rest : List ℕ) (fault : PlanFault) → Reached text before low rest → lines_of rest ≡ line ∷ lines → entries_of_lines (length before + 2) low (line ∷ lines) ≡ Err fault → IsPlanFault text fault
 lines_stop [] text line before low rest fault at is stops = unended text before low rest line fault (bytes_eq line []) at is refl stops
 lines_stop (next ∷ lines) text line before low rest fault at is stops =
     either (λ b l r h there on. lines_stop lines text next b l r fault h there on) (entry_of_words (words_of line)) refl stops
   where
-    timed : ((b : List Entry) (l : ℕ) (r : List ℕ) → Reached text b l r → lines_of r ≡ next ∷ lines → entries_in (length b + 2) l (next ∷ lines) ≡ Err fault → IsFault text fault)
-        → (e : Entry) → FitsEntry e → (behind : List ℕ) → rest ≡ entry_line e ++ (10 ∷ behind) → lines_of behind ≡ next ∷ lines → (b : Bool) → ltb e.at low ≡ b → cond b (Err (OutOfOrder (length before + 2))) (with_first e (entries_in (length before + 2 + 1) e.at (next ∷ lines))) ≡ Err fault → IsFault text fault
+    timed : ((b : List Entry) (l : ℕ) (r : List ℕ) → Reached text b l r → lines_of r ≡ next ∷ lines → entries_of_lines (length b + 2) l (next ∷ lines) ≡ Err fault → IsPlanFault text fault)
+        → (e : Entry) → FitsEntry e → (behind : List ℕ) → rest ≡ entry_line e ++ (10 ∷ behind) → lines_of behind ≡ next ∷ lines → (b : Bool) → ltb e.at low ≡ b → cond b (Err (OutOfOrder (length before + 2))) (with_first e (entries_of_lines (length before + 2 + 1) e.at (next ∷ lines))) ≡ Err fault → IsPlanFault text fault
     timed later e fits behind spells there true late h = same_fault text (OutOfOrder (length before + 2)) fault h (too_early text before low rest at e behind fits spells (ltb-true e.at low late))
     timed later e fits behind spells there false on h =
         let size = length-append before (e ∷ []) in
         let number : length (before ++ (e ∷ [])) + 2 ≡ length before + 2 + 1 = omega (arith, size) in
         later (before ++ (e ∷ [])) e.at behind (reached_more text before low rest at e behind fits spells (ltb-false e.at low on)) there
-        (ap (λ n. entries_in n e.at (next ∷ lines)) number ∙ with_first_err e (entries_in (length before + 2 + 1) e.at (next ∷ lines)) fault h)
+        (ap (λ n. entries_of_lines n e.at (next ∷ lines)) number ∙ with_first_err e (entries_of_lines (length before + 2 + 1) e.at (next ∷ lines)) fault h)
 
-    either : ((b : List Entry) (l : ℕ) (r : List ℕ) → Reached text b l r → lines_of r ≡ next ∷ lines → entries_in (length b + 2) l (next ∷ lines) ≡ Err fault → IsFault text fault)
-        → (o : Option Entry) → entry_of_words (words_of line) ≡ o → entry_then (length before + 2) low o (λ n. entries_in (length before + 2 + 1) n (next ∷ lines)) ≡ Err fault → IsFault text fault
+    either : ((b : List Entry) (l : ℕ) (r : List ℕ) → Reached text b l r → lines_of r ≡ next ∷ lines → entries_of_lines (length b + 2) l (next ∷ lines) ≡ Err fault → IsPlanFault text fault)
+        → (o : Option Entry) → entry_of_words (words_of line) ≡ o → entry_then (length before + 2) low o (λ n. entries_of_lines (length before + 2 + 1) n (next ∷ lines)) ≡ Err fault → IsPlanFault text fault
     either later None bad h = same_fault text (BadLine (length before + 2)) fault h (no_entry text before low rest line next lines at is bad)
     either later (Some e) good h =
         let behind = rest_of rest line next lines is in
@@ -164,7 +164,7 @@ begins_title text title rest is spells = record {
   none = λ empty. refl;
 }
 
-titled_stop : (text title next : List ℕ) (lines : List (List ℕ)) (fault : PlanFault) (b : Bool) → lines_of text ≡ title ∷ (next ∷ lines) → bytes_eq title (codes "zcld plan 1") ≡ b → cond b (entries_in 2 0 (next ∷ lines)) (Err (BadLine 1)) ≡ Err fault → IsFault text fault
+titled_stop : (text title next : List ℕ) (lines : List (List ℕ)) (fault : PlanFault) (b : Bool) → lines_of text ≡ title ∷ (next ∷ lines) → bytes_eq title (codes "zcld plan 1") ≡ b → cond b (entries_of_lines 2 0 (next ∷ lines)) (Err (BadLine 1)) ≡ Err fault → IsPlanFault text fault
 titled_stop text title next lines fault true is same h =
     let behind = rest_of text title next lines is in
     lines_stop lines text next [] 0 behind.0 fault (begins_title text title behind.0 ((bytes_eq-Decides title (codes "zcld plan 1")).0 same) behind.1) behind.2 h
@@ -174,19 +174,19 @@ titled_stop text title next lines fault false is other h =
     let title_is : title ≡ codes "zcld plan 1" = cc in
     false≢true (sym other ∙ (bytes_eq-Decides title (codes "zcld plan 1")).1 title_is)))
 
-text_stop : (text : List ℕ) (parts : List (List ℕ)) (fault : PlanFault) → lines_of text ≡ parts → entries_behind parts ≡ Err fault → IsFault text fault
+text_stop : (text : List ℕ) (parts : List (List ℕ)) (fault : PlanFault) → lines_of text ≡ parts → entries_behind parts ≡ Err fault → IsPlanFault text fault
 text_stop text [] fault is h = no_part text is
 text_stop text (line ∷ []) fault is h =
     same_fault text (BadLine 1) fault h (first_line (λ rest same.
     let parts = ap lines_of same ∙ titled rest in no_part rest (let none : lines_of rest ≡ [] = cc in none)))
 text_stop text (title ∷ (next ∷ lines)) fault is h = titled_stop text title next lines fault (bytes_eq title (codes "zcld plan 1")) is refl h
 
-limited : (text : List ℕ) (fault : PlanFault) (b : Bool) → ltb 8388608 (length text) ≡ b → cond b (Err TooLarge) (entries_behind (lines_of text)) ≡ Err fault → IsFault text fault
+limited : (text : List ℕ) (fault : PlanFault) (b : Bool) → ltb 8388608 (length text) ≡ b → cond b (Err TooLarge) (entries_behind (lines_of text)) ≡ Err fault → IsPlanFault text fault
 limited text fault true is h = same_fault text TooLarge fault h (large (ltb-true 8388608 (length text) is))
 limited text fault false is h = text_stop text (lines_of text) fault refl h
 
 -- a fault that is found, or want of memory
-pub fault_read : (text : List ℕ) (fault : PlanFault) → (fault ≡ OutOfMemory) ⊎ (plan_in text ≡ Err fault) → IsFault text fault
+pub fault_read : (text : List ℕ) (fault : PlanFault) → (fault ≡ OutOfMemory) ⊎ (plan_in text ≡ Err fault) → IsPlanFault text fault
 unfolding plan_in
-fault_read text fault (inl want) = let P : PlanFault → Type 0 = IsFault text in subst P (sym want) memory
+fault_read text fault (inl want) = let P : PlanFault → Type 0 = IsPlanFault text in subst P (sym want) memory
 fault_read text fault (inr found) = limited text fault (ltb 8388608 (length text)) refl found

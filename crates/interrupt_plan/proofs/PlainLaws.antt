@@ -8,7 +8,7 @@ use Rattle.text_lines.specs.Hex.{hex_digit}
 use Rattle.text_lines.specs.Lines.{words_of}
 use Rattle.text_lines.proofs.PlainLaws.{IsLine, IsPlain, decimal_plain, joined_line, words_again}
 use Rattle.interrupt_plan.specs.Plan.{Entry, Interrupt}
-use Rattle.interrupt_plan.specs.Text.{FitsEntry, access_word, byte_word, entry_line, entry_words, interrupt_words}
+use Rattle.interrupt_plan.specs.Text.{FitsEntry, access_word, dirt_word, entry_line, entry_words, interrupt_words}
 
 -- ---- words are plain
 
@@ -18,10 +18,10 @@ hex_plain d = cond_both (ltb d 10) (48 + d) (87 + d) (λ x. 32 < x) (λ _. omega
 access_plain : (n : ℕ) → n < 256 → IsPlain (access_word n)
 access_plain n lt = All-cons (λ b. 32 < b) 97 (decimal n) (omega arith) (decimal_plain n (omega (arith, lt)))
 
-byte_plain : (d : ℕ × ℕ) → IsPlain (byte_word d)
+byte_plain : (d : ℕ × ℕ) → IsPlain (dirt_word d)
 byte_plain d =
     let h = λ (n shift : ℕ). hex_plain (n / 2 ^ shift % 16) in
-    All-from_recursion (λ b. 32 < b) (byte_word d)
+    All-from_recursion (λ b. 32 < b) (dirt_word d)
     (lit< tt, (h d.0 28, (h d.0 24, (h d.0 20, (h d.0 16, (h d.0 12, (h d.0 8, (h d.0 4, (h d.0 0, (lit< tt, (h d.1 4, (h d.1 0, tt))))))))))))
 
 cut_plain : IsPlain (codes "cut")
@@ -29,9 +29,9 @@ cut_plain = All-from_recursion (λ b. 32 < b) (codes "cut") (lit< tt, (lit< tt, 
 
 interrupt_plain : (c : Interrupt) → All (λ n. n < 256) c.done → All IsPlain (interrupt_words c)
 interrupt_plain c small =
-    All-append IsPlain (map access_word c.done) (map byte_word c.dirt)
+    All-append IsPlain (map access_word c.done) (map dirt_word c.dirt)
     (All-map IsPlain access_word c.done (All-weaker (λ n. n < 256) (λ n. IsPlain (access_word n)) access_plain c.done small))
-    (All-map IsPlain byte_word c.dirt (λ k d lt. byte_plain _))
+    (All-map IsPlain dirt_word c.dirt (λ k d lt. byte_plain _))
 
 words_plain : (e : Entry) → FitsEntry e → All IsPlain (entry_words e)
 words_plain e fits =

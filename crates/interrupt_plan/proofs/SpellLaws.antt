@@ -10,20 +10,20 @@ use Rattle.text_lines.specs.Number.{decimal_of}
 use Rattle.text_lines.proofs.NumberLaws.{decimal_of-Some, number_of_is}
 use Rattle.text_lines.proofs.OptionLaws.{mapped, picked}
 use Rattle.interrupt_plan.specs.Plan.{Entry, Interrupt}
-use Rattle.interrupt_plan.specs.Text.{FitsByte, FitsEntry, access_of, access_or_bytes, access_word, dirt_of, byte_word, bytes_of, entry, entry_of_words, entry_words, interrupt, interrupt_of, interrupt_words, with_access}
+use Rattle.interrupt_plan.specs.Text.{FitsByte, FitsEntry, access_of, access_or_bytes, access_word, dirt_of, dirt_word, dirt_in, entry, entry_of_words, entry_words, interrupt, interrupt_of, interrupt_words, with_access}
 use Rattle.interrupt_plan.proofs.WordLaws.{access_of-None, access_of-Some, access_of_is, dirt_of-Some, byte_of_is}
 
 -- ---- words that spell something are its words
 
 ReadBytes : List (List ℕ) → List (ℕ × ℕ) → Type 0
-ReadBytes words dirt = (words ≡ map byte_word dirt) × All FitsByte dirt
+ReadBytes words dirt = (words ≡ map dirt_word dirt) × All FitsByte dirt
 
-bytes_of_is : (words : List (List ℕ)) (dirt : List (ℕ × ℕ)) → bytes_of words ≡ Some dirt → ReadBytes words dirt
+bytes_of_is : (words : List (List ℕ)) (dirt : List (ℕ × ℕ)) → dirt_in words ≡ Some dirt → ReadBytes words dirt
 unfolding ReadBytes
 bytes_of_is [] dirt is = subst (ReadBytes []) (same_Some [] dirt is) (refl, All-nil FitsByte)
 bytes_of_is (word ∷ words) dirt is =
-    option_and_then_some (λ d. option_map (λ more. d ∷ more) (bytes_of words)) (dirt_of word) dirt is (λ d first rest.
-    mapped (λ more. d ∷ more) (bytes_of words) dirt rest (λ more others same.
+    option_and_then_some (λ d. option_map (λ more. d ∷ more) (dirt_in words)) (dirt_of word) dirt is (λ d first rest.
+    mapped (λ more. d ∷ more) (dirt_in words) dirt rest (λ more others same.
     let here = byte_of_is word d first in
     let there = bytes_of_is words more others in
     subst (ReadBytes (word ∷ words)) same (ap₂ (λ w ws. w ∷ ws) here.2 there.0, All-cons FitsByte d more (here.0, here.1) there.1)))
@@ -36,14 +36,14 @@ unfolding ReadInterrupt ReadBytes
 interrupt_of_is [] c is = subst (ReadInterrupt []) (same_Some (interrupt [] []) c is) (refl, All-nil (λ n. n < 256), All-nil FitsByte)
 interrupt_of_is (word ∷ words) c is = either (λ d h. interrupt_of_is words d h) (access_of word) refl is
   where
-    either : ((d : Interrupt) → interrupt_of words ≡ Some d → ReadInterrupt words d) → (o : Option ℕ) → access_of word ≡ o → access_or_bytes o (interrupt_of words) (bytes_of (word ∷ words)) ≡ Some c → ReadInterrupt (word ∷ words) c
+    either : ((d : Interrupt) → interrupt_of words ≡ Some d → ReadInterrupt words d) → (o : Option ℕ) → access_of word ≡ o → access_or_bytes o (interrupt_of words) (dirt_in (word ∷ words)) ≡ Some c → ReadInterrupt (word ∷ words) c
     either later (Some n) first rest =
         mapped (with_access n) (interrupt_of words) c rest (λ d others same.
         let here = access_of_is word n first in
         let there = later d others in
         subst (ReadInterrupt (word ∷ words)) same (ap₂ (λ w ws. w ∷ ws) here.1 there.0, All-cons (λ n. n < 256) n d.done here.0 there.1, there.2))
     either later None first rest =
-        mapped (interrupt []) (bytes_of (word ∷ words)) c rest (λ dirt bytes same.
+        mapped (interrupt []) (dirt_in (word ∷ words)) c rest (λ dirt bytes same.
         let there = bytes_of_is (word ∷ words) dirt bytes in
         subst (ReadInterrupt (word ∷ words)) same (there.0, All-nil (λ n. n < 256), there.1))
 
@@ -65,24 +65,24 @@ entry_of_is (first ∷ (number ∷ words)) e is =
 
 -- ---- and back
 
-bytes_back : (dirt : List (ℕ × ℕ)) → All FitsByte dirt → bytes_of (map byte_word dirt) ≡ Some dirt
+bytes_back : (dirt : List (ℕ × ℕ)) → All FitsByte dirt → dirt_in (map dirt_word dirt) ≡ Some dirt
 bytes_back [] fits = refl
 bytes_back (d ∷ dirt) fits =
     let here = All-head FitsByte d dirt fits in
-    ap (option_and_then (λ b. option_map (λ more. b ∷ more) (bytes_of (map byte_word dirt)))) (dirt_of-Some d (byte_word d) here.0 here.1 refl)
+    ap (option_and_then (λ b. option_map (λ more. b ∷ more) (dirt_in (map dirt_word dirt)))) (dirt_of-Some d (dirt_word d) here.0 here.1 refl)
     ∙ ap (option_map (λ more. d ∷ more)) (bytes_back dirt (All-tail FitsByte d dirt fits))
 
-no_access : (d : ℕ × ℕ) → access_of (byte_word d) ≡ None
-no_access d = access_of-None (byte_word d) (λ n lt same. let letters : 100 ≡ 97 = ap (λ w. get_or w 0 0) same in absurd (omega (arith, letters)))
+no_access : (d : ℕ × ℕ) → access_of (dirt_word d) ≡ None
+no_access d = access_of-None (dirt_word d) (λ n lt same. let letters : 100 ≡ 97 = ap (λ w. get_or w 0 0) same in absurd (omega (arith, letters)))
 
-interrupt_back : (done : List ℕ) (dirt : List (ℕ × ℕ)) → All (λ n. n < 256) done → All FitsByte dirt → interrupt_of (map access_word done ++ map byte_word dirt) ≡ Some (interrupt done dirt)
+interrupt_back : (done : List ℕ) (dirt : List (ℕ × ℕ)) → All (λ n. n < 256) done → All FitsByte dirt → interrupt_of (map access_word done ++ map dirt_word dirt) ≡ Some (interrupt done dirt)
 interrupt_back [] [] small fits = refl
 interrupt_back [] (d ∷ dirt) small fits =
-    ap (λ o. access_or_bytes o (interrupt_of (map byte_word dirt)) (bytes_of (map byte_word (d ∷ dirt)))) (no_access d)
+    ap (λ o. access_or_bytes o (interrupt_of (map dirt_word dirt)) (dirt_in (map dirt_word (d ∷ dirt)))) (no_access d)
     ∙ ap (option_map (interrupt [])) (bytes_back (d ∷ dirt) fits)
 interrupt_back (n ∷ done) dirt small fits =
-    let others : List (List ℕ) = map access_word done ++ map byte_word dirt in
-    ap (λ o. access_or_bytes o (interrupt_of others) (bytes_of (access_word n ∷ others))) (access_of-Some n (access_word n) (All-head (λ n. n < 256) n done small) refl)
+    let others : List (List ℕ) = map access_word done ++ map dirt_word dirt in
+    ap (λ o. access_or_bytes o (interrupt_of others) (dirt_in (access_word n ∷ others))) (access_of-Some n (access_word n) (All-head (λ n. n < 256) n done small) refl)
     ∙ ap (option_map (with_access n)) (interrupt_back done dirt (All-tail (λ n. n < 256) n done small) fits)
 
 pub entry_back : (e : Entry) → FitsEntry e → entry_of_words (entry_words e) ≡ Some e

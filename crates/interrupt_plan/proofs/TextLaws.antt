@@ -10,7 +10,7 @@ use Rattle.text_lines.specs.Lines.{lines_of, words_of}
 use Rattle.text_lines.proofs.SplitLaws.{some_part}
 use Rattle.interrupt_plan.specs.Order.{IsInOrder}
 use Rattle.interrupt_plan.specs.Plan.{Entry, IsInterrupt, IsPlan}
-use Rattle.interrupt_plan.specs.Text.{FitsByte, FitsEntry, IsText, entries_behind, entries_in, entry_line, entry_of_words, entry_then, plan_in, plan_text, with_first}
+use Rattle.interrupt_plan.specs.Text.{FitsByte, FitsEntry, IsPlanText, entries_behind, entries_of_lines, entry_line, entry_of_words, entry_then, plan_in, plan_text, with_first}
 use Rattle.interrupt_plan.specs.declared.fault.PlanFault.{PlanFault}
 use Rattle.interrupt_plan.specs.declared.fault.PlanFault.TheVariants.{BadLine, OutOfMemory, OutOfOrder, TooLarge}
 use Rattle.interrupt_plan.proofs.EntryLaws.{line_step}
@@ -58,16 +58,16 @@ first_line e rest fits =
     ap lines_of (append_assoc (entry_line e) (10 ∷ []) rest)
     ∙ slice_split_at (λ b. eqb b 10) (entry_line e) 10 rest (no_line_feed e fits) (eq-eqb 10 10 refl)
 
-entries_read : (number low : ℕ) (es : List Entry) → All FitsEntry es → Ordered low es → entries_in number low (lines_of (flat_map ended es)) ≡ Ok es
+entries_read : (number low : ℕ) (es : List Entry) → All FitsEntry es → Ordered low es → entries_of_lines number low (lines_of (flat_map ended es)) ≡ Ok es
 entries_read number low [] fits sorted = refl
 entries_read number low (e ∷ es) fits sorted =
     let rest : List ℕ = flat_map ended es in
     let here = All-head FitsEntry e es fits in
     let spells : entry_of_words (words_of (entry_line e)) ≡ Some e = ap entry_of_words (words_back e here) ∙ entry_back e here in
-    ap (entries_in number low) (first_line e rest here)
+    ap (entries_of_lines number low) (first_line e rest here)
     ∙ line_step number low (entry_line e) rest
-    ∙ ap (λ o. entry_then number low o (λ at. entries_in (number + 1) at (lines_of rest))) spells
-    ∙ cond-false (ltb e.at low) (Err (OutOfOrder number)) (with_first e (entries_in (number + 1) e.at (lines_of rest))) (le-ltb e.at low sorted.0)
+    ∙ ap (λ o. entry_then number low o (λ at. entries_of_lines (number + 1) at (lines_of rest))) spells
+    ∙ cond-false (ltb e.at low) (Err (OutOfOrder number)) (with_first e (entries_of_lines (number + 1) e.at (lines_of rest))) (le-ltb e.at low sorted.0)
     ∙ ap (with_first e) (entries_read (number + 1) e.at es (All-tail FitsEntry e es fits) sorted.1)
 
 pub title_line : All (λ b. eqb b 10 ≡ false) (codes "zcld plan 1")
@@ -76,16 +76,16 @@ title_line =
     (All-from_recursion (λ b. 31 < b) (codes "zcld plan 1") (lit< tt, (lit< tt, (lit< tt, (lit< tt, (lit< tt, (lit< tt, (lit< tt, (lit< tt, (lit< tt, (lit< tt, (lit< tt, tt))))))))))))
 
 -- behind the first line come the others
-pub behind_title : (title rest : List ℕ) → title ≡ codes "zcld plan 1" → entries_behind (title ∷ lines_of rest) ≡ entries_in 2 0 (lines_of rest)
+pub behind_title : (title rest : List ℕ) → title ≡ codes "zcld plan 1" → entries_behind (title ∷ lines_of rest) ≡ entries_of_lines 2 0 (lines_of rest)
 behind_title title rest is =
     let parts = some_part (λ b. eqb b 10) rest in
-    ap₂ (λ t ls. entries_behind (t ∷ ls)) is parts.2 ∙ ap (entries_in 2 0) (sym parts.2)
+    ap₂ (λ t ls. entries_behind (t ∷ ls)) is parts.2 ∙ ap (entries_of_lines 2 0) (sym parts.2)
 
 pub other_title : (title rest : List ℕ) → bytes_eq title (codes "zcld plan 1") ≡ false → entries_behind (title ∷ lines_of rest) ≡ Err (BadLine 1)
 other_title title rest other =
     let parts = some_part (λ b. eqb b 10) rest in
     ap (λ ls. entries_behind (title ∷ ls)) parts.2
-    ∙ cond-false (bytes_eq title (codes "zcld plan 1")) (entries_in 2 0 (parts.0 ∷ parts.1)) (Err (BadLine 1)) other
+    ∙ cond-false (bytes_eq title (codes "zcld plan 1")) (entries_of_lines 2 0 (parts.0 ∷ parts.1)) (Err (BadLine 1)) other
 
 pub too_large : (text : List ℕ) → 8388608 < length text → plan_in text ≡ Err TooLarge
 unfolding plan_in
@@ -96,7 +96,7 @@ unfolding plan_in
 within_limit text parts small is =
     cond-false (ltb 8388608 (length text)) (Err TooLarge) (entries_behind (lines_of text)) (le-ltb 8388608 (length text) small) ∙ ap entries_behind is
 
-pub plan_read : (text : List ℕ) (plan : List Entry) → IsText text plan → length text ≤ 8388608 → plan_in text ≡ Ok plan
+pub plan_read : (text : List ℕ) (plan : List Entry) → IsPlanText text plan → length text ≤ 8388608 → plan_in text ≡ Ok plan
 unfolding plan_text
 plan_read text plan is small =
     let rest : List ℕ = flat_map ended plan in
@@ -124,19 +124,19 @@ in_time : (number low : ℕ) (e : Entry) (r : Result (List Entry) PlanFault) (es
 in_time number low e r es true is ok = no_ok (OutOfOrder number) es ok
 in_time number low e r es false is ok = (ltb-false e.at low is, ok)
 
-lines_read : (number low : ℕ) (line : List ℕ) (lines : List (List ℕ)) (es : List Entry) → entries_in number low (line ∷ lines) ≡ Ok es → ReadLines (line ∷ lines) low es
+lines_read : (number low : ℕ) (line : List ℕ) (lines : List (List ℕ)) (es : List Entry) → entries_of_lines number low (line ∷ lines) ≡ Ok es → ReadLines (line ∷ lines) low es
 unfolding ReadLines
 lines_read number low line [] es ok =
     let last = last_is number line es (bytes_eq line []) refl ok in
     subst (ReadLines (line ∷ []) low) last.1 (last.0, All-nil FitsEntry, tt)
 lines_read number low line (next ∷ lines) es ok = either (λ at more h. lines_read (number + 1) at next lines more h) (entry_of_words (words_of line)) refl ok
   where
-    either : ((at : ℕ) (more : List Entry) → entries_in (number + 1) at (next ∷ lines) ≡ Ok more → ReadLines (next ∷ lines) at more)
-        → (o : Option Entry) → entry_of_words (words_of line) ≡ o → entry_then number low o (λ at. entries_in (number + 1) at (next ∷ lines)) ≡ Ok es → ReadLines (line ∷ (next ∷ lines)) low es
+    either : ((at : ℕ) (more : List Entry) → entries_of_lines (number + 1) at (next ∷ lines) ≡ Ok more → ReadLines (next ∷ lines) at more)
+        → (o : Option Entry) → entry_of_words (words_of line) ≡ o → entry_then number low o (λ at. entries_of_lines (number + 1) at (next ∷ lines)) ≡ Ok es → ReadLines (line ∷ (next ∷ lines)) low es
     either later None first h = no_ok (BadLine number) es h
     either later (Some e) first h =
-        let step = in_time number low e (entries_in (number + 1) e.at (next ∷ lines)) es (ltb e.at low) refl h in
-        let behind = with_first_is e (entries_in (number + 1) e.at (next ∷ lines)) es step.1 in
+        let step = in_time number low e (entries_of_lines (number + 1) e.at (next ∷ lines)) es (ltb e.at low) refl h in
+        let behind = with_first_is e (entries_of_lines (number + 1) e.at (next ∷ lines)) es step.1 in
         let others = later e.at behind.0 behind.1 in
         let here = entry_of_is (words_of line) e first in
         let spells : line ≡ entry_line e = sym (join_with_byte-slice_split 32 line) ∙ ap (join_with_byte 32) here.0 in
@@ -146,11 +146,11 @@ lines_read number low line (next ∷ lines) es ok = either (λ at more h. lines_
           (step.0, others.2),
         )
 
-behind_is : (title next : List ℕ) (lines : List (List ℕ)) (es : List Entry) (b : Bool) → bytes_eq title (codes "zcld plan 1") ≡ b → cond b (entries_in 2 0 (next ∷ lines)) (Err (BadLine 1)) ≡ Ok es → (title ≡ codes "zcld plan 1") × (entries_in 2 0 (next ∷ lines) ≡ Ok es)
+behind_is : (title next : List ℕ) (lines : List (List ℕ)) (es : List Entry) (b : Bool) → bytes_eq title (codes "zcld plan 1") ≡ b → cond b (entries_of_lines 2 0 (next ∷ lines)) (Err (BadLine 1)) ≡ Ok es → (title ≡ codes "zcld plan 1") × (entries_of_lines 2 0 (next ∷ lines) ≡ Ok es)
 behind_is title next lines es true is ok = ((bytes_eq-Decides title (codes "zcld plan 1")).0 is, ok)
 behind_is title next lines es false is ok = no_ok (BadLine 1) es ok
 
-text_of : (text : List ℕ) (parts : List (List ℕ)) (es : List Entry) → join_with_byte 10 parts ≡ text → entries_behind parts ≡ Ok es → IsText text es
+text_of : (text : List ℕ) (parts : List (List ℕ)) (es : List Entry) → join_with_byte 10 parts ≡ text → entries_behind parts ≡ Ok es → IsPlanText text es
 unfolding plan_text ReadLines
 text_of text [] es join ok = no_ok (BadLine 1) es ok
 text_of text (line ∷ []) es join ok = no_ok (BadLine 1) es ok
@@ -167,17 +167,17 @@ not_large : (text : List ℕ) (es : List Entry) (b : Bool) → cond b (Err TooLa
 not_large text es true ok = no_ok TooLarge es ok
 not_large text es false ok = ok
 
-pub text_read : (text : List ℕ) (plan : List Entry) → plan_in text ≡ Ok plan → IsText text plan
+pub text_read : (text : List ℕ) (plan : List Entry) → plan_in text ≡ Ok plan → IsPlanText text plan
 unfolding plan_in
 text_read text plan ok = text_of text (lines_of text) plan (join_with_byte-slice_split 10 text) (not_large text plan (ltb 8388608 (length text)) ok)
 
 -- so a text that spells a plan isn't refused for what stands in it
-pub refused : (text : List ℕ) (fault : PlanFault) (plan : List Entry) → (fault ≡ OutOfMemory) ⊎ (plan_in text ≡ Err fault) → IsText text plan → length text ≤ 8388608 → (◌≡◌ {A = Result (List Entry) PlanFault} (Err fault) (Ok plan)) ⊎ (◌≡◌ {A = Result (List Entry) PlanFault} (Err fault) (Err OutOfMemory))
+pub refused : (text : List ℕ) (fault : PlanFault) (plan : List Entry) → (fault ≡ OutOfMemory) ⊎ (plan_in text ≡ Err fault) → IsPlanText text plan → length text ≤ 8388608 → (◌≡◌ {A = Result (List Entry) PlanFault} (Err fault) (Ok plan)) ⊎ (◌≡◌ {A = Result (List Entry) PlanFault} (Err fault) (Err OutOfMemory))
 refused text fault plan (inl memory) is small = inr (ap Err memory)
 refused text fault plan (inr bad) is small = let good = plan_read text plan is small in absurd cc
 
 -- nor read as another plan
-pub same_plan : (text : List ℕ) (plan other : List Entry) → plan_in text ≡ Ok plan → IsText text other → length text ≤ 8388608 → plan ≡ other
+pub same_plan : (text : List ℕ) (plan other : List Entry) → plan_in text ≡ Ok plan → IsPlanText text other → length text ≤ 8388608 → plan ≡ other
 same_plan text plan other ok is small = let good = plan_read text other is small in cc
 
 -- its bytes are bytes

@@ -8,7 +8,7 @@ use Rattle.std.proofs.Math.Seq.{drop-cons}
 use Rattle.text_lines.specs.Number.{hex_byte_of, hex_word_of}
 use Rattle.text_lines.proofs.HexLaws.{hex_byte_of-Some, hex_byte_of_is, hex_word_of-Some, hex_word_of_is, value_byte, value_word}
 use Rattle.text_lines.proofs.NumberLaws.{if_text_of-None, if_text_of-Some, spelled_is, value_decimal}
-use Rattle.interrupt_plan.specs.Text.{access_of, access_word, dirt_of, byte_word}
+use Rattle.interrupt_plan.specs.Text.{access_of, access_word, dirt_of, dirt_word}
 
 -- ---- an access
 
@@ -35,35 +35,35 @@ access_of_is word n is =
 value_of : List ℕ → ℕ × ℕ
 value_of word = (digits_value 16 (slice_range word 1 9), digits_value 16 (drop 10 word))
 
-value_word_of : (d : ℕ × ℕ) (word : List ℕ) → d.0 < 2 ^ 32 → d.1 < 256 → word ≡ byte_word d → value_of word ≡ d
+value_word_of : (d : ℕ × ℕ) (word : List ℕ) → d.0 < 2 ^ 32 → d.1 < 256 → word ≡ dirt_word d → value_of word ≡ d
 unfolding value_of
 value_word_of d word l r same =
     ap₂ (λ a b. (a, b)) (ap (λ w. digits_value 16 (slice_range w 1 9)) same ∙ value_word d.0 l) (ap (λ w. digits_value 16 (drop 10 w)) same ∙ value_byte d.1 r)
 
-pub dirt_of-Some : (d : ℕ × ℕ) (word : List ℕ) → d.0 < 2 ^ 32 → d.1 < 256 → word ≡ byte_word d → dirt_of word ≡ Some d
+pub dirt_of-Some : (d : ℕ × ℕ) (word : List ℕ) → d.0 < 2 ^ 32 → d.1 < 256 → word ≡ dirt_word d → dirt_of word ≡ Some d
 unfolding dirt_of value_of
 dirt_of-Some d word l r same =
     let v = value_of word in
     let value = value_word_of d word l r same in
-    if_text_of-Some (ltb v.0 (2 ^ 32) && ltb v.1 256) byte_word v word
-    (and_from _ _ (lt-ltb v.0 (2 ^ 32) (rw (ap (λ x. x.0) value) l)) (lt-ltb v.1 256 (rw (ap (λ x. x.1) value) r))) (same ∙ ap byte_word (sym value))
+    if_text_of-Some (ltb v.0 (2 ^ 32) && ltb v.1 256) dirt_word v word
+    (and_from _ _ (lt-ltb v.0 (2 ^ 32) (rw (ap (λ x. x.0) value) l)) (lt-ltb v.1 256 (rw (ap (λ x. x.1) value) r))) (same ∙ ap dirt_word (sym value))
     ∙ ap Some value
 
-pub dirt_of-None : (word : List ℕ) → ((d : ℕ × ℕ) → d.0 < 2 ^ 32 → d.1 < 256 → word ≡ byte_word d → ⊥) → dirt_of word ≡ None
+pub dirt_of-None : (word : List ℕ) → ((d : ℕ × ℕ) → d.0 < 2 ^ 32 → d.1 < 256 → word ≡ dirt_word d → ⊥) → dirt_of word ≡ None
 unfolding dirt_of value_of
 dirt_of-None word never =
     let v = value_of word in
-    if_text_of-None (ltb v.0 (2 ^ 32) && ltb v.1 256) byte_word v word (λ small same.
+    if_text_of-None (ltb v.0 (2 ^ 32) && ltb v.1 256) dirt_word v word (λ small same.
     let both = and_parts (ltb v.0 (2 ^ 32)) (ltb v.1 256) small in
     never v (ltb-true _ _ both.0) (ltb-true _ _ both.1) same)
 
-pub byte_of_is : (word : List ℕ) (d : ℕ × ℕ) → dirt_of word ≡ Some d → (d.0 < 2 ^ 32) × (d.1 < 256) × (word ≡ byte_word d)
+pub byte_of_is : (word : List ℕ) (d : ℕ × ℕ) → dirt_of word ≡ Some d → (d.0 < 2 ^ 32) × (d.1 < 256) × (word ≡ dirt_word d)
 unfolding dirt_of value_of
 byte_of_is word d is =
     let v = value_of word in
-    let parts = spelled_is (ltb v.0 (2 ^ 32) && ltb v.1 256) byte_word v word d is in
+    let parts = spelled_is (ltb v.0 (2 ^ 32) && ltb v.1 256) dirt_word v word d is in
     let both = and_parts (ltb v.0 (2 ^ 32)) (ltb v.1 256) parts.0 in
-    (rw (← ap (λ x. x.0) parts.2) (ltb-true v.0 (2 ^ 32) both.0), rw (← ap (λ x. x.1) parts.2) (ltb-true v.1 256 both.1), parts.1 ∙ ap byte_word parts.2)
+    (rw (← ap (λ x. x.0) parts.2) (ltb-true v.0 (2 ^ 32) both.0), rw (← ap (λ x. x.1) parts.2) (ltb-true v.1 256 both.1), parts.1 ∙ ap dirt_word parts.2)
 
 -- ---- what the readers find
 

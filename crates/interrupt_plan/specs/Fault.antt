@@ -21,9 +21,9 @@ abbrev pub IsEarlier : List Entry → Entry → Type 0
 IsEarlier before e = IsInOrder (before ++ e ∷ []) → ⊥
 
 -- a bad line is the first one, or stands behind those of a plan and is no entry's; want of memory may come at any text
-pub data IsFault (text : List ℕ) : PlanFault → Type 0 where
-  first_line : ((rest : List ℕ) → text ≢ codes "zcld plan 1" ++ 10 ∷ rest) → IsFault text (BadLine 1)
-  bad_line : (before : List Entry) (rest : List ℕ) → BeginsAsPlan text before rest → rest ≢ [] → IsNoEntry rest → IsFault text (BadLine (length before + 2))
-  earlier : (before : List Entry) (e : Entry) (more : List ℕ) → BeginsAsPlan text before (entry_line e ++ 10 ∷ more) → FitsEntry e → IsEarlier before e → IsFault text (OutOfOrder (length before + 2))
-  large : 8388608 < length text → IsFault text TooLarge
-  memory : IsFault text OutOfMemory
+pub data IsPlanFault (text : List ℕ) : PlanFault → Type 0 where
+  first_line : ((rest : List ℕ) → text ≢ codes "zcld plan 1" ++ 10 ∷ rest) → IsPlanFault text (BadLine 1)
+  bad_line : (before : List Entry) (rest : List ℕ) → BeginsAsPlan text before rest → rest ≢ [] → IsNoEntry rest → IsPlanFault text (BadLine (length before + 2))
+  earlier : (before : List Entry) (e : Entry) (more : List ℕ) → BeginsAsPlan text before (entry_line e ++ 10 ∷ more) → FitsEntry e → IsEarlier before e → IsPlanFault text (OutOfOrder (length before + 2))
+  large : 8388608 < length text → IsPlanFault text TooLarge
+  memory : IsPlanFault text OutOfMemory

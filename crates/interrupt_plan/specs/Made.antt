@@ -5,8 +5,8 @@ use Rattle.zc_base.specs.Draws.{drawn, stepped}
 use Rattle.interrupt_plan.specs.Plan.{Entry}
 
 -- the accesses that a draw says are done: the numbers 0 to 12 whose bits are set, ascending
-abbrev pub done_of : ℕ → List ℕ
-done_of bits = filter (λ access. bits / 2 ^ access % 2 == 1) (range_with_len 0 13)
+abbrev pub drawn_accesses : ℕ → List ℕ
+drawn_accesses bits = filter (λ access. bits / 2 ^ access % 2 == 1) (range_with_len 0 13)
 
 -- so many bytes in the page below the top of the standard stack; the address is drawn before the byte
 abbrev pub dirt_from : ℕ → ℕ → List (ℕ × ℕ)
@@ -22,7 +22,7 @@ after_dirt (suc n) x = after_dirt n (stepped (stepped x))
 abbrev pub cut_after : ℕ → ℕ → Entry
 cut_after at x = record {
   at = at + drawn (stepped x) % 64;
-  cut = record { done = done_of (drawn (stepped (stepped x))); dirt = dirt_from 4 (stepped (stepped x)) };
+  cut = record { done = drawn_accesses (drawn (stepped (stepped x))); dirt = dirt_from 4 (stepped (stepped x)) };
 }
 
 -- so many interrupts

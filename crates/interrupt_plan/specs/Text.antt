@@ -18,12 +18,12 @@ abbrev pub access_word : ℕ → List ℕ
 access_word n = codes "a" ++ decimal n
 
 -- a byte: `d`, its address, `:` and the byte
-abbrev pub byte_word : ℕ × ℕ → List ℕ
-byte_word d = codes "d" ++ hex_word d.0 ++ codes ":" ++ hex_byte d.1
+abbrev pub dirt_word : ℕ × ℕ → List ℕ
+dirt_word d = codes "d" ++ hex_word d.0 ++ codes ":" ++ hex_byte d.1
 
 -- an interrupt: its accesses, and then its bytes
 abbrev pub interrupt_words : Interrupt → List (List ℕ)
-interrupt_words c = map access_word c.done ++ map byte_word c.dirt
+interrupt_words c = map access_word c.done ++ map dirt_word c.dirt
 
 -- an entry's line, with one space between two words
 abbrev pub entry_words : Entry → List (List ℕ)
@@ -43,7 +43,7 @@ abbrev pub FitsEntry : Entry → Type 0
 FitsEntry e = (e.at < 2 ^ 64) × All (λ n. n < 256) e.cut.done × All FitsByte e.cut.dirt
 
 -- the text is that of a plan whose numbers fit their types, in order
-pub record IsText (text : List ℕ) (plan : List Entry) : Type 0 where
+pub record IsPlanText (text : List ℕ) (plan : List Entry) : Type 0 where
   pub spells : text ≡ plan_text plan
   pub fits : All FitsEntry plan
   pub in_order : IsInOrder plan
@@ -57,12 +57,12 @@ access_of word = let n = digits_value 10 (drop 1 word) in if_text_of (nat_lt n 2
 unfoldable pub dirt_of : List ℕ → Option (ℕ × ℕ)
 dirt_of word =
     let d : ℕ × ℕ = (digits_value 16 (slice_range word 1 9), digits_value 16 (drop 10 word)) in
-    if_text_of (nat_lt d.0 (2 ^ 32) && nat_lt d.1 256) byte_word d word
+    if_text_of (nat_lt d.0 (2 ^ 32) && nat_lt d.1 256) dirt_word d word
 
 -- the bytes of words that are all bytes
-abbrev pub bytes_of : List (List ℕ) → Option (List (ℕ × ℕ))
-bytes_of [] = Some []
-bytes_of (word ∷ words) = option_and_then (λ d. option_map (λ dirt. d ∷ dirt) (bytes_of words)) (dirt_of word)
+abbrev pub dirt_in : List (List ℕ) → Option (List (ℕ × ℕ))
+dirt_in [] = Some []
+dirt_in (word ∷ words) = option_and_then (λ d. option_map (λ dirt. d ∷ dirt) (dirt_in words)) (dirt_of word)
 
 -- an interrupt of these parts, or with one access more before the others
 abbrev pub interrupt : List ℕ → List (ℕ × ℕ) → Interrupt
@@ -79,11 +79,11 @@ access_or_bytes None others bytes = option_map (interrupt []) bytes
 -- the interrupt of words: accesses, and from the first word on that is none, bytes
 abbrev pub interrupt_of : List (List ℕ) → Option Interrupt
 interrupt_of [] = Some (interrupt [] [])
-interrupt_of (word ∷ words) = access_or_bytes (access_of word) (interrupt_of words) (bytes_of (word ∷ words))
+interrupt_of (word ∷ words) = access_or_bytes (access_of word) (interrupt_of words) (dirt_in (word ∷ words))
 
 -- words are those of these accesses, and then others that are to be bytes
 abbrev pub BeginsWith : List (List ℕ) → List ℕ → List (List ℕ) → Type 0
-BeginsWith words done others = interrupt_of words ≡ option_map (interrupt done) (bytes_of others)
+BeginsWith words done others = interrupt_of words ≡ option_map (interrupt done) (dirt_in others)
 
 abbrev pub entry : ℕ → Interrupt → Entry
 entry at c = record { at = at; cut = c }
@@ -108,16 +108,16 @@ entry_then line low None behind = Err (BadLine line)
 entry_then line low (Some e) behind = if nat_lt e.at low then Err (OutOfOrder line) else with_first e (behind e.at)
 
 -- the entries of the lines from this one on; nothing stands behind the last line feed
-abbrev pub entries_in : ℕ → ℕ → List (List ℕ) → Result (List Entry) PlanFault
-entries_in line low (text ∷ (next ∷ lines)) =
-    entry_then line low (entry_of_words (words_of text)) (λ at. entries_in (line + 1) at (next ∷ lines))
-entries_in line low (rest ∷ []) = if bytes_eq rest [] then Ok [] else Err (BadLine line)
-entries_in line low [] = Ok []
+abbrev pub entries_of_lines : ℕ → ℕ → List (List ℕ) → Result (List Entry) PlanFault
+entries_of_lines line low (text ∷ (next ∷ lines)) =
+    entry_then line low (entry_of_words (words_of text)) (λ at. entries_of_lines (line + 1) at (next ∷ lines))
+entries_of_lines line low (rest ∷ []) = if bytes_eq rest [] then Ok [] else Err (BadLine line)
+entries_of_lines line low [] = Ok []
 
 -- the entries behind the first line
 abbrev pub entries_behind : List (List ℕ) → Result (List Entry) PlanFault
 entries_behind (title ∷ (next ∷ lines)) =
-    if bytes_eq title (codes "zcld plan 1") then entries_in 2 0 (next ∷ lines) else Err (BadLine 1)
+    if bytes_eq title (codes "zcld plan 1") then entries_of_lines 2 0 (next ∷ lines) else Err (BadLine 1)
 entries_behind (rest ∷ []) = Err (BadLine 1)
 entries_behind [] = Err (BadLine 1)
 
@@ -126,6 +126,6 @@ unfoldable pub plan_in : List ℕ → Result (List Entry) PlanFault
 plan_in text = if nat_lt 8388608 (length text) then Err TooLarge else entries_behind (lines_of text)
 
 -- a text within the limit that spells a plan is read as that plan, unless memory is wanting
-abbrev pub ReadsEach : List ℕ → Result (List Entry) PlanFault → Type 0
-ReadsEach text result =
-    (plan : List Entry) → IsText text plan → length text ≤ 8388608 → (result ≡ Ok plan) ⊎ (result ≡ Err OutOfMemory)
+abbrev pub ReadsEachPlan : List ℕ → Result (List Entry) PlanFault → Type 0
+ReadsEachPlan text result =
+    (plan : List Entry) → IsPlanText text plan → length text ≤ 8388608 → (result ≡ Ok plan) ⊎ (result ≡ Err OutOfMemory)

@@ -2,7 +2,7 @@
 
 ghost use Rattle.std.specs.Prelude.{◌≡◌, IfOk};
 ghost use Rattle.std.specs.Option.{option_copied, option_map};
-ghost use Rattle.interrupt_plan.specs.Text.{BeginsWith, bytes_of, entry_of_words};
+ghost use Rattle.interrupt_plan.specs.Text.{BeginsWith, dirt_in, entry_of_words};
 ghost use Rattle.text_lines.specs.Lines.{words_in, words_of};
 
 use crate::plan::PlanCut;
@@ -56,7 +56,7 @@ fn read_accesses(
 
 // The bytes of words that are all bytes.
 fn read_bytes(alloc: Global, words: Option<&[u8]>) -> Result<Option<Vec<(u32, u8)>>, AllocError>
-    ensures { IfOk result (λ dirt. option_map (λ d. d.items) dirt ≡ bytes_of (words_in (option_copied words.entry))) }
+    ensures { IfOk result (λ dirt. option_map (λ d. d.items) dirt ≡ dirt_in (words_in (option_copied words.entry))) }
 {
     let mut dirt = Vec::new(alloc);
     let mut rest = words;

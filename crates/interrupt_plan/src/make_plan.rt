@@ -1,7 +1,7 @@
 // Plans that are made from a number.
 
 ghost use Rattle.std.specs.Prelude.{◌≡◌, ◌+◌, ◌<◌, ◌≤◌, ◌^◌, IfOk, OnOk};
-ghost use Rattle.interrupt_plan.specs.Made.{after_dirt, cut_after, dirt_from, done_of, made_plan};
+ghost use Rattle.interrupt_plan.specs.Made.{after_dirt, cut_after, dirt_from, drawn_accesses, made_plan};
 ghost use Rattle.zc_base.specs.Draws.{stepped};
 
 use crate::plan::{Plan, PlanCut};
@@ -34,14 +34,14 @@ fn draw_cut(alloc: Global, before: u64, draws: &mut Draws) -> Result<PlanCut, Al
 {
     let at = before + u64::from(draws.next() % 64);
     let bits = draws.next();
-    let done = done_of(alloc, bits)?;
+    let done = drawn_accesses(alloc, bits)?;
     let dirt = draw_dirt(alloc, 4, draws)?;
     Ok(PlanCut { at, done, dirt })
 }
 
 // The accesses that a draw says are done.
-fn done_of(alloc: Global, bits: u32) -> Result<Vec<u8>, AllocError>
-    ensures { IfOk result (λ done. done.items ≡ done_of bits) }
+fn drawn_accesses(alloc: Global, bits: u32) -> Result<Vec<u8>, AllocError>
+    ensures { IfOk result (λ done. done.items ≡ drawn_accesses bits) }
 {
     let mut done = Vec::new(alloc);
     for access in 0..13u8 {

@@ -1,10 +1,10 @@
 // Plans as texts.
 
 ghost use Rattle.std.specs.Prelude.{◌≡◌, ◌⊎◌, ◌≤◌, IfOk, IfErr, Ok, Err, length};
-ghost use Rattle.interrupt_plan.specs.Fault.{IsFault};
+ghost use Rattle.interrupt_plan.specs.Fault.{IsPlanFault};
 ghost use Rattle.interrupt_plan.specs.Order.{IsInOrder};
 ghost use Rattle.interrupt_plan.specs.Plan.{IsPlan};
-ghost use Rattle.interrupt_plan.specs.Text.{IsText, ReadsEach, entries_in, plan_in};
+ghost use Rattle.interrupt_plan.specs.Text.{IsPlanText, ReadsEachPlan, entries_of_lines, plan_in};
 ghost use Rattle.text_lines.specs.Lines.{lines_of};
 
 use crate::fault::PlanFault;
@@ -20,10 +20,10 @@ pub const PLAN_LIMIT: usize = 8_388_608;
 pub fn read_plan(alloc: Global, text: &[u8]) -> Result<Plan, PlanFault>
     ensures ok { IfOk result (λ plan. plan_in text.now ≡ Ok plan) }
     ensures err { IfErr result (λ fault. (fault ≡ PlanFault.OutOfMemory) ⊎ (plan_in text.now ≡ Err fault)) }
-    ensures fault { IfErr result (IsFault text.now) }
-    ensures spells { IfOk result (λ plan. IsText text.now plan) }
+    ensures fault { IfErr result (IsPlanFault text.now) }
+    ensures spells { IfOk result (λ plan. IsPlanText text.now plan) }
     ensures bytes { IfOk result (λ plan. IsPlan plan) }
-    ensures complete { ReadsEach text.now result }
+    ensures complete { ReadsEachPlan text.now result }
 {
     if text.len() > PLAN_LIMIT {
         return Err(PlanFault::TooLarge);
@@ -41,9 +41,9 @@ pub fn read_plan(alloc: Global, text: &[u8]) -> Result<Plan, PlanFault>
 // The interrupts that the lines behind the first one spell.
 fn read_cuts(alloc: Global, lines: &[u8]) -> Result<Vec<PlanCut>, PlanFault>
     requires { length lines.now ≤ PLAN_LIMIT }
-    ensures ok { IfOk result (λ cuts. entries_in 2 0 (lines_of lines.now) ≡ Ok cuts.items) }
+    ensures ok { IfOk result (λ cuts. entries_of_lines 2 0 (lines_of lines.now) ≡ Ok cuts.items) }
     ensures err { IfErr result (λ fault. (fault ≡ PlanFault.OutOfMemory)
-        ⊎ (entries_in 2 0 (lines_of lines.now) ≡ Err fault)) }
+        ⊎ (entries_of_lines 2 0 (lines_of lines.now) ≡ Err fault)) }
     ensures few { IfOk result (λ cuts. length cuts.items ≤ length lines.now) }
     ensures in_order { IfOk result (λ cuts. IsInOrder cuts.items) }
 {

@@ -13,7 +13,7 @@ use Rattle.pick_check.specs.Bound.{excess, jump_bound, call_bound}
 use Rattle.pick_check.specs.Certified.{Certified, IsAccepted}
 use Rattle.pick_check.proofs.Duality.{none_saves_more}
 use Rattle.jumptable_pick.specs.declared.ranking.Rank.{Rank}
-use Rattle.jumptable_pick.specs.Ranking.{ranking, saved}
+use Rattle.jumptable_pick.specs.Ranking.{ranking, rank_saving}
 use Rattle.jumptable_pick.specs.Tables.{SlotTable, best_table, better, call_table, chosen, jump_table, net_of, prices_of, saved_at, table_of}
 use Rattle.jumptable_pick.specs.Picked.{picked, picked_from}
 use Rattle.jumptable_pick.proofs.RankLaws.{Ranked, ranked}
@@ -43,8 +43,8 @@ jumps_net savings jumps is =
 
 calls_net : (savings : List Saving) (jumps calls : List Rank) → Ranked Jumps savings jumps → Ranked Calls savings calls → call_bound savings (saved_at 32 jumps) (saved_at 224 calls - 4) - 140 ≤ net_of savings (call_table jumps calls)
 calls_net savings jumps calls is is' =
-    let s = sum_by (λ r. saved r - 0) (take 32 jumps) in
-    let t = sum_by (λ r. saved r - 4) (take 224 calls) in
+    let s = sum_by (λ r. rank_saving r - 0) (take 32 jumps) in
+    let t = sum_by (λ r. rank_saving r - 4) (take 224 calls) in
     let low : saved_in Jumps savings (chosen 0 32 jumps) ≡ s = omega (arith, chosen_save Jumps savings jumps 0 32 is) in
     let high = chosen_save Calls savings calls 4 224 is' in
     let net = joined_net savings (chosen 0 32 jumps) (chosen 4 224 calls) s t (chosen_few 0 32 jumps) low high in

@@ -10,7 +10,7 @@ use Rattle.pick_check.specs.declared.saving.Saving.{Saving}
 use Rattle.pick_check.specs.declared.part.Part.{Part}
 use Rattle.pick_check.specs.Saved.{saved_by}
 use Rattle.jumptable_pick.specs.declared.ranking.Rank.{Rank}
-use Rattle.jumptable_pick.specs.Ranking.{rank_of, ranking, ranks_from, saved, sorted}
+use Rattle.jumptable_pick.specs.Ranking.{rank_of, ranking, ranks_from, rank_saving, sorted}
 use Rattle.jumptable_pick.specs.Tables.{first_saved}
 use Rattle.jumptable_pick.proofs.SortLaws.{All-sorted, AreInOrder, ComesBefore, before_least, in_order_from, put_in_order, same_order, sum-sorted}
 
@@ -18,7 +18,7 @@ use Rattle.jumptable_pick.proofs.SortLaws.{All-sorted, AreInOrder, ComesBefore, 
 pub record StandsFrom (part : Part) (n : ℕ) (savings : List Saving) (r : Rank) : Type 0 where
   pub low : n < r.number
   pub high : r.number ≤ n + length savings
-  pub saves : (d : Saving) → saved r ≡ saved_by part (get_or savings (r.number - 1 - n) d)
+  pub saves : (d : Saving) → rank_saving r ≡ saved_by part (get_or savings (r.number - 1 - n) d)
 
 stands_behind : (part : Part) (n : ℕ) (s : Saving) (rest : List Saving) (r : Rank) → StandsFrom part (n + 1) rest r → StandsFrom part n (s ∷ rest) r
 stands_behind part n s rest r is = record {
@@ -64,60 +64,60 @@ times_once part n k (s ∷ rest) =
           omega (arith, e, one, times_once part (n + 1) k rest)
     ]
 
-sum-ranks : (g : ℕ → ℕ) (part : Part) (n : ℕ) (savings : List Saving) → sum_by (λ r. g (saved r)) (ranks_from part n savings) ≡ sum_by (λ s. g (saved_by part s)) savings
+sum-ranks : (g : ℕ → ℕ) (part : Part) (n : ℕ) (savings : List Saving) → sum_by (λ r. g (rank_saving r)) (ranks_from part n savings) ≡ sum_by (λ s. g (saved_by part s)) savings
 sum-ranks g part n [] = refl
 sum-ranks g part n (s ∷ rest) =
-    let e = sum_by-cons (λ r. g (saved r)) (rank_of part (n + 1) s) (ranks_from part (n + 1) rest) in
+    let e = sum_by-cons (λ r. g (rank_saving r)) (rank_of part (n + 1) s) (ranks_from part (n + 1) rest) in
     let e' = sum_by-cons (λ s. g (saved_by part s)) s rest in
     e ∙ ap (λ x. g (saved_by part s) + x) (sum-ranks g part (n + 1) rest) ∙ sym e'
 
 -- each rank saves at most what the one before it saves
 abbrev pub Falling : List Rank → Type 0
 Falling [] = Unit {0}
-Falling (r ∷ rest) = All (λ q. saved q ≤ saved r) rest × Falling rest
+Falling (r ∷ rest) = All (λ q. rank_saving q ≤ rank_saving r) rest × Falling rest
 
 falls_in_order : (ranks : List Rank) → AreInOrder ranks → Falling ranks
 falls_in_order [] order = tt
 falls_in_order (r ∷ rest) order =
-    (All-weaker (ComesBefore r) (λ q. saved q ≤ saved r) (λ q h. before_least r q h) rest order.0, falls_in_order rest order.1)
+    (All-weaker (ComesBefore r) (λ q. rank_saving q ≤ rank_saving r) (λ q h. before_least r q h) rest order.0, falls_in_order rest order.1)
 
-pub first_le : (m n : ℕ) (ranks : List Rank) → All (λ q. saved q ≤ m) ranks → first_saved (drop n ranks) ≤ m
+pub first_le : (m n : ℕ) (ranks : List Rank) → All (λ q. rank_saving q ≤ m) ranks → first_saved (drop n ranks) ≤ m
 first_le m zero [] h = omega arith
-first_le m zero (r ∷ rest) h = All-head (λ q. saved q ≤ m) r rest h
+first_le m zero (r ∷ rest) h = All-head (λ q. rank_saving q ≤ m) r rest h
 first_le m (suc n) [] h = omega arith
-first_le m (suc n) (r ∷ rest) h = first_le m n rest (All-tail (λ q. saved q ≤ m) r rest h)
+first_le m (suc n) (r ∷ rest) h = first_le m n rest (All-tail (λ q. rank_saving q ≤ m) r rest h)
 
-nothing_above : (m p : ℕ) (ranks : List Rank) → m ≤ p → All (λ q. saved q ≤ m) ranks → sum_by (λ r. saved r - p) ranks ≡ 0
+nothing_above : (m p : ℕ) (ranks : List Rank) → m ≤ p → All (λ q. rank_saving q ≤ m) ranks → sum_by (λ r. rank_saving r - p) ranks ≡ 0
 nothing_above m p [] le h = refl
 nothing_above m p (r ∷ rest) le h =
-    let one = All-head (λ q. saved q ≤ m) r rest h in
-    omega (arith, sum_by-cons (λ r. saved r - p) r rest, one, nothing_above m p rest le (All-tail (λ q. saved q ≤ m) r rest h))
+    let one = All-head (λ q. rank_saving q ≤ m) r rest h in
+    omega (arith, sum_by-cons (λ r. rank_saving r - p) r rest, one, nothing_above m p rest le (All-tail (λ q. rank_saving q ≤ m) r rest h))
 
 times_zero : (n p : ℕ) → p ≡ 0 → n * p ≡ 0
 times_zero n p e = rw e (omega arith)
 
 -- the first n ranks save, above a each, as much as all save above the price of the next one, with that price n times
-pub top-le : (a n : ℕ) (ranks : List Rank) → Falling ranks → sum_by (λ r. saved r - (a + (first_saved (drop n ranks) - a))) ranks + n * (first_saved (drop n ranks) - a) ≤ sum_by (λ r. saved r - a) (take n ranks)
+pub top-le : (a n : ℕ) (ranks : List Rank) → Falling ranks → sum_by (λ r. rank_saving r - (a + (first_saved (drop n ranks) - a))) ranks + n * (first_saved (drop n ranks) - a) ≤ sum_by (λ r. rank_saving r - a) (take n ranks)
 top-le a zero [] falls = omega arith
 top-le a zero (r ∷ rest) falls =
-    let p = a + (saved r - a) in
-    omega (arith, sum_by-cons (λ q. saved q - p) r rest, nothing_above (saved r) p rest (omega arith) falls.0)
+    let p = a + (rank_saving r - a) in
+    omega (arith, sum_by-cons (λ q. rank_saving q - p) r rest, nothing_above (rank_saving r) p rest (omega arith) falls.0)
 top-le a (suc n) [] falls = omega (arith, times_zero (suc n) (first_saved (drop (suc n) []) - a) (omega arith))
 top-le a (suc n) (r ∷ rest) falls =
     let p = first_saved (drop n rest) - a in
     let before = top-le a n rest falls.1 in
-    let within = first_le (saved r) n rest falls.0 in
-    omega (arith, sum_by-cons (λ q. saved q - (a + p)) r rest, sum_by-cons (λ q. saved q - a) r (take n rest), before, within)
+    let within = first_le (rank_saving r) n rest falls.0 in
+    omega (arith, sum_by-cons (λ q. rank_saving q - (a + p)) r rest, sum_by-cons (λ q. rank_saving q - a) r (take n rest), before, within)
 
-above_one : (a : ℕ) (r : Rank) (rest : List Rank) (b : Bool) (fs : List Rank) (t : ℕ) → nat_lt a (saved r) ≡ b → sum_by saved fs ≡ t + a * length fs → sum_by saved (cond b (r ∷ fs) fs) ≡ (saved r - a + t) + a * length (cond b (r ∷ fs) fs)
-above_one a r rest true fs t is h = omega (arith, sum_by-cons saved r fs, ltb-true a (saved r) is, h)
-above_one a r rest false fs t is h = omega (arith, ltb-false a (saved r) is, h)
+above_one : (a : ℕ) (r : Rank) (rest : List Rank) (b : Bool) (fs : List Rank) (t : ℕ) → nat_lt a (rank_saving r) ≡ b → sum_by rank_saving fs ≡ t + a * length fs → sum_by rank_saving (cond b (r ∷ fs) fs) ≡ (rank_saving r - a + t) + a * length (cond b (r ∷ fs) fs)
+above_one a r rest true fs t is h = omega (arith, sum_by-cons rank_saving r fs, ltb-true a (rank_saving r) is, h)
+above_one a r rest false fs t is h = omega (arith, ltb-false a (rank_saving r) is, h)
 
 -- those that save more than a save what all save above a, and a each
-pub above_sum : (a : ℕ) (ranks : List Rank) → sum_by saved (filter (λ r. nat_lt a (saved r)) ranks) ≡ sum_by (λ r. saved r - a) ranks + a * length (filter (λ r. nat_lt a (saved r)) ranks)
+pub above_sum : (a : ℕ) (ranks : List Rank) → sum_by rank_saving (filter (λ r. nat_lt a (rank_saving r)) ranks) ≡ sum_by (λ r. rank_saving r - a) ranks + a * length (filter (λ r. nat_lt a (rank_saving r)) ranks)
 above_sum a [] = omega arith
 above_sum a (r ∷ rest) =
-    rw (sum_by-cons (λ r. saved r - a) r rest) (above_one a r rest (nat_lt a (saved r)) _ _ refl (above_sum a rest))
+    rw (sum_by-cons (λ r. rank_saving r - a) r rest) (above_one a r rest (nat_lt a (rank_saving r)) _ _ refl (above_sum a rest))
 
 -- ---- rankings
 
@@ -133,7 +133,7 @@ pub record Ranked (part : Part) (savings : List Saving) (ranks : List Rank) : Ty
   pub stand : All (StandsFrom part 0 savings) ranks
   pub once : (k : ℕ) → times k ranks ≤ 1
   pub falls : Falling ranks
-  pub sums : (g : ℕ → ℕ) → sum_by (λ r. g (saved r)) ranks ≡ sum_by (λ s. g (saved_by part s)) savings
+  pub sums : (g : ℕ → ℕ) → sum_by (λ r. g (rank_saving r)) ranks ≡ sum_by (λ s. g (saved_by part s)) savings
 
 pub ranked : (part : Part) (savings : List Saving) → Ranked part savings (ranking part savings)
 ranked part savings =
@@ -142,7 +142,7 @@ ranked part savings =
       stand = All-sorted (StandsFrom part 0 savings) listed (ranks_stand part 0 savings);
       once = λ k. omega (arith, sum-sorted (λ r. cond (r.number == k) 1 0) listed, times_once part 0 k savings);
       falls = falls_in_order (ranking part savings) (ranking_in_order part 0 savings);
-      sums = λ g. sum-sorted (λ r. g (saved r)) listed ∙ sum-ranks g part 0 savings;
+      sums = λ g. sum-sorted (λ r. g (rank_saving r)) listed ∙ sum-ranks g part 0 savings;
     }
 
 -- each saving once, in order

@@ -9,7 +9,7 @@ use Rattle.std.proofs.lemmas.List.Sums.{sum_by-cons}
 use Rattle.std.proofs.lemmas.List.Elements.{All-nil, All-cons, All-head, All-tail, All-weaker}
 use Rattle.std.proofs.lemmas.Bool.{and_from, and_parts, cases_lt, eq-eqb, eqb-true, ltb-true, ltb-false}
 use Rattle.jumptable_pick.specs.declared.ranking.Rank.{Rank}
-use Rattle.jumptable_pick.specs.Ranking.{put_in, saved, sorted}
+use Rattle.jumptable_pick.specs.Ranking.{put_in, rank_saving, sorted}
 
 -- ---- each rank, and sums
 
@@ -20,7 +20,7 @@ put_either P false r q rest f g = g refl
 All-put_in : (P : Rank → Type 0) (r : Rank) (ranks : List Rank) → P r → All P ranks → All P (put_in r ranks)
 All-put_in P r [] h hs = All-cons P r [] h hs
 All-put_in P r (q ∷ rest) h hs =
-    put_either (All P) (nat_lt (saved r) (saved q)) r q rest
+    put_either (All P) (nat_lt (rank_saving r) (rank_saving q)) r q rest
     (λ more. All-cons P q (put_in r rest) (All-head P q rest hs) (All-put_in P r rest h (All-tail P q rest hs)))
     (λ no. All-cons P r (q ∷ rest) h hs)
 
@@ -31,7 +31,7 @@ All-sorted P (r ∷ rest) h = All-put_in P r (sorted rest) (All-head P r rest h)
 sum-put_in : (f : Rank → ℕ) (r : Rank) (ranks : List Rank) → sum_by f (put_in r ranks) ≡ f r + sum_by f ranks
 sum-put_in f r [] = sum_by-cons f r []
 sum-put_in f r (q ∷ rest) =
-    put_either (λ l. sum_by f l ≡ f r + sum_by f (q ∷ rest)) (nat_lt (saved r) (saved q)) r q rest
+    put_either (λ l. sum_by f l ≡ f r + sum_by f (q ∷ rest)) (nat_lt (rank_saving r) (rank_saving q)) r q rest
     (λ more. omega (arith, sum_by-cons f q (put_in r rest), sum-put_in f r rest, sum_by-cons f q rest))
     (λ no. sum_by-cons f r (q ∷ rest))
 
@@ -43,7 +43,7 @@ sum-sorted f (r ∷ rest) = omega (arith, sum-put_in f r (sorted rest), sum-sort
 
 -- greater savings come first, and of equal ones the smaller number
 abbrev pub ComesBefore : Rank → Rank → Type 0
-ComesBefore a b = (saved b < saved a) ⊎ ((saved a ≡ saved b) × (a.number ≤ b.number))
+ComesBefore a b = (rank_saving b < rank_saving a) ⊎ ((rank_saving a ≡ rank_saving b) × (a.number ≤ b.number))
 
 -- each rank comes before all after it
 abbrev pub AreInOrder : List Rank → Type 0
@@ -56,14 +56,14 @@ before_trans a b c (inl lt) (inr tie) = inl (omega (arith, tie.0))
 before_trans a b c (inr tie) (inl lt) = inl (omega (arith, tie.0))
 before_trans a b c (inr tie) (inr tie') = inr (tie.0 ∙ tie'.0, omega (arith, tie.1, tie'.1))
 
-before_of : (r q : Rank) → saved q ≤ saved r → r.number ≤ q.number → ComesBefore r q
+before_of : (r q : Rank) → rank_saving q ≤ rank_saving r → r.number ≤ q.number → ComesBefore r q
 before_of r q le low =
-    elim (cases_lt (saved q) (saved r)) [
+    elim (cases_lt (rank_saving q) (rank_saving r)) [
       | inl lt ↦ inl lt
       | inr ge ↦ inr (omega arith, low)
     ]
 
-pub before_least : (a b : Rank) → ComesBefore a b → saved b ≤ saved a
+pub before_least : (a b : Rank) → ComesBefore a b → rank_saving b ≤ rank_saving a
 before_least a b (inl lt) = omega arith
 before_least a b (inr tie) = omega (arith, tie.0)
 
@@ -74,15 +74,15 @@ tests_of false true false same h = (refl, λ _. refl)
 tests_of false false below same h = (refl, λ e. absurd cc)
 
 -- what isn't less by the order of the code comes later
-pub before_from : (a b : Rank) → is_lt (ordering_then (nat_cmp (saved a) (saved b)) (nat_cmp b.number a.number)) ≡ false → ComesBefore a b
+pub before_from : (a b : Rank) → is_lt (ordering_then (nat_cmp (rank_saving a) (rank_saving b)) (nat_cmp b.number a.number)) ≡ false → ComesBefore a b
 before_from a b h =
-    let tests = tests_of (nat_lt (saved a) (saved b)) (saved a == saved b) (nat_lt b.number a.number) (b.number == a.number) h in
-    let le : saved b ≤ saved a = ltb-false (saved a) (saved b) tests.0 in
-    elim (cases_lt (saved b) (saved a)) [
+    let tests = tests_of (nat_lt (rank_saving a) (rank_saving b)) (rank_saving a == rank_saving b) (nat_lt b.number a.number) (b.number == a.number) h in
+    let le : rank_saving b ≤ rank_saving a = ltb-false (rank_saving a) (rank_saving b) tests.0 in
+    elim (cases_lt (rank_saving b) (rank_saving a)) [
       | inl lt ↦ inl lt
       | inr ge ↦
-          let tie : saved a ≡ saved b = omega arith in
-          inr (tie, ltb-false b.number a.number (tests.1 (eq-eqb (saved a) (saved b) tie)))
+          let tie : rank_saving a ≡ rank_saving b = omega arith in
+          inr (tie, ltb-false b.number a.number (tests.1 (eq-eqb (rank_saving a) (rank_saving b) tie)))
     ]
 
 -- what stood first goes before what saves as much
@@ -90,10 +90,10 @@ pub put_in_order : (r : Rank) (ranks : List Rank) → All (λ q. r.number ≤ q.
 put_in_order r [] low order = (All-nil (ComesBefore r), tt)
 put_in_order r (q ∷ rest) low order =
     let P : Rank → Type 0 = λ q. r.number ≤ q.number in
-    put_either AreInOrder (nat_lt (saved r) (saved q)) r q rest
-    (λ more. (All-put_in (ComesBefore q) r rest (inl (ltb-true (saved r) (saved q) more)) order.0, put_in_order r rest (All-tail P q rest low) order.1))
+    put_either AreInOrder (nat_lt (rank_saving r) (rank_saving q)) r q rest
+    (λ more. (All-put_in (ComesBefore q) r rest (inl (ltb-true (rank_saving r) (rank_saving q) more)) order.0, put_in_order r rest (All-tail P q rest low) order.1))
     (λ no.
-    let here : ComesBefore r q = before_of r q (ltb-false (saved r) (saved q) no) (All-head P q rest low) in
+    let here : ComesBefore r q = before_of r q (ltb-false (rank_saving r) (rank_saving q) no) (All-head P q rest low) in
     (All-cons (ComesBefore r) q rest here (All-weaker (ComesBefore q) (ComesBefore r) (λ p h. before_trans r q p here h) rest order.0), order))
 
 -- if each comes before the next, each comes before all after it
@@ -117,17 +117,17 @@ before_both a b (inr tie) (inr tie') =
 
 -- whether two ranks are the same
 abbrev same : Rank → Rank → Bool
-same q r = (saved q == saved r) && (q.number == r.number)
+same q r = (rank_saving q == rank_saving r) && (q.number == r.number)
 
 same-is : (q r : Rank) → same q r ≡ true → q ≡ r
 same-is q r e =
-    let parts = and_parts (saved q == saved r) (q.number == r.number) e in
-    let s : saved q ≡ saved r = eqb-true (saved q) (saved r) parts.0 in
+    let parts = and_parts (rank_saving q == rank_saving r) (q.number == r.number) e in
+    let s : rank_saving q ≡ rank_saving r = eqb-true (rank_saving q) (rank_saving r) parts.0 in
     let n : q.number ≡ r.number = eqb-true q.number r.number parts.1 in
     λ i. record { saved = record { 0 = s i }; number = n i }
 
 same-self : (r : Rank) → same r r ≡ true
-same-self r = and_from (saved r == saved r) (r.number == r.number) (eq-eqb (saved r) (saved r) refl) (eq-eqb r.number r.number refl)
+same-self r = and_from (rank_saving r == rank_saving r) (r.number == r.number) (eq-eqb (rank_saving r) (rank_saving r) refl) (eq-eqb r.number r.number refl)
 
 -- a rank stands in the list that begins with it
 stands : (r : Rank) (rest : List Rank) → 0 < sum_by (λ q. cond (same q r) 1 0) (r ∷ rest)

@@ -15,7 +15,7 @@ use Rattle.pick_check.specs.Best.{IsAssignment}
 use Rattle.pick_check.specs.Bound.{excess}
 use Rattle.pick_check.proofs.SlotLaws.{saved_from-none, saved_from-cons, saved_from-same}
 use Rattle.jumptable_pick.specs.declared.ranking.Rank.{Rank}
-use Rattle.jumptable_pick.specs.Ranking.{saved}
+use Rattle.jumptable_pick.specs.Ranking.{rank_saving}
 use Rattle.jumptable_pick.specs.Tables.{chosen, saved_at, joined, net_of}
 use Rattle.jumptable_pick.proofs.RankLaws.{StandsFrom, Ranked, times, above_sum, top-le}
 
@@ -41,7 +41,7 @@ pub no_saving : Saving
 no_saving = record { target = record { object = 0; section = 0; offset = 0 }; jump_sites = 0; call_sites = 0 }
 
 -- slots for ranks with different numbers save what the ranks say
-slots_save : (part : Part) (savings : List Saving) (ranks : List Rank) → All (StandsFrom part 0 savings) ranks → ((k : ℕ) → times k ranks ≤ 1) → saved_in part savings (map (λ q. q.number) ranks) ≡ sum_by saved ranks
+slots_save : (part : Part) (savings : List Saving) (ranks : List Rank) → All (StandsFrom part 0 savings) ranks → ((k : ℕ) → times k ranks ≤ 1) → saved_in part savings (map (λ q. q.number) ranks) ≡ sum_by rank_saving ranks
 slots_save part savings [] stand once = saved_from-none (saved_by part) 0 savings
 slots_save part savings (r ∷ ranks) stand once =
     let head = All-head (StandsFrom part 0 savings) r ranks stand in
@@ -52,7 +52,7 @@ slots_save part savings (r ∷ ranks) stand once =
     let first = saved_from-cons (saved_by part) (map (λ q. q.number) ranks) r.number savings no_saving head.low (omega (arith, head.high)) (fresh r.number ranks gone) in
     let at : r.number - 1 - 0 ≡ r.number - 1 = omega arith in
     let one = head.saves no_saving ∙ ap (λ k. saved_by part (get_or savings k no_saving)) at in
-    omega (arith, first, rest, one, sum_by-cons saved r ranks)
+    omega (arith, first, rest, one, sum_by-cons rank_saving r ranks)
 
 times-take : (k n : ℕ) (ranks : List Rank) → times k (take n ranks) ≤ times k ranks
 times-take k n ranks = sum_by-take-le (λ r. cond (r.number == k) 1 0) ranks n
@@ -61,29 +61,29 @@ times-filter : (k : ℕ) (p : Rank → Bool) (ranks : List Rank) → times k (fi
 times-filter k p ranks = omega (arith, sum_by-filter_both p (λ r. not (p r)) (λ _. refl) (λ r. cond (r.number == k) 1 0) ranks)
 
 -- what slots for the first ranks save
-pub chosen_save : (part : Part) (savings : List Saving) (ranks : List Rank) (above most : ℕ) → Ranked part savings ranks → saved_in part savings (chosen above most ranks) ≡ sum_by (λ r. saved r - above) (take most ranks) + above * length (chosen above most ranks)
+pub chosen_save : (part : Part) (savings : List Saving) (ranks : List Rank) (above most : ℕ) → Ranked part savings ranks → saved_in part savings (chosen above most ranks) ≡ sum_by (λ r. rank_saving r - above) (take most ranks) + above * length (chosen above most ranks)
 chosen_save part savings ranks above most is =
-    let p = λ (r : Rank). nat_lt above (saved r) in
+    let p = λ (r : Rank). nat_lt above (rank_saving r) in
     let front = take most ranks in
     let stand = All-filter p (StandsFrom part 0 savings) front (All-take (StandsFrom part 0 savings) most ranks is.stand) in
     let once = λ (k : ℕ). let le : times k (filter p front) ≤ 1 = omega (arith, times-filter k p front, times-take k most ranks, is.once k) in le in
-    slots_save part savings (filter p front) stand once ∙ above_sum above front ∙ ap (λ n. sum_by (λ r. saved r - above) front + above * n) (sym (length-map (filter p front) (λ q. q.number)))
+    slots_save part savings (filter p front) stand once ∙ above_sum above front ∙ ap (λ n. sum_by (λ r. rank_saving r - above) front + above * n) (sym (length-map (filter p front) (λ q. q.number)))
 
 pub chosen_few : (above most : ℕ) (ranks : List Rank) → length (chosen above most ranks) ≤ most
 chosen_few above most ranks =
-    let p = λ (r : Rank). nat_lt above (saved r) in
+    let p = λ (r : Rank). nat_lt above (rank_saving r) in
     let front = take most ranks in
     omega (arith, length-map (filter p front) (λ q. q.number), length-filter p front, count_by-le-length p front, length-take most ranks)
 
 pub chosen_in_range : (part : Part) (savings : List Saving) (ranks : List Rank) (above most : ℕ) → Ranked part savings ranks → All (λ slot. slot ≤ length savings) (chosen above most ranks)
 chosen_in_range part savings ranks above most is =
-    let p = λ (r : Rank). nat_lt above (saved r) in
+    let p = λ (r : Rank). nat_lt above (rank_saving r) in
     let stand = All-filter p (StandsFrom part 0 savings) (take most ranks) (All-take (StandsFrom part 0 savings) most ranks is.stand) in
     All-map (λ slot. slot ≤ length savings) (λ q. q.number) (filter p (take most ranks))
     (All-weaker (StandsFrom part 0 savings) (λ r. r.number ≤ length savings) (λ r h. omega (arith, h.high)) _ stand)
 
 -- the bound of one part by the price of the first rank that has no slot
-pub part_bound : (part : Part) (savings : List Saving) (ranks : List Rank) (above most : ℕ) → Ranked part savings ranks → excess part (above + (saved_at most ranks - above)) savings + most * (saved_at most ranks - above) ≤ sum_by (λ r. saved r - above) (take most ranks)
+pub part_bound : (part : Part) (savings : List Saving) (ranks : List Rank) (above most : ℕ) → Ranked part savings ranks → excess part (above + (saved_at most ranks - above)) savings + most * (saved_at most ranks - above) ≤ sum_by (λ r. rank_saving r - above) (take most ranks)
 part_bound part savings ranks above most is =
     let price = above + (saved_at most ranks - above) in
     omega (arith, top-le above most ranks is.falls, is.sums (λ x. x - price))

@@ -10,8 +10,8 @@ abbrev pub is_small : Saving → Bool
 is_small s = nat_le s.jump_sites 1073741824 && nat_le s.call_sites 1073741824
 
 -- what a slot for the target saves
-abbrev pub saved : Rank → ℕ
-saved rank = rank.saved.0
+abbrev pub rank_saving : Rank → ℕ
+rank_saving rank = rank.saved.0
 
 -- a saving by what it saves in this part, and its number
 abbrev pub rank_of : Part → ℕ → Saving → Rank
@@ -25,7 +25,7 @@ ranks_from part n (s ∷ rest) = rank_of part (n + 1) s ∷ ranks_from part (n +
 -- a rank goes behind those that save more, and before all others
 abbrev pub put_in : Rank → List Rank → List Rank
 put_in r [] = r ∷ []
-put_in r (q ∷ rest) = if nat_lt (saved r) (saved q) then q ∷ put_in r rest else r ∷ q ∷ rest
+put_in r (q ∷ rest) = if nat_lt (rank_saving r) (rank_saving q) then q ∷ put_in r rest else r ∷ q ∷ rest
 
 -- greater savings come first, and of equal ones the one that stood first
 abbrev pub sorted : List Rank → List Rank

@@ -4,13 +4,13 @@ use Rattle.std.specs.List.{filter}
 use Rattle.pick_check.specs.declared.saving.Saving.{Saving}
 use Rattle.pick_check.specs.Saved.{saved_of, cost_of}
 use Rattle.jumptable_pick.specs.declared.ranking.Rank.{Rank}
-use Rattle.jumptable_pick.specs.Ranking.{saved}
+use Rattle.jumptable_pick.specs.Ranking.{rank_saving}
 
 -- ---- slots
 
 -- slots for the targets among the first so many that save more than a number of bytes
 abbrev pub chosen : ℕ → ℕ → List Rank → List ℕ
-chosen above most ranks = map (λ r. r.number) (filter (λ r. nat_lt above (saved r)) (take most ranks))
+chosen above most ranks = map (λ r. r.number) (filter (λ r. nat_lt above (rank_saving r)) (take most ranks))
 
 -- for jumps alone: those that save more than the four bytes of a slot
 abbrev pub jump_table : List Rank → List ℕ
@@ -53,7 +53,7 @@ best_table savings jumps calls =
 -- what the first saves, and 0 if there is none
 abbrev pub first_saved : List Rank → ℕ
 first_saved [] = 0
-first_saved (r ∷ rest) = saved r
+first_saved (r ∷ rest) = rank_saving r
 
 -- what the first after so many saves, and 0 if there is none
 abbrev pub saved_at : ℕ → List Rank → ℕ

@@ -11,7 +11,7 @@ use Rattle.zc_base.specs.Draws.{drawn, stepped}
 use Rattle.rv_decode.specs.declared.instr.Instr.{Instr}
 use Rattle.rv_decode.specs.Bits.{FitsIn}
 use Rattle.rv_decode.specs.Immediates.{InRange}
-use Rattle.load_maker.specs.Functions.{after_function, before_call, call, calls, epilogue, saved_at, function_statements, functions_from, increment, saves_ra, prologue, operation, operation_count, operations}
+use Rattle.load_maker.specs.Functions.{after_function, before_call, call, calls, epilogue, drawn_saves, function_statements, functions_from, increment, saves_ra, prologue, operation, operation_count, drawn_operations}
 use Rattle.load_maker.specs.Instructions.{add, addi, lui, slli, srai, sub, xori}
 use Rattle.load_maker.specs.Objects.{group}
 use Rattle.load_maker.specs.Statements.{code_size, size_of}
@@ -77,7 +77,7 @@ operation_short kind v lt =
     two : (i j : Instr) → InRange i → InRange j → AreShort 2 (i ∷ j ∷ [])
     two i j fits other = record { short = omega arith; range = All-from_recursion InRange (i ∷ j ∷ []) (fits, (other, tt)) }
 
-operations_short : (m x : ℕ) → AreShort (2 * m) (operations m x)
+operations_short : (m x : ℕ) → AreShort (2 * m) (drawn_operations m x)
 operations_short zero x = record { short = omega arith; range = All-nil InRange }
 operations_short (suc m) x =
     let kind : ℕ = drawn (stepped x) % 6 in
@@ -85,8 +85,8 @@ operations_short (suc m) x =
     let first = operation_short kind v (omega arith) in
     let rest = operations_short m (stepped (stepped x)) in
     record {
-      short = omega (arith, length-append (operation kind v) (operations m (stepped (stepped x))), first.short, rest.short);
-      range = All-append InRange (operation kind v) (operations m (stepped (stepped x))) first.range rest.range;
+      short = omega (arith, length-append (operation kind v) (drawn_operations m (stepped (stepped x))), first.short, rest.short);
+      range = All-append InRange (operation kind v) (drawn_operations m (stepped (stepped x))) first.range rest.range;
     }
 
 increment_short : AreShort 2 increment
@@ -115,9 +115,9 @@ call_body n saved i x le = by (calls saved i) refl
 
 function_body : (n i x : ℕ) → i ≤ n → IsBody n (function_statements i x)
 function_body n i x le =
-    let saved = saved_at x in
+    let saved = drawn_saves x in
     let first = prologue saved in
-    let middle = operations (operation_count x) (stepped (stepped x)) in
+    let middle = drawn_operations (operation_count x) (stepped (stepped x)) in
     let begin : List Instr = (first ++ middle) ++ increment in
     let own = call saved i (before_call x) in
     let last = epilogue saved in

@@ -16,7 +16,7 @@ use Rattle.sound_objects.specs.Reach.{HaveNoBranchOrAlign, is_no_branch_or_align
 use Rattle.sound_objects.proofs.FragmentLaws.{bytes_sized, made_of}
 use Rattle.sound_objects.proofs.UnderLaws.{pair_stands, store_stands, sum_stands, upper_stands, word_stands}
 use Rattle.load_maker.specs.Instructions.{auipc, jalr}
-use Rattle.load_maker.specs.Objects.{text_section}
+use Rattle.load_maker.specs.Objects.{code_parts}
 use Rattle.load_maker.specs.Statements.{IsInRange, code_size, fragment_of, reloc_to, size_of}
 use Rattle.load_maker.specs.declared.register.Register.TheVariants.{Ra}
 use Rattle.load_maker.specs.declared.statement.Statement.{Statement}
@@ -113,9 +113,9 @@ module _ (n : ℕ) (symbol : ℕ → ℕ) where
 
   module _ (statements : List Statement) (right : All (IsRight n) statements) where
     -- a section of such code is made of its fragments, none of which is ALIGN or leads a branch
-    pub code_made : IsMadeOf (map (fragment_of symbol) statements) (text_section (map (fragment_of symbol) statements))
+    pub code_made : IsMadeOf (map (fragment_of symbol) statements) (code_parts (map (fragment_of symbol) statements))
     code_made =
-        made_of (map (fragment_of symbol) statements) (text_section (map (fragment_of symbol) statements)) refl refl refl refl refl
+        made_of (map (fragment_of symbol) statements) (code_parts (map (fragment_of symbol) statements)) refl refl refl refl refl
         (All-map CanStand (fragment_of symbol) statements (All-weaker (IsRight n) (λ s. CanStand (fragment_of symbol s)) stands statements right))
 
     pub code_no_branch : HaveNoBranchOrAlign (map (fragment_of symbol) statements)

@@ -21,7 +21,7 @@ use Rattle.block_cut.specs.Faults.{first_fault, reloc_fault}
 use Rattle.block_cut.specs.Items.{entry_in, start_only, starts_on}
 use Rattle.block_cut.proofs.RoomLaws.{code_room_is}
 use Rattle.elf32_write.specs.Writable.{in_object}
-use Rattle.sound_objects.specs.Parts.{AreWellFormed, files_of, parts_code, parts_data}
+use Rattle.sound_objects.specs.Parts.{AreWellFormed, inputs_of_parts, parts_code, parts_data}
 use Rattle.sound_objects.specs.Fragments.{Fragment, IsMadeOf, fragments_size}
 use Rattle.sound_objects.specs.Reach.{HaveNoBranchOrAlign}
 use Rattle.sound_objects.specs.WellFormed.{BranchesReach, HasSection, HasStrong, RelocsAreRight}
@@ -32,7 +32,7 @@ use Rattle.sound_objects.proofs.PartsLaws.IsSectionIn.{Given, Bare}
 use Rattle.sound_objects.proofs.FragmentLaws.{start_at}
 use Rattle.sound_objects.proofs.ReachLaws.{made_branchless, made_roomless, made_short as short_fragments}
 use Rattle.load_maker.specs.Functions.{functions_from}
-use Rattle.load_maker.specs.Objects.{group_count, group_object, made_objects, made_parts, result_section, result_symbol, start_object, start_statements, start_symbol, symbol_of, text_section, undefined_symbol}
+use Rattle.load_maker.specs.Objects.{group_count, group_object, made_objects, made_parts, result_section, result_symbol, start_object, start_statements, start_symbol, symbol_of, code_parts, undefined_symbol}
 use Rattle.load_maker.specs.Statements.{code_size}
 use Rattle.load_maker.specs.declared.make_objects.TheConstants.{FUNCTION_LIMIT}
 use Rattle.load_maker.proofs.BodyLaws.{code_of, group_short}
@@ -60,10 +60,10 @@ map_is = record {
 -- ---- the room of sections
 
 -- code without ALIGN
-text_room : (fragments : List Fragment) → IsMadeOf fragments (text_section fragments) → HaveNoBranchOrAlign fragments → code_room (text_section fragments) ≡ fragments_size fragments + 4
-text_room fragments is_made no_branch = omega (arith, code_room_is (text_section fragments) refl, made_roomless fragments (text_section fragments) is_made no_branch)
+text_room : (fragments : List Fragment) → IsMadeOf fragments (code_parts fragments) → HaveNoBranchOrAlign fragments → code_room (code_parts fragments) ≡ fragments_size fragments + 4
+text_room fragments is_made no_branch = omega (arith, code_room_is (code_parts fragments) refl, made_roomless fragments (code_parts fragments) is_made no_branch)
 
-text_data : (fragments : List Fragment) → data_room (text_section fragments) ≡ 0
+text_data : (fragments : List Fragment) → data_room (code_parts fragments) ≡ 0
 unfolding role_of
 text_data fragments = refl
 
@@ -93,8 +93,8 @@ module _ (number n : ℕ) (few : n ≤ FUNCTION_LIMIT) where
   -- one without code and relocations, or the code of an object
   data IsMadeSection (l : IndexedSection) : Type 0 where
     Other : is_code_section l.section ≡ false → l.section.relocs ≡ [] → IsMadeSection l
-    OfStart : l ≡ record { object = 0; index = 1; section = text_section (start_fragments number n few) } → IsMadeSection l
-    OfGroup : (k : ℕ) → k < group_count n → l ≡ record { object = suc k; index = 1; section = text_section (fragments_in number n few k) } → IsMadeSection l
+    OfStart : l ≡ record { object = 0; index = 1; section = code_parts (start_fragments number n few) } → IsMadeSection l
+    OfGroup : (k : ℕ) → k < group_count n → l ≡ record { object = suc k; index = 1; section = code_parts (fragments_in number n few k) } → IsMadeSection l
 
   -- its given sections, as they are read
   abbrev sections_read : ObjectParts → List SectionParts
@@ -105,7 +105,7 @@ module _ (number n : ℕ) (few : n ≤ FUNCTION_LIMIT) where
     where
       of_start : (j : ℕ) → l.object ≡ 0 → l.index ≡ suc j → slice_get (sections_read (start_object number n)) j ≡ Some l.section → IsMadeSection l
       of_start zero object index at =
-          let same : text_section (start_fragments number n few) ≡ l.section = cc in
+          let same : code_parts (start_fragments number n few) ≡ l.section = cc in
           OfStart (λ i. record { object = object i; index = index i; section = sym same i })
       of_start (suc zero) object index at =
           let same : result_section ≡ l.section = cc in
@@ -114,7 +114,7 @@ module _ (number n : ℕ) (few : n ≤ FUNCTION_LIMIT) where
 
       of_group : (k j : ℕ) → k < group_count n → l.object ≡ suc k → l.index ≡ suc j → slice_get (sections_read (group_object (functions_from n 0 number) k)) j ≡ Some l.section → IsMadeSection l
       of_group k zero within object index at =
-          let same : text_section (fragments_in number n few k) ≡ l.section = cc in
+          let same : code_parts (fragments_in number n few k) ≡ l.section = cc in
           OfGroup k within (λ i. record { object = object i; index = index i; section = sym same i })
       of_group k (suc j) within object index at = absurd cc
 
@@ -138,18 +138,18 @@ module _ (number n : ℕ) (few : n ≤ FUNCTION_LIMIT) where
 
   -- ---- branches
 
-  all_near : gather_fault (files_of standard_map (made_parts number n)) ≡ None → (l : IndexedSection) → HasSection all.objects l → is_code_section l.section ≡ true → BranchesReach all l
+  all_near : gather_fault (inputs_of_parts standard_map (made_parts number n)) ≡ None → (l : IndexedSection) → HasSection all.objects l → is_code_section l.section ≡ true → BranchesReach all l
   all_near none l has code = by (section_made l has)
     where
       by : IsMadeSection l → BranchesReach all l
       by (Other other bare) = absurd (cc (code, other))
       by (OfStart is) =
-          let start : IndexedSection = record { object = 0; index = 1; section = text_section (start_fragments number n few) } in
+          let start : IndexedSection = record { object = 0; index = 1; section = code_parts (start_fragments number n few) } in
           subst (BranchesReach all) (sym is)
           (branchless_reach all start (subst (HasSection all.objects) is has) refl refl
           (made_branchless start (start_fragments number n few) (start_made number n few) start_no_branch (start_whole number n few) (start_no_bare_branch (symbol_of 2 (start_named number n few)) number n)))
       by (OfGroup k within is) =
-          let group : IndexedSection = record { object = suc k; index = 1; section = text_section (fragments_in number n few k) } in
+          let group : IndexedSection = record { object = suc k; index = 1; section = code_parts (fragments_in number n few k) } in
           subst (BranchesReach all) (sym is)
           (parts_short_reach standard_map (made_parts number n) (made_written number n few) none map_is group (subst (HasSection all.objects) is has) refl refl
           (short_fragments group (fragments_in number n few k) (group_made number n few k within) (group_no_branch k within) all (omega (arith, group_size k))))
@@ -181,8 +181,8 @@ module _ (number n : ℕ) (few : n ≤ FUNCTION_LIMIT) where
       by l defined named (AtFunction k j within object index small lt at) =
           absurd (not_start number n few (8 * k + j) (sym named ∙ function_named number n few k j l.symbol at))
 
-  start_starts : starts_on (text_section (start_fragments number n few)) 0 ≡ true
-  start_starts = start_at (start_fragments number n few) (text_section (start_fragments number n few)) (start_made number n few) (start_whole number n few) [] _ _ refl
+  start_starts : starts_on (code_parts (start_fragments number n few)) 0 ≡ true
+  start_starts = start_at (start_fragments number n few) (code_parts (start_fragments number n few)) (start_made number n few) (start_whole number n few) [] _ _ refl
 
   start_found : entry_in all ≡ Some start_place
   start_found = ap (start_only all.objects) start_leads ∙ ap (λ b. cond b (Some start_place) None) start_starts
@@ -196,7 +196,7 @@ module _ (number n : ℕ) (few : n ≤ FUNCTION_LIMIT) where
   group_code k within =
       omega (
         arith,
-        sum_by-cons code_room (text_section (fragments_in number n few k)) [],
+        sum_by-cons code_room (code_parts (fragments_in number n few k)) [],
         text_room (fragments_in number n few k) (group_made number n few k within) (group_no_branch k within),
         group_size k,
       )
@@ -205,7 +205,7 @@ module _ (number n : ℕ) (few : n ≤ FUNCTION_LIMIT) where
   group_data k within =
       omega (
         arith,
-        sum_by-cons data_room (text_section (fragments_in number n few k)) [],
+        sum_by-cons data_room (code_parts (fragments_in number n few k)) [],
         text_data (fragments_in number n few k),
         none_common (code_size (code_of number n k)) (group_object (functions_from n 0 number) k).symbols (group_symbols number n k few within),
       )
@@ -216,7 +216,7 @@ module _ (number n : ℕ) (few : n ≤ FUNCTION_LIMIT) where
         arith,
         few,
         sum_by-cons parts_code (start_object number n) groups,
-        sum_by-cons code_room (text_section (start_fragments number n few)) (result_section ∷ []),
+        sum_by-cons code_room (code_parts (start_fragments number n few)) (result_section ∷ []),
         sum_by-cons code_room result_section [],
         result_code,
         text_room (start_fragments number n few) (start_made number n few) start_no_branch,
@@ -233,7 +233,7 @@ module _ (number n : ℕ) (few : n ≤ FUNCTION_LIMIT) where
         arith,
         few,
         sum_by-cons parts_data (start_object number n) groups,
-        sum_by-cons data_room (text_section (start_fragments number n few)) (result_section ∷ []),
+        sum_by-cons data_room (code_parts (start_fragments number n few)) (result_section ∷ []),
         sum_by-cons data_room result_section [],
         result_data,
         text_data (start_fragments number n few),

@@ -14,7 +14,7 @@ use Rattle.psabi_sym.specs.Resolve.{Definition, name_definition}
 use Rattle.psabi_sym.specs.Resolve.Definition.{InObject}
 use Rattle.zc_base.specs.declared.mem_map.MemMap.{MemMap}
 use Rattle.sound_objects.specs.Parts.{objects_of, read_of}
-use Rattle.sound_objects.specs.WellFormed.{AreDefined, AreSingle, HasStrong}
+use Rattle.sound_objects.specs.WellFormed.{HaveDefinitions, AreSingle, HasStrong}
 use Rattle.sound_objects.proofs.NameLaws.{defined_strong, strong_there}
 use Rattle.sound_objects.proofs.PartsLaws.{symbol_in}
 use Rattle.load_maker.specs.Functions.{functions_from}
@@ -216,7 +216,7 @@ module _ (number n : ℕ) (few : n ≤ FUNCTION_LIMIT) where
       subst HasDefinition (omega arith)
       (defined_in (i / 8) (i % 8) (omega (arith, lt)) (omega (arith, group_long number n (i / 8), lt)))
 
-  pub all_defined : (memory : MemMap) → AreDefined (objects_of memory (made_parts number n))
+  pub all_defined : (memory : MemMap) → HaveDefinitions (objects_of memory (made_parts number n))
   all_defined memory l is = by l.index refl
     where
       inputs : ParsedInputs

@@ -4,7 +4,7 @@ use Rattle.std.proofs.Common.{◌≡◌, ℕ, suc, ◌+◌, ◌-◌, ◌%◌, �
 use Rattle.std.proofs.lemmas.List.{map-append}
 use Rattle.zc_base.specs.Draws.{drawn, stepped}
 use Rattle.rv_decode.specs.declared.instr.Instr.{Instr}
-use Rattle.load_maker.specs.Functions.{after_function, after_operations, function_statements, functions_from, operation, operations}
+use Rattle.load_maker.specs.Functions.{after_function, after_operations, function_statements, functions_from, operation, drawn_operations}
 use Rattle.load_maker.specs.declared.statement.Statement.{Statement}
 use Rattle.load_maker.specs.declared.statement.Statement.TheVariants.{Plain}
 
@@ -20,18 +20,18 @@ abbrev pub operation_at : ℕ → List Instr
 operation_at x = operation (drawn (stepped x) % 6) (drawn (stepped (stepped x)) % 2048)
 
 pub operations_more : (out : List Statement) (n i x : ℕ) → i < n
-    → (out ++ map Plain (operation_at x)) ++ map Plain (operations (n - (i + 1)) (stepped (stepped x))) ≡ out ++ map Plain (operations (n - i) x)
+    → (out ++ map Plain (operation_at x)) ++ map Plain (drawn_operations (n - (i + 1)) (stepped (stepped x))) ≡ out ++ map Plain (drawn_operations (n - i) x)
 operations_more out n i x lt =
-    let rest = operations (n - (i + 1)) (stepped (stepped x)) in
+    let rest = drawn_operations (n - (i + 1)) (stepped (stepped x)) in
     append_assoc out (map Plain (operation_at x)) (map Plain rest)
     ∙ ap (λ l. out ++ l) (sym (map-append Plain (operation_at x) rest))
-    ∙ ap (λ m. out ++ map Plain (operations m x)) (sym (less n i lt))
+    ∙ ap (λ m. out ++ map Plain (drawn_operations m x)) (sym (less n i lt))
 
 pub after_more : (n i x : ℕ) → i < n → after_operations (n - (i + 1)) (stepped (stepped x)) ≡ after_operations (n - i) x
 after_more n i x lt = ap (λ m. after_operations m x) (sym (less n i lt))
 
-pub operations_end : (out : List Statement) (n i x : ℕ) → n ≤ i → out ≡ out ++ map Plain (operations (n - i) x)
-operations_end out n i x le = sym (ap (λ m. out ++ map Plain (operations m x)) (none n i le) ∙ append-nil out)
+pub operations_end : (out : List Statement) (n i x : ℕ) → n ≤ i → out ≡ out ++ map Plain (drawn_operations (n - i) x)
+operations_end out n i x le = sym (ap (λ m. out ++ map Plain (drawn_operations m x)) (none n i le) ∙ append-nil out)
 
 pub after_end : (n i x : ℕ) → n ≤ i → x ≡ after_operations (n - i) x
 after_end n i x le = sym (ap (λ m. after_operations m x) (none n i le))

@@ -29,14 +29,14 @@ use Rattle.block_cut.specs.Relocs.{is_transfer}
 use Rattle.block_cut.specs.Whole.{IsWhole}
 use Rattle.block_cut.proofs.PlainLaws.{target_on}
 use Rattle.sound_objects.specs.Parts.{objects_of, read_of}
-use Rattle.sound_objects.specs.Fragments.{IsMadeOf, Fragment, FragmentReloc, fragments_size, reloc_at}
+use Rattle.sound_objects.specs.Fragments.{IsMadeOf, Fragment, FragmentReloc, fragments_size, fragment_reloc_at}
 use Rattle.sound_objects.specs.WellFormed.{RelocsAreRight}
 use Rattle.sound_objects.proofs.NameLaws.{defined_strong, strong_found}
 use Rattle.sound_objects.proofs.PartsLaws.{written_whole}
 use Rattle.sound_objects.proofs.FragmentLaws.{edge_after, relocs_right}
 use Rattle.sound_objects.proofs.RelocLaws.{LeadsRight}
 use Rattle.load_maker.specs.Functions.{functions_from}
-use Rattle.load_maker.specs.Objects.{function_name, function_symbols, group_count, group_object, made_parts, start_object, start_statements, symbol_of, text_section, undefined_symbol}
+use Rattle.load_maker.specs.Objects.{function_name, function_symbols, group_count, group_object, made_parts, start_object, start_statements, symbol_of, code_parts, undefined_symbol}
 use Rattle.load_maker.specs.Statements.{named_by, fragment_of, reloc_to}
 use Rattle.load_maker.specs.declared.make_objects.TheConstants.{FUNCTION_LIMIT}
 use Rattle.load_maker.specs.declared.statement.Statement.{Statement}
@@ -65,7 +65,7 @@ resolved_there : (inputs : ParsedInputs) (o k : ℕ) (s : SymbolParts) → symbo
 unfolding resolved
 resolved_there inputs o k s at = ap (λ x. option_map_or (λ symbol. symbol_target inputs o symbol (pos 0)) x Nowhere) at
 
-text_role : (fragments : List Fragment) → role_of (text_section fragments) ≡ role.Code
+text_role : (fragments : List Fragment) → role_of (code_parts fragments) ≡ role.Code
 unfolding role_of
 text_role fragments = refl
 
@@ -90,23 +90,23 @@ module _ (number n : ℕ) (few : n ≤ FUNCTION_LIMIT) where
   abbrev pub fragments_in : ℕ → List Fragment
   fragments_in k = map (fragment_of (symbol_of 0 (named_in k))) (code_of number n k)
 
-  pub start_made : IsMadeOf start_fragments (text_section start_fragments)
+  pub start_made : IsMadeOf start_fragments (code_parts start_fragments)
   start_made = code_made n (symbol_of 2 start_named) (start_statements number n) (start_right number n)
 
-  pub start_whole : IsWhole (text_section start_fragments)
-  start_whole = written_whole (start_object number n) (start_written number n few) 1 (text_section start_fragments) refl refl
+  pub start_whole : IsWhole (code_parts start_fragments)
+  start_whole = written_whole (start_object number n) (start_written number n few) 1 (code_parts start_fragments) refl refl
 
   module _ (k : ℕ) (within : k < group_count n) where
-    pub text_there : section_at made.objects (suc k) 1 ≡ Some (text_section (fragments_in k))
+    pub text_there : section_at made.objects (suc k) 1 ≡ Some (code_parts (fragments_in k))
     text_there =
         ap (option_and_then (λ (object : ObjectParts). slice_get object.sections 1))
         (slice_get-map read_of (made_parts number n) (suc k) ∙ ap (option_map read_of) (later_there number n k within))
 
-    pub group_made : IsMadeOf (fragments_in k) (text_section (fragments_in k))
+    pub group_made : IsMadeOf (fragments_in k) (code_parts (fragments_in k))
     group_made = code_made n (symbol_of 0 (named_in k)) (code_of number n k) (group_right number n k few within)
 
-    pub group_whole : IsWhole (text_section (fragments_in k))
-    group_whole = written_whole (group_object (functions_from n 0 number) k) (group_written number n k few within) 1 (text_section (fragments_in k)) refl refl
+    pub group_whole : IsWhole (code_parts (fragments_in k))
+    group_whole = written_whole (group_object (functions_from n 0 number) k) (group_written number n k few within) 1 (code_parts (fragments_in k)) refl refl
 
   -- ---- where a name leads
 
@@ -114,12 +114,12 @@ module _ (number n : ℕ) (few : n ≤ FUNCTION_LIMIT) where
   abbrev place_in : ℕ → ℕ → Place
   place_in o v = record { object = o; section = 1; offset = v }
 
-  pub home_is : (o v : ℕ) (s : SymbolParts) (fragments : List Fragment) → section_at made.objects o 1 ≡ Some (text_section fragments) → v ≤ fragments_size fragments → s.home ≡ 1 → s.value ≡ v
+  pub home_is : (o v : ℕ) (s : SymbolParts) (fragments : List Fragment) → section_at made.objects o 1 ≡ Some (code_parts fragments) → v ≤ fragments_size fragments → s.home ≡ 1 → s.value ≡ v
       → home_target made o s (pos 0) ≡ Code (place_in o v)
   home_is o v s fragments at le home value =
       (λ j. cond (eqb (home j) 0xFFF1) (Rattle.psabi_sym.specs.Resolve.number_target (value j) (pos 0)) (option_map_or (λ section. role_target made o (home j) (value j) (pos 0) section (role_of section)) (section_at made.objects o (home j)) Nowhere))
       ∙ ap (λ x. option_map_or (λ section. role_target made o 1 v (pos 0) section (role_of section)) x Nowhere) at
-      ∙ ap (role_target made o 1 v (pos 0) (text_section fragments)) (text_role fragments)
+      ∙ ap (role_target made o 1 v (pos 0) (code_parts fragments)) (text_role fragments)
       ∙ ap (λ x. option_map_or (λ m. Code (place_in o m)) x Nowhere) (within_size (fragments_size fragments) v le)
 
   -- what a call leads to
@@ -149,7 +149,7 @@ module _ (number n : ℕ) (few : n ≤ FUNCTION_LIMIT) where
           let v : ℕ = fragments_size (map fragment before) in
           let le : v ≤ fragments_size (fragments_in k) = omega (arith, ap fragments_size split, sum_by-append Rattle.sound_objects.specs.Fragments.fragment_size (map fragment before) (map fragment after)) in
           let q = place_in (suc k) v in
-          let text = text_section (fragments_in k) in
+          let text = code_parts (fragments_in k) in
           let value : l.symbol.value ≡ v = omega (arith, ap (λ (x : SymbolParts). x.value) at.is, code_sized (symbol_of 0 (named_in k)) before) in
           let home : home_target made (suc k) l.symbol (pos 0) ≡ Code q = home_is (suc k) v l.symbol (fragments_in k) (text_there k within) le (ap (λ (x : SymbolParts). x.home) at.is) value in
           let code : code_at made.objects q ≡ Some text = ap (option_and_then code_only) (text_there k within) in
@@ -239,36 +239,36 @@ module _ (number n : ℕ) (few : n ≤ FUNCTION_LIMIT) where
   -- ---- relocations
 
   -- those of code whose calls and parts of addresses lead somewhere
-  text_right : (o : ℕ) (symbol : ℕ → ℕ) (statements : List Statement) → IsMadeOf (map (fragment_of symbol) statements) (text_section (map (fragment_of symbol) statements))
-      → IsWhole (text_section (map (fragment_of symbol) statements))
+  text_right : (o : ℕ) (symbol : ℕ → ℕ) (statements : List Statement) → IsMadeOf (map (fragment_of symbol) statements) (code_parts (map (fragment_of symbol) statements))
+      → IsWhole (code_parts (map (fragment_of symbol) statements))
       → ((before after : List Statement) (i : ℕ) → statements ≡ before ++ Call i ∷ after → is_bad_target made.objects true (resolved made o (symbol i) (pos 0)) ≡ false)
       → ((before after : List Statement) (kind : ℕ) (i : Rattle.rv_decode.specs.declared.instr.Instr.Instr) → statements ≡ before ++ WithAddress kind i ∷ after
       → TakesPart kind i × (is_bad_target made.objects (is_transfer (kind_of kind)) (resolved made o 1 (pos 0)) ≡ false))
-      → RelocsAreRight made (record { object = o; index = 1; section = text_section (map (fragment_of symbol) statements) })
+      → RelocsAreRight made (record { object = o; index = 1; section = code_parts (map (fragment_of symbol) statements) })
   text_right o symbol statements is_made whole calls parts = relocs_right made l fragments is_made whole each
     where
       fragments : List Fragment
       fragments = map (fragment_of symbol) statements
 
       l : IndexedSection
-      l = record { object = o; index = 1; section = text_section (map (fragment_of symbol) statements) }
+      l = record { object = o; index = 1; section = code_parts (map (fragment_of symbol) statements) }
 
-      of_statement : (before after : List Statement) (s : Statement) → statements ≡ before ++ s ∷ after → (at : ℕ) (r : FragmentReloc) → (fragment_of symbol s).reloc ≡ Some r → LeadsRight made l (reloc_at at r)
+      of_statement : (before after : List Statement) (s : Statement) → statements ≡ before ++ s ∷ after → (at : ℕ) (r : FragmentReloc) → (fragment_of symbol s).reloc ≡ Some r → LeadsRight made l (fragment_reloc_at at r)
       of_statement before after (Plain i) split at r is = absurd cc
       of_statement before after (Call i) split at r is =
           let same : reloc_to 18 (symbol i) ≡ r = cc in
-          subst (λ x. LeadsRight made l (reloc_at at x)) same (record { paired = refl; leads = calls before after i split })
+          subst (λ x. LeadsRight made l (fragment_reloc_at at x)) same (record { paired = refl; leads = calls before after i split })
       of_statement before after (WithAddress kind i) split at r is =
           let same : reloc_to kind 1 ≡ r = cc in
           let two = parts before after kind i split in
-          subst (λ x. LeadsRight made l (reloc_at at x)) same (record { paired = and_left _ _ two.0.lone; leads = and_right _ _ two.1 })
+          subst (λ x. LeadsRight made l (fragment_reloc_at at x)) same (record { paired = and_left _ _ two.0.lone; leads = and_right _ _ two.1 })
 
-      each : (front : List Fragment) (p : Fragment) (back : List Fragment) (r : FragmentReloc) → fragments ≡ front ++ p ∷ back → p.reloc ≡ Some r → LeadsRight made l (reloc_at (fragments_size front) r)
+      each : (front : List Fragment) (p : Fragment) (back : List Fragment) (r : FragmentReloc) → fragments ≡ front ++ p ∷ back → p.reloc ≡ Some r → LeadsRight made l (fragment_reloc_at (fragments_size front) r)
       each front p back r split is =
           let own = fragment_from symbol statements front p back split in
           of_statement own.before own.after own.statement own.split (fragments_size front) r (ap (λ (q : Fragment). q.reloc) (sym own.is) ∙ is)
 
-  pub start_relocs : RelocsAreRight made (record { object = 0; index = 1; section = text_section start_fragments })
+  pub start_relocs : RelocsAreRight made (record { object = 0; index = 1; section = code_parts start_fragments })
   start_relocs =
       text_right 0 (symbol_of 2 start_named) (start_statements number n) start_made start_whole
       (λ before after i split.
@@ -277,7 +277,7 @@ module _ (number n : ℕ) (few : n ≤ FUNCTION_LIMIT) where
       let takes : TakesPart kind i = at_split (IsRight n) (start_statements number n) before after (WithAddress kind i) split (start_right number n) in
       (takes, result_target (is_transfer (kind_of kind)) takes.stays))
 
-  pub group_relocs : (k : ℕ) → k < group_count n → RelocsAreRight made (record { object = suc k; index = 1; section = text_section (fragments_in k) })
+  pub group_relocs : (k : ℕ) → k < group_count n → RelocsAreRight made (record { object = suc k; index = 1; section = code_parts (fragments_in k) })
   group_relocs k within =
       text_right (suc k) (symbol_of 0 (named_in k)) (code_of number n k) (group_made k within) (group_whole k within)
       (λ before after i split.

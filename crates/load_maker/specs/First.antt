@@ -3,5 +3,5 @@ use Rattle.std.specs.Prelude.{◌≡◌, ℕ}
 use Rattle.elf32_read.specs.Parts.{ObjectParts}
 use Rattle.load_maker.specs.Objects.{start_object}
 
-unfoldable pub IsFirst : ℕ → ℕ → ObjectParts → Type 0
-IsFirst number functions parts = parts ≡ start_object number functions
+unfoldable pub IsStartObject : ℕ → ℕ → ObjectParts → Type 0
+IsStartObject number functions parts = parts ≡ start_object number functions

@@ -12,8 +12,8 @@ use Rattle.load_maker.specs.declared.statement.Statement.TheVariants.{Plain, Cal
 -- ---- parts of a function
 
 -- what it saves on the stack, by a number below 3
-abbrev pub saved_of : ℕ → SavedRegisters
-saved_of n = if n == 0 then Both else (if n == 1 then ReturnAddress else Neither)
+abbrev pub saves_numbered : ℕ → SavedRegisters
+saves_numbered n = if n == 0 then Both else (if n == 1 then ReturnAddress else Neither)
 
 -- how it begins
 abbrev pub prologue : SavedRegisters → List Instr
@@ -32,10 +32,10 @@ operation kind value =
     srai A0 A0 (pos (1 + value % 3)) ∷ []))))
 
 -- so many operations, each by two draws, and the state after these
-abbrev pub operations : ℕ → ℕ → List Instr
-operations zero x = []
-operations (suc m) x =
-    operation (drawn (stepped x) % 6) (drawn (stepped (stepped x)) % 2048) ++ operations m (stepped (stepped x))
+abbrev pub drawn_operations : ℕ → ℕ → List Instr
+drawn_operations zero x = []
+drawn_operations (suc m) x =
+    operation (drawn (stepped x) % 6) (drawn (stepped (stepped x)) % 2048) ++ drawn_operations m (stepped (stepped x))
 
 abbrev pub after_operations : ℕ → ℕ → ℕ
 after_operations zero x = x
@@ -70,8 +70,8 @@ epilogue Neither = jalr Zero (pos 0) Ra ∷ []
 -- ---- a function
 
 -- what it saves is the first draw's, and how many operations it has the second's; then come the operations' draws
-abbrev pub saved_at : ℕ → SavedRegisters
-saved_at x = saved_of (drawn (stepped x) % 3)
+abbrev pub drawn_saves : ℕ → SavedRegisters
+drawn_saves x = saves_numbered (drawn (stepped x) % 3)
 
 abbrev pub operation_count : ℕ → ℕ
 operation_count x = 4 + drawn (stepped (stepped x)) % 8
@@ -82,12 +82,12 @@ before_call x = after_operations (operation_count x) (stepped (stepped x))
 -- its statements
 abbrev pub function_statements : ℕ → ℕ → List Statement
 function_statements i x =
-    map Plain (prologue (saved_at x) ++ operations (operation_count x) (stepped (stepped x)) ++ increment)
-    ++ call (saved_at x) i (before_call x) ++ map Plain (epilogue (saved_at x))
+    map Plain (prologue (drawn_saves x) ++ drawn_operations (operation_count x) (stepped (stepped x)) ++ increment)
+    ++ call (drawn_saves x) i (before_call x) ++ map Plain (epilogue (drawn_saves x))
 
 -- the state after it
 abbrev pub after_function : ℕ → ℕ → ℕ
-after_function i x = after_call (saved_at x) i (before_call x)
+after_function i x = after_call (drawn_saves x) i (before_call x)
 
 -- so many functions, from one on
 abbrev pub functions_from : ℕ → ℕ → ℕ → List (List Statement)

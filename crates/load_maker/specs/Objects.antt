@@ -45,8 +45,8 @@ undefined_symbol i = record { name = function_name i; value = 0; size = 0; bind 
 -- ---- sections
 
 -- the code: PROGBITS (1), with ALLOC (2) and EXECINSTR (4)
-abbrev pub text_section : List Fragment → SectionParts
-text_section fragments = record {
+abbrev pub code_parts : List Fragment → SectionParts
+code_parts fragments = record {
   name = codes ".text";
   kind = 1;
   flags = 6;
@@ -78,7 +78,7 @@ symbol_of others named i = 1 + others + position_or_len (λ j. i == j) named
 
 -- the code of an object that names these functions
 abbrev pub text_section_of : ℕ → List ℕ → List Statement → SectionParts
-text_section_of others named statements = text_section (map (fragment_of (symbol_of others named)) statements)
+text_section_of others named statements = code_parts (map (fragment_of (symbol_of others named)) statements)
 
 -- ---- the first object
 

@@ -1,7 +1,7 @@
 // The generated functions.
 
 ghost use Rattle.std.specs.Prelude.{◌≡◌, ◌<◌, [], ◌∷◌, ◌++◌, map, IfOk, MatchOption, OnOk};
-ghost use Rattle.load_maker.specs.Functions.{after_call, after_function, after_operations, call, epilogue, function_statements, functions_from, prologue, operation, operations};
+ghost use Rattle.load_maker.specs.Functions.{after_call, after_function, after_operations, call, epilogue, function_statements, functions_from, prologue, operation, drawn_operations};
 ghost use Rattle.load_maker.specs.declared.statement.Statement.TheVariants.{Plain, Call};
 
 use crate::body::Body;
@@ -63,7 +63,7 @@ fn push_operations(
     count: u32,
     draws: &mut Draws,
 ) -> Result<(), AllocError>
-    ensures appended { OnOk result (out.new.items ≡ out.old.items ++ map Plain (operations count draws.old)) }
+    ensures appended { OnOk result (out.new.items ≡ out.old.items ++ map Plain (drawn_operations count draws.old)) }
     ensures after { OnOk result (draws.new ≡ after_operations count draws.old) }
 {
     for _done in 0..count {

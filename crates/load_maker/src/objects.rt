@@ -2,7 +2,7 @@
 
 ghost use Rattle.std.specs.Prelude.{◌≡◌, ◌^◌, ◌<◌, ◌≤◌, ◌+◌, [], ◌∷◌, All, length, map, IfOk};
 ghost use Rattle.std.specs.List.{flat_map, range_with_len};
-ghost use Rattle.load_maker.specs.First.{IsFirst};
+ghost use Rattle.load_maker.specs.First.{IsStartObject};
 ghost use Rattle.load_maker.specs.Objects.{function_object, result_section, result_symbol, start_statements, start_symbol, text_section_of, undefined_symbol};
 ghost use Rattle.load_maker.specs.Statements.{IsInRange, code_size, named_by};
 ghost use Rattle.load_maker.specs.declared.make_objects.TheConstants.{FUNCTION_LIMIT};
@@ -83,7 +83,7 @@ fn start_parts(
 /// The first object.
 pub fn start_object(alloc: Global, number: u64, functions: u32) -> Result<ObjectParts, AllocError>
     requires { functions ≤ FUNCTION_LIMIT }
-    ensures { IfOk result (λ parts. IsFirst number functions parts) }
+    ensures { IfOk result (λ parts. IsStartObject number functions parts) }
 {
     let statements = start_statements(alloc, number, functions)?;
     let mut named = IndexSet::new(alloc);

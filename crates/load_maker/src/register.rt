@@ -1,7 +1,7 @@
 // Registers by their names.
 
 ghost use Rattle.std.specs.Prelude.{◌≡◌};
-ghost use Rattle.load_maker.specs.Instructions.{number_of};
+ghost use Rattle.load_maker.specs.Instructions.{register_number};
 
 use zc_base::reg::Reg;
 
@@ -23,7 +23,7 @@ pub enum Register {
 impl Register {
     /// The register that has this name.
     pub fn reg(self) -> Reg
-        ensures { result ≡ number_of self }
+        ensures { result ≡ register_number self }
     {
         let number = match self {
             Register::Zero => 0,

@@ -1,7 +1,7 @@
 // The registers that functions save.
 
 ghost use Rattle.std.specs.Prelude.{◌≡◌};
-ghost use Rattle.load_maker.specs.Functions.{saved_of, saves_ra};
+ghost use Rattle.load_maker.specs.Functions.{saves_numbered, saves_ra};
 
 /// What a function saves on the stack: s0, which then holds its argument, and the return address; the return address
 /// alone; or neither, and then it calls no other.
@@ -15,7 +15,7 @@ pub enum SavedRegisters {
 impl SavedRegisters {
     /// What a number below 3 stands for.
     pub fn of(number: u32) -> SavedRegisters
-        ensures { result ≡ saved_of number }
+        ensures { result ≡ saves_numbered number }
     {
         match number {
             0 => SavedRegisters::Both,

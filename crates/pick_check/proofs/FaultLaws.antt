@@ -11,11 +11,11 @@ use Rattle.text_lines.specs.Lines.{lines_of}
 use Rattle.text_lines.proofs.PlainLaws.{IsLine}
 use Rattle.text_lines.proofs.SplitLaws.{some_part}
 use Rattle.pick_check.specs.Certified.{Certified}
-use Rattle.pick_check.specs.Fault.{IsBeginning, IsFault, NoneGoesOn, bad_line, large, memory}
+use Rattle.pick_check.specs.Fault.{IsBeginning, IsCertFault, NoneGoesOn, bad_line, large, memory}
 use Rattle.pick_check.specs.declared.fault.CertFault.{CertFault}
 use Rattle.pick_check.specs.declared.fault.CertFault.TheVariants.{BadLine, OutOfMemory, TooLarge}
 use Rattle.pick_check.specs.declared.saving.Saving.{Saving}
-use Rattle.pick_check.specs.Text.{AreWithin, FitsSaving, FitsSlot, certificate_in, certificate_lines, certificate_of, certified, end_then, ends_here, last_in, last_lines, net_limits, net_line, net_of, net_then, only, price_limits, prices_of, read_first, read_then, read_while, saving_line, saving_of, savings_then, slot_line, slot_of, slots_then}
+use Rattle.pick_check.specs.Text.{AreWithin, FitsSaving, FitsSlot, certificate_in, certificate_lines, certificate_of, certified, end_then, ends_here, last_in, last_lines, net_limits, net_line, net_in_line, net_then, only, price_limits, prices_in_line, read_first, read_then, read_while, saving_line, saving_in_line, savings_then, slot_line, slot_in_line, slots_then}
 use Rattle.pick_check.proofs.LineLaws.{net_read, only_is, prices_read, saving_read, slot_read}
 use Rattle.pick_check.proofs.TextLaws.{behind, behind_more, certificate_read, joined, last_ok, lines_are, lines_back, lines_read_back, no_ok, whole}
 use Rattle.pick_check.proofs.WhileLaws.{all_same, step_first, while_all, while_is, while_same, while_short}
@@ -110,9 +110,9 @@ end_stops number prices net (line ∷ (next ∷ lines)) fault some is = either (
 net_stops : (number : ℕ) (prices : List ℕ) (lines : List (List ℕ)) (fault : CertFault) → 0 < length lines → net_then number prices lines ≡ Err fault → Stops number lines fault BeginsNet
 net_stops number prices [] fault some is = absurd (omega (arith, some))
 net_stops number prices (line ∷ []) fault some is = at_once number line [] fault BeginsNet (same_err (BadLine number) fault is) (0, zero_fits, (net_line 0 ∷ codes "end" ∷ [], refl))
-net_stops number prices (line ∷ (next ∷ lines)) fault some is = either (net_of line) refl is
+net_stops number prices (line ∷ (next ∷ lines)) fault some is = either (net_in_line line) refl is
   where
-    either : (o : Option ℕ) → net_of line ≡ o → read_then number o (λ net. end_then (number + 1) prices net (next ∷ lines)) ≡ Err fault → Stops number (line ∷ (next ∷ lines)) fault BeginsNet
+    either : (o : Option ℕ) → net_in_line line ≡ o → read_then number o (λ net. end_then (number + 1) prices net (next ∷ lines)) ≡ Err fault → Stops number (line ∷ (next ∷ lines)) fault BeginsNet
     either None bad h = at_once number line (next ∷ lines) fault BeginsNet (same_err (BadLine number) fault h) (0, zero_fits, (net_line 0 ∷ codes "end" ∷ [], refl))
     either (Some net) good h =
         let read = net_read line net good in
@@ -124,9 +124,9 @@ last_stops : (number : ℕ) (lines : List (List ℕ)) (fault : CertFault) → 0 
 unfolding last_in
 last_stops number [] fault some is = absurd (omega (arith, some))
 last_stops number (line ∷ []) fault some is = at_once number line [] fault BeginsLast (same_err (BadLine number) fault is) (zero_prices, 0, zeros_fit, zero_fits, (last_lines zero_prices 0, refl))
-last_stops number (line ∷ (next ∷ lines)) fault some is = either (prices_of line) refl is
+last_stops number (line ∷ (next ∷ lines)) fault some is = either (prices_in_line line) refl is
   where
-    either : (o : Option (List ℕ)) → prices_of line ≡ o → read_then number o (λ prices. net_then (number + 1) prices (next ∷ lines)) ≡ Err fault → Stops number (line ∷ (next ∷ lines)) fault BeginsLast
+    either : (o : Option (List ℕ)) → prices_in_line line ≡ o → read_then number o (λ prices. net_then (number + 1) prices (next ∷ lines)) ≡ Err fault → Stops number (line ∷ (next ∷ lines)) fault BeginsLast
     either None bad h = at_once number line (next ∷ lines) fault BeginsLast (same_err (BadLine number) fault h) (zero_prices, 0, zeros_fit, zero_fits, (last_lines zero_prices 0, refl))
     either (Some prices) good h =
         let read = prices_read line prices good in
@@ -157,18 +157,18 @@ nothing_yet = record {
 
 savings_stop : (title : List ℕ) (lines : List (List ℕ)) (fault : CertFault) → title ≡ codes "zcld certificate 1" → 0 < length lines → savings_then lines ≡ Err fault → Stops 1 (title ∷ lines) fault IsBeginning
 savings_stop title lines fault is some h =
-    let found = read_while saving_of lines in
+    let found = read_while saving_in_line lines in
     let others = drop (length found) lines in
-    let chosen = take 256 (read_while slot_of others) in
+    let chosen = take 256 (read_while slot_in_line others) in
     let left = drop (length chosen) others in
-    let savings = while_all saving_of saving_line FitsSaving saving_read lines in
-    let slots = while_is slot_of slot_line FitsSlot slot_read 256 others in
-    let few : length chosen ≤ 256 = omega (arith, length-take 256 (read_while slot_of others)) in
+    let savings = while_all saving_in_line saving_line FitsSaving saving_read lines in
+    let slots = while_is slot_in_line slot_line FitsSlot slot_read 256 others in
+    let few : length chosen ≤ 256 = omega (arith, length-take 256 (read_while slot_in_line others)) in
     let others_size = length-drop (length found) lines in
     let left_size = length-drop (length chosen) others in
-    let short = while_short saving_of lines some in
-    let slots_short = while_short slot_of others (omega (arith, others_size, short)) in
-    let chosen_size = length-take 256 (read_while slot_of others) in
+    let short = while_short saving_in_line lines some in
+    let slots_short = while_short slot_in_line others (omega (arith, others_size, short)) in
+    let chosen_size = length-take 256 (read_while slot_in_line others) in
     let last = last_stops (length found + length chosen + 2) left fault (omega (arith, left_size, chosen_size, slots_short)) (certified_err found chosen (last_in (length found + length chosen + 2) left) fault h) in
     let size = length-append (map saving_line found) (map slot_line chosen ++ last.before) in
     let slots_size = length-append (map slot_line chosen) last.before in
@@ -239,28 +239,28 @@ module _ (a : List ℕ) (al : List (List ℕ)) (b : List ℕ) (bl : List (List �
   net_same : (prices : List ℕ) (number : ℕ) (xs : List (List ℕ)) → number + length xs ≡ k + 1 → net_then number prices (xs ++ a ∷ al) ≡ Err (BadLine k) → net_then number prices (xs ++ b ∷ bl) ≡ Err (BadLine k)
   net_same prices number [] size h = let le = low number k (a ∷ al) (net_stops number prices (a ∷ al) (BadLine k) (omega arith) h) in absurd (omega (arith, le, size))
   net_same prices number (x ∷ xs) size h =
-      first_same net_of number x xs (λ net lines. end_then (number + 1) prices net lines) (λ net h'. end_same prices net (number + 1) xs (omega (arith, size)) h') h
+      first_same net_in_line number x xs (λ net lines. end_then (number + 1) prices net lines) (λ net h'. end_same prices net (number + 1) xs (omega (arith, size)) h') h
 
   last_same : (number : ℕ) (xs : List (List ℕ)) → number + length xs ≡ k + 1 → last_in number (xs ++ a ∷ al) ≡ Err (BadLine k) → last_in number (xs ++ b ∷ bl) ≡ Err (BadLine k)
   unfolding last_in
   last_same number [] size h = let le = low number k (a ∷ al) (last_stops number (a ∷ al) (BadLine k) (omega arith) h) in absurd (omega (arith, le, size))
   last_same number (x ∷ xs) size h =
-      first_same prices_of number x xs (λ prices lines. net_then (number + 1) prices lines) (λ prices h'. net_same prices (number + 1) xs (omega (arith, size)) h') h
+      first_same prices_in_line number x xs (λ prices lines. net_then (number + 1) prices lines) (λ prices h'. net_same prices (number + 1) xs (omega (arith, size)) h') h
 
   -- the savings and the slots are the same, since fewer lines than these are read
   slots_same : (savings : List Saving) (xs : List (List ℕ)) → length savings + 2 + length xs ≡ k + 1 → slots_then savings (xs ++ a ∷ al) ≡ Err (BadLine k) → slots_then savings (xs ++ b ∷ bl) ≡ Err (BadLine k)
   slots_same savings xs size h =
       let left = xs ++ a ∷ al in
       let right = xs ++ b ∷ bl in
-      let slots = take 256 (read_while slot_of left) in
+      let slots = take 256 (read_while slot_in_line left) in
       let number = length savings + length slots + 2 in
-      let chosen_size = length-take 256 (read_while slot_of left) in
-      let short = while_short slot_of left (some_left xs a al) in
+      let chosen_size = length-take 256 (read_while slot_in_line left) in
+      let short = while_short slot_in_line left (some_left xs a al) in
       let left_size = length-drop (length slots) left in
       let failed = certified_err savings slots (last_in number (drop (length slots) left)) (BadLine k) h in
       let le = low number k (drop (length slots) left) (last_stops number (drop (length slots) left) (BadLine k) (omega (arith, left_size, chosen_size, short)) failed) in
       let few : length slots < length xs = omega (arith, le, size) in
-      let same = while_same slot_of 256 xs a al b bl few in
+      let same = while_same slot_in_line 256 xs a al b bl few in
       let zs = drop (length slots) xs in
       let zs_size = length-drop (length slots) xs in
       let on_left = drop-append-le (length slots) xs (a ∷ al) (omega (arith, few)) in
@@ -273,19 +273,19 @@ module _ (a : List ℕ) (al : List (List ℕ)) (b : List ℕ) (bl : List (List �
   savings_same xs size h =
       let left = xs ++ a ∷ al in
       let right = xs ++ b ∷ bl in
-      let savings = read_while saving_of left in
+      let savings = read_while saving_in_line left in
       let others = drop (length savings) left in
-      let slots = take 256 (read_while slot_of others) in
+      let slots = take 256 (read_while slot_in_line others) in
       let number = length savings + length slots + 2 in
       let others_size = length-drop (length savings) left in
       let slots_size = length-drop (length slots) others in
-      let chosen_size = length-take 256 (read_while slot_of others) in
-      let short = while_short saving_of left (some_left xs a al) in
-      let slots_short = while_short slot_of others (omega (arith, others_size, short)) in
+      let chosen_size = length-take 256 (read_while slot_in_line others) in
+      let short = while_short saving_in_line left (some_left xs a al) in
+      let slots_short = while_short slot_in_line others (omega (arith, others_size, short)) in
       let failed = certified_err savings slots (last_in number (drop (length slots) others)) (BadLine k) h in
       let le = low number k (drop (length slots) others) (last_stops number (drop (length slots) others) (BadLine k) (omega (arith, slots_size, chosen_size, slots_short)) failed) in
       let few : length savings < length xs = omega (arith, le, size) in
-      let same = all_same saving_of xs a al b bl few in
+      let same = all_same saving_in_line xs a al b bl few in
       let zs_size = length-drop (length savings) xs in
       let on_left = drop-append-le (length savings) xs (a ∷ al) (omega (arith, few)) in
       let on_right = drop-append-le (length savings) xs (b ∷ bl) (omega (arith, few)) in
@@ -335,10 +335,10 @@ plain_before before is =
     front [] ys all = All-nil IsLine
     front (x ∷ xs) ys all = All-cons IsLine x xs (All-head IsLine x (xs ++ ys) all) (front xs ys (All-tail IsLine x (xs ++ ys) all))
 
-same_fault : (text : List ℕ) (a b : CertFault) → a ≡ b → IsFault text a → IsFault text b
-same_fault text a b same here = let P : CertFault → Type 0 = IsFault text in subst P same here
+same_fault : (text : List ℕ) (a b : CertFault) → a ≡ b → IsCertFault text a → IsCertFault text b
+same_fault text a b same here = let P : CertFault → Type 0 = IsCertFault text in subst P same here
 
-text_stops : (text : List ℕ) (fault : CertFault) → length text ≤ 8388608 → certificate_in text ≡ Err fault → certificate_of (lines_of text) ≡ Err fault → IsFault text fault
+text_stops : (text : List ℕ) (fault : CertFault) → length text ≤ 8388608 → certificate_in text ≡ Err fault → certificate_of (lines_of text) ≡ Err fault → IsCertFault text fault
 text_stops text fault small found h =
     let some = some_part (λ b. eqb b 10) text in
     let size = ap length some.2 in
@@ -353,12 +353,12 @@ text_stops text fault small found h =
     (bad_line stops.before rest spells stops.begins (none_goes_on stops.before rest plain again)
     (λ savings c is. let y : List Saving × Certified = (savings, c) in no_ok fault y (sym found ∙ certificate_read text savings c is small)))
 
-limited : (text : List ℕ) (fault : CertFault) (b : Bool) → ltb 8388608 (length text) ≡ b → certificate_in text ≡ Err fault → cond b (Err TooLarge) (certificate_of (lines_of text)) ≡ Err fault → IsFault text fault
+limited : (text : List ℕ) (fault : CertFault) (b : Bool) → ltb 8388608 (length text) ≡ b → certificate_in text ≡ Err fault → cond b (Err TooLarge) (certificate_of (lines_of text)) ≡ Err fault → IsCertFault text fault
 limited text fault true is found h = same_fault text TooLarge fault (same_err TooLarge fault h) (large (ltb-true 8388608 (length text) is))
 limited text fault false is found h = text_stops text fault (ltb-false 8388608 (length text) is) found h
 
 -- a fault that is found, or want of memory
-pub fault_read : (text : List ℕ) (fault : CertFault) → (fault ≡ OutOfMemory) ⊎ (certificate_in text ≡ Err fault) → IsFault text fault
+pub fault_read : (text : List ℕ) (fault : CertFault) → (fault ≡ OutOfMemory) ⊎ (certificate_in text ≡ Err fault) → IsCertFault text fault
 unfolding certificate_in
 fault_read text fault (inl want) = same_fault text OutOfMemory fault (sym want) memory
 fault_read text fault (inr found) = limited text fault (ltb 8388608 (length text)) refl found found

@@ -8,7 +8,7 @@ use Rattle.std.proofs.lemmas.Slice.Eq.{bytes_eq-Decides}
 use Rattle.text_lines.specs.Lines.{lines_of}
 use Rattle.text_lines.proofs.SplitLaws.{some_part}
 use Rattle.pick_check.specs.declared.saving.Saving.{Saving}
-use Rattle.pick_check.specs.Text.{only, read_first, saving_line, saving_numbers, saving_of}
+use Rattle.pick_check.specs.Text.{only, read_first, saving_line, saving_numbers, saving_in_line}
 use Rattle.pick_check.proofs.LineLaws.{saving_read}
 
 pub first_line : {A : Type 0} (read : List ℕ → Option A) (text line rest : List ℕ) → lines_of text ≡ line ∷ lines_of rest → read_first read (lines_of text) ≡ read line
@@ -23,7 +23,7 @@ first_only text line rest wanted is same =
     ∙ ap Some ((bytes_eq-Decides line wanted).0 same)
 
 -- a saving's line has more than 6 bytes
-pub saving_room : (text line rest : List ℕ) (s : Saving) → text ≡ line ++ 10 ∷ rest → saving_of line ≡ Some s → 8 + length rest ≤ length text
+pub saving_room : (text line rest : List ℕ) (s : Saving) → text ≡ line ++ 10 ∷ rest → saving_in_line line ≡ Some s → 8 + length rest ≤ length text
 saving_room text line rest s is read =
     let others : List ℕ = join_with_byte 32 (map decimal (saving_numbers s)) in
     let size : length (saving_line s) ≡ length (codes "saving") + length (32 ∷ others) = length-append (codes "saving") (32 ∷ others) in

@@ -17,7 +17,7 @@ use Rattle.text_lines.proofs.OptionLaws.{mapped, picked}
 use Rattle.text_lines.proofs.PlainLaws.{IsLine, IsPlain}
 use Rattle.text_lines.proofs.SplitLaws.{some_part}
 use Rattle.pick_check.specs.declared.saving.Saving.{Saving}
-use Rattle.pick_check.specs.Text.{AreWithin, FitsSaving, FitsSlot, line_with, net_limits, net_line, net_of, numbers_behind, numbers_in, numbers_of, only, price_limits, price_line, prices_of, saving_limits, saving_line, saving_numbers, saving_of, saving_with, slot_limits, slot_line, slot_of}
+use Rattle.pick_check.specs.Text.{AreWithin, FitsSaving, FitsSlot, line_with, net_limits, net_line, net_in_line, numbers_behind, numbers_in, numbers_of, only, price_limits, price_line, prices_in_line, saving_limits, saving_line, saving_numbers, saving_in_line, saving_with, slot_limits, slot_line, slot_in_line}
 use Rattle.pick_check.proofs.PlainLaws.{line_plain, net_plain, net_small, price_plain, price_small, saving_plain, saving_small, slot_plain, slot_small, within_small, words_back}
 
 -- ---- numbers
@@ -89,7 +89,7 @@ saving_numbers_with (a ∷ (b ∷ (c ∷ (d ∷ (e ∷ (f ∷ ns)))))) within = 
 ReadSaving : List ℕ → Saving → Type 0
 ReadSaving line s = (line ≡ saving_line s) × FitsSaving s
 
-pub saving_read : (line : List ℕ) (s : Saving) → saving_of line ≡ Some s → (line ≡ saving_line s) × FitsSaving s
+pub saving_read : (line : List ℕ) (s : Saving) → saving_in_line line ≡ Some s → (line ≡ saving_line s) × FitsSaving s
 unfolding ReadSaving
 saving_read line s is =
     mapped saving_with (numbers_in (codes "saving") saving_limits line) s is (λ ns numbers same.
@@ -97,7 +97,7 @@ saving_read line s is =
     let five = saving_numbers_with ns parts.1 in
     subst (ReadSaving line) same (parts.0 ∙ ap (line_with (codes "saving")) (sym five), subst (AreWithin saving_limits) (sym five) parts.1))
 
-pub saving_back : (s : Saving) → FitsSaving s → saving_of (saving_line s) ≡ Some s
+pub saving_back : (s : Saving) → FitsSaving s → saving_in_line (saving_line s) ≡ Some s
 saving_back s fits = ap (option_map saving_with) (line_back (codes "saving") saving_limits (saving_numbers s) saving_plain saving_small fits)
 
 -- one number is its own list
@@ -117,22 +117,22 @@ one_read name limit line n is =
     let one = alone limit ns parts.1 in
     subst (ReadOne name limit line) same (parts.0 ∙ ap (line_with name) (sym one), subst (AreWithin (limit ∷ [])) (sym one) parts.1))
 
-pub slot_read : (line : List ℕ) (slot : ℕ) → slot_of line ≡ Some slot → (line ≡ slot_line slot) × FitsSlot slot
+pub slot_read : (line : List ℕ) (slot : ℕ) → slot_in_line line ≡ Some slot → (line ≡ slot_line slot) × FitsSlot slot
 slot_read line slot is = one_read (codes "slot") 0xFFFF_FFFF line slot is
 
-pub slot_back : (slot : ℕ) → FitsSlot slot → slot_of (slot_line slot) ≡ Some slot
+pub slot_back : (slot : ℕ) → FitsSlot slot → slot_in_line (slot_line slot) ≡ Some slot
 slot_back slot fits = ap (option_map (λ ns. slice_index ns 0)) (line_back (codes "slot") slot_limits (slot ∷ []) slot_plain slot_small fits)
 
-pub prices_read : (line prices : List ℕ) → prices_of line ≡ Some prices → (line ≡ price_line prices) × AreWithin price_limits prices
+pub prices_read : (line prices : List ℕ) → prices_in_line line ≡ Some prices → (line ≡ price_line prices) × AreWithin price_limits prices
 prices_read line prices is = line_read (codes "price") price_limits line prices is
 
-pub prices_back : (prices : List ℕ) → AreWithin price_limits prices → prices_of (price_line prices) ≡ Some prices
+pub prices_back : (prices : List ℕ) → AreWithin price_limits prices → prices_in_line (price_line prices) ≡ Some prices
 prices_back prices fits = line_back (codes "price") price_limits prices price_plain price_small fits
 
-pub net_read : (line : List ℕ) (net : ℕ) → net_of line ≡ Some net → (line ≡ net_line net) × AreWithin net_limits (net ∷ [])
+pub net_read : (line : List ℕ) (net : ℕ) → net_in_line line ≡ Some net → (line ≡ net_line net) × AreWithin net_limits (net ∷ [])
 net_read line net is = one_read (codes "net") 0xFFFF_FFFF_FFFF_FFFF line net is
 
-pub net_back : (net : ℕ) → AreWithin net_limits (net ∷ []) → net_of (net_line net) ≡ Some net
+pub net_back : (net : ℕ) → AreWithin net_limits (net ∷ []) → net_in_line (net_line net) ≡ Some net
 net_back net fits = ap (option_map (λ ns. slice_index ns 0)) (line_back (codes "net") net_limits (net ∷ []) net_plain net_small fits)
 
 -- a line alone
@@ -141,15 +141,15 @@ only_is wanted line x is = (bytes_eq-Decides line wanted).0 (picked (bytes_eq li
 
 -- ---- one kind of line is none of another kind
 
-pub slot_no_saving : (slot : ℕ) → FitsSlot slot → saving_of (slot_line slot) ≡ None
+pub slot_no_saving : (slot : ℕ) → FitsSlot slot → saving_in_line (slot_line slot) ≡ None
 slot_no_saving slot fits =
     ap (option_map saving_with) (line_other (codes "saving") saving_limits (codes "slot") (slot ∷ []) slot_plain (within_small slot_limits (slot ∷ []) slot_small fits) refl)
 
-pub price_no_saving : (prices : List ℕ) → AreWithin price_limits prices → saving_of (price_line prices) ≡ None
+pub price_no_saving : (prices : List ℕ) → AreWithin price_limits prices → saving_in_line (price_line prices) ≡ None
 price_no_saving prices fits =
     ap (option_map saving_with) (line_other (codes "saving") saving_limits (codes "price") prices price_plain (within_small price_limits prices price_small fits) refl)
 
-pub price_no_slot : (prices : List ℕ) → AreWithin price_limits prices → slot_of (price_line prices) ≡ None
+pub price_no_slot : (prices : List ℕ) → AreWithin price_limits prices → slot_in_line (price_line prices) ≡ None
 price_no_slot prices fits =
     ap (option_map (λ ns. slice_index ns 0)) (line_other (codes "slot") slot_limits (codes "price") prices price_plain (within_small price_limits prices price_small fits) refl)
 

@@ -8,11 +8,11 @@ use Rattle.std.proofs.lemmas.List.{take_all, take_at}
 use Rattle.std.proofs.lemmas.List.Splits.{join_with_byte-slice_split}
 use Rattle.text_lines.specs.Lines.{lines_of}
 use Rattle.pick_check.specs.Certified.{Certified}
-use Rattle.pick_check.specs.Fault.{IsFault}
+use Rattle.pick_check.specs.Fault.{IsCertFault}
 use Rattle.pick_check.specs.declared.fault.CertFault.{CertFault}
 use Rattle.pick_check.specs.declared.fault.CertFault.TheVariants.{BadLine, OutOfMemory}
 use Rattle.pick_check.specs.declared.saving.Saving.{Saving}
-use Rattle.pick_check.specs.Text.{IsText, ReadsEach, certificate_in, certificate_of, certified, end_then, ends_here, last_in, net_of, net_then, only, prices_of, read_first, read_then, read_while, saving_of, savings_then, slot_of, slots_then}
+use Rattle.pick_check.specs.Text.{IsCertText, ReadsEachCert, certificate_in, certificate_of, certified, end_then, ends_here, last_in, net_in_line, net_then, only, prices_in_line, read_first, read_then, read_while, saving_in_line, savings_then, slot_in_line, slots_then}
 use Rattle.pick_check.proofs.FaultLaws.{fault_read}
 use Rattle.pick_check.proofs.TextLaws.{ends_are, last_ok, refused, same_certificate, text_read, within_limit}
 use Rattle.pick_check.proofs.WhileLaws.{while_none}
@@ -28,19 +28,19 @@ some_behind rest some =
     omega (arith, some, size))
 
 module _ (number : ℕ) (text : List ℕ) where
-  pub bad_prices : read_first prices_of (lines_of text) ≡ None → last_in number (lines_of text) ≡ Err (BadLine number)
+  pub bad_prices : read_first prices_in_line (lines_of text) ≡ None → last_in number (lines_of text) ≡ Err (BadLine number)
   unfolding last_in
   bad_prices bad = ap (λ o. read_then number o (λ prices. net_then (number + 1) prices (drop 1 (lines_of text)))) bad
 
-  module _ (prices second : List ℕ) (priced : read_first prices_of (lines_of text) ≡ Some prices) (there : lines_of second ≡ drop 1 (lines_of text)) where
+  module _ (prices second : List ℕ) (priced : read_first prices_in_line (lines_of text) ≡ Some prices) (there : lines_of second ≡ drop 1 (lines_of text)) where
     behind_prices : last_in number (lines_of text) ≡ net_then (number + 1) prices (lines_of second)
     unfolding last_in
     behind_prices = ap (λ o. read_then number o (λ ps. net_then (number + 1) ps (drop 1 (lines_of text)))) priced ∙ ap (net_then (number + 1) prices) (sym there)
 
-    pub bad_net : read_first net_of (lines_of second) ≡ None → last_in number (lines_of text) ≡ Err (BadLine (number + 1))
+    pub bad_net : read_first net_in_line (lines_of second) ≡ None → last_in number (lines_of text) ≡ Err (BadLine (number + 1))
     bad_net bad = behind_prices ∙ ap (λ o. read_then (number + 1) o (λ net. end_then (number + 1 + 1) prices net (drop 1 (lines_of second)))) bad
 
-    module _ (net : ℕ) (third : List ℕ) (counted : read_first net_of (lines_of second) ≡ Some net) (then_there : lines_of third ≡ drop 1 (lines_of second)) where
+    module _ (net : ℕ) (third : List ℕ) (counted : read_first net_in_line (lines_of second) ≡ Some net) (then_there : lines_of third ≡ drop 1 (lines_of second)) where
       behind_net : last_in number (lines_of text) ≡ end_then (number + 1 + 1) prices net (lines_of third)
       behind_net = behind_prices ∙ ap (λ o. read_then (number + 1) o (λ n. end_then (number + 1 + 1) prices n (drop 1 (lines_of second)))) counted ∙ ap (end_then (number + 1 + 1) prices net) (sym then_there)
 
@@ -69,10 +69,10 @@ module _ (number : ℕ) (text : List ℕ) where
 -- ---- all lines
 
 -- at most 256 slots, up to a line that is none
-slots_chosen : (slots : List ℕ) (lines rest : List (List ℕ)) → read_while slot_of lines ≡ slots ++ read_while slot_of rest → length slots ≤ 256 → (read_first slot_of rest ≡ None) ⊎ (length slots ≡ 256) → take 256 (read_while slot_of lines) ≡ slots
+slots_chosen : (slots : List ℕ) (lines rest : List (List ℕ)) → read_while slot_in_line lines ≡ slots ++ read_while slot_in_line rest → length slots ≤ 256 → (read_first slot_in_line rest ≡ None) ⊎ (length slots ≡ 256) → take 256 (read_while slot_in_line lines) ≡ slots
 slots_chosen slots lines rest so_far few (inl none) =
-    ap (take 256) (so_far ∙ ap (λ xs. slots ++ xs) (while_none slot_of rest none) ∙ append-nil slots) ∙ take_all 256 slots few
-slots_chosen slots lines rest so_far few (inr full) = ap (take 256) so_far ∙ take_at slots (read_while slot_of rest) 256 full
+    ap (take 256) (so_far ∙ ap (λ xs. slots ++ xs) (while_none slot_in_line rest none) ∙ append-nil slots) ∙ take_all 256 slots few
+slots_chosen slots lines rest so_far few (inr full) = ap (take 256) so_far ∙ take_at slots (read_while slot_in_line rest) 256 full
 
 pub no_title : (lines : List (List ℕ)) → read_first (only (codes "zcld certificate 1")) lines ≡ None → certificate_of lines ≡ Err (BadLine 1)
 unfolding certificate_of
@@ -81,8 +81,8 @@ no_title lines bad = ap (λ o. read_then 1 o (λ title. savings_then (drop 1 lin
 -- behind the title, the savings and the slots come the last lines
 lines_found : (lines : List (List ℕ)) (x first second third : List ℕ) (savings : List Saving) (slots : List ℕ)
     → read_first (only (codes "zcld certificate 1")) lines ≡ Some x → lines_of first ≡ drop 1 lines
-    → read_while saving_of (lines_of first) ≡ savings → lines_of second ≡ drop (length savings) (lines_of first)
-    → take 256 (read_while slot_of (lines_of second)) ≡ slots → lines_of third ≡ drop (length slots) (lines_of second)
+    → read_while saving_in_line (lines_of first) ≡ savings → lines_of second ≡ drop (length savings) (lines_of first)
+    → take 256 (read_while slot_in_line (lines_of second)) ≡ slots → lines_of third ≡ drop (length slots) (lines_of second)
     → certificate_of lines ≡ certified savings slots (last_in (length savings + length slots + 2) (lines_of third))
 unfolding certificate_of
 lines_found lines x first second third savings slots titled at_first are_savings at_second are_slots at_third =
@@ -96,9 +96,9 @@ lines_found lines x first second third savings slots titled at_first are_savings
 -- the same, where the lengths have other names, for slots as they are read
 pub lines_read : (lines : List (List ℕ)) (x first second third : List ℕ) (savings : List Saving) (slots : List ℕ) (m n : ℕ)
     → read_first (only (codes "zcld certificate 1")) lines ≡ Some x → lines_of first ≡ drop 1 lines
-    → read_while saving_of (lines_of first) ≡ savings → lines_of second ≡ drop (length savings) (lines_of first)
-    → read_while slot_of (lines_of second) ≡ slots ++ read_while slot_of (lines_of third) → length slots ≤ 256
-    → (read_first slot_of (lines_of third) ≡ None) ⊎ (length slots ≡ 256) → lines_of third ≡ drop (length slots) (lines_of second)
+    → read_while saving_in_line (lines_of first) ≡ savings → lines_of second ≡ drop (length savings) (lines_of first)
+    → read_while slot_in_line (lines_of second) ≡ slots ++ read_while slot_in_line (lines_of third) → length slots ≤ 256
+    → (read_first slot_in_line (lines_of third) ≡ None) ⊎ (length slots ≡ 256) → lines_of third ≡ drop (length slots) (lines_of second)
     → m ≡ length savings → n ≡ length slots
     → certificate_of lines ≡ certified savings slots (last_in (2 + m + n) (lines_of third))
 lines_read lines x first second third savings slots m n titled at_first are_savings at_second so_far few last at_third long long' =
@@ -118,14 +118,14 @@ reads_err text (Ok x) small err = tt
 reads_err text (Err fault) small (inl memory) = inl memory
 reads_err text (Err fault) small (inr bad) = inr (within_limit text small ∙ bad)
 
-pub reads_fault : {V : Type 0} (text : List ℕ) (r : Result V CertFault) → IfErr r (λ fault. (fault ≡ OutOfMemory) ⊎ (certificate_in text ≡ Err fault)) → IfErr r (IsFault text)
+pub reads_fault : {V : Type 0} (text : List ℕ) (r : Result V CertFault) → IfErr r (λ fault. (fault ≡ OutOfMemory) ⊎ (certificate_in text ≡ Err fault)) → IfErr r (IsCertFault text)
 reads_fault text (Ok x) err = tt
 reads_fault text (Err fault) err = fault_read text fault err
 
-pub reads_spelled : {V : Type 0} (text : List ℕ) (r : Result V CertFault) (f : V → List Saving × Certified) → IfOk r (λ x. certificate_in text ≡ Ok (f x)) → IfOk r (λ x. IsText text (f x).0 (f x).1)
+pub reads_spelled : {V : Type 0} (text : List ℕ) (r : Result V CertFault) (f : V → List Saving × Certified) → IfOk r (λ x. certificate_in text ≡ Ok (f x)) → IfOk r (λ x. IsCertText text (f x).0 (f x).1)
 reads_spelled text (Ok x) f ok = text_read text (f x).0 (f x).1 ok
 reads_spelled text (Err fault) f ok = tt
 
-pub reads_each : {V : Type 0} (text : List ℕ) (r : Result V CertFault) (f : V → List Saving × Certified) → IfOk r (λ x. certificate_in text ≡ Ok (f x)) → IfErr r (λ fault. (fault ≡ OutOfMemory) ⊎ (certificate_in text ≡ Err fault)) → ReadsEach text (result_map_both f (λ fault. fault) r)
+pub reads_each : {V : Type 0} (text : List ℕ) (r : Result V CertFault) (f : V → List Saving × Certified) → IfOk r (λ x. certificate_in text ≡ Ok (f x)) → IfErr r (λ fault. (fault ≡ OutOfMemory) ⊎ (certificate_in text ≡ Err fault)) → ReadsEachCert text (result_map_both f (λ fault. fault) r)
 reads_each text (Ok x) f ok err savings c is small = inl (ap Ok (same_certificate text (f x) savings c ok is small))
 reads_each text (Err fault) f ok err savings c is small = refused text fault savings c err is small

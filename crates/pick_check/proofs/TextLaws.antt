@@ -13,7 +13,7 @@ use Rattle.pick_check.specs.Certified.{Certified}
 use Rattle.pick_check.specs.declared.fault.CertFault.{CertFault}
 use Rattle.pick_check.specs.declared.fault.CertFault.TheVariants.{BadLine, OutOfMemory, TooLarge}
 use Rattle.pick_check.specs.declared.saving.Saving.{Saving}
-use Rattle.pick_check.specs.Text.{AreWithin, FitsCertified, FitsSaving, FitsSlot, IsText, certificate_in, certificate_lines, certificate_of, certificate_text, certified, end_then, ends_here, last_in, last_lines, net_limits, net_line, net_of, net_then, only, price_limits, price_line, prices_of, read_first, read_then, read_while, saving_line, saving_of, savings_then, slot_line, slot_of, slots_then, text_of}
+use Rattle.pick_check.specs.Text.{AreWithin, FitsCertified, FitsSaving, FitsSlot, IsCertText, certificate_in, certificate_lines, certificate_of, certificate_text, certified, end_then, ends_here, last_in, last_lines, net_limits, net_line, net_in_line, net_then, only, price_limits, price_line, prices_in_line, read_first, read_then, read_while, saving_line, saving_in_line, savings_then, slot_line, slot_in_line, slots_then, text_of}
 use Rattle.pick_check.proofs.LineLaws.{net_back, net_is_line, net_read, only_is, price_is_line, price_no_saving, price_no_slot, prices_back, prices_read, saving_back, saving_is_line, saving_read, slot_back, slot_is_line, slot_no_saving, slot_read}
 use Rattle.pick_check.proofs.PlainLaws.{end_line, title_line}
 use Rattle.pick_check.proofs.WhileLaws.{first_split, step_first, while_all, while_back, while_is}
@@ -76,23 +76,23 @@ last_back number prices net prices_fit net_fits =
     ∙ ap (λ o. read_then (number + 1) o (λ n. end_then (number + 1 + 1) prices n end)) (net_back net net_fits)
 
 -- behind the savings comes no other one, and behind the slots none of them
-no_saving : (slots prices : List ℕ) (others : List (List ℕ)) → All FitsSlot slots → AreWithin price_limits prices → 0 < length others → read_first saving_of (map slot_line slots ++ price_line prices ∷ others) ≡ None
-no_saving [] prices others slots_fit prices_fit some = step_first saving_of (price_line prices) others some ∙ price_no_saving prices prices_fit
+no_saving : (slots prices : List ℕ) (others : List (List ℕ)) → All FitsSlot slots → AreWithin price_limits prices → 0 < length others → read_first saving_in_line (map slot_line slots ++ price_line prices ∷ others) ≡ None
+no_saving [] prices others slots_fit prices_fit some = step_first saving_in_line (price_line prices) others some ∙ price_no_saving prices prices_fit
 no_saving (slot ∷ slots) prices others slots_fit prices_fit some =
     let size = length-append (map slot_line slots) (price_line prices ∷ others) in
-    step_first saving_of (slot_line slot) (map slot_line slots ++ price_line prices ∷ others) (omega (arith, size)) ∙ slot_no_saving slot (All-head FitsSlot slot slots slots_fit)
+    step_first saving_in_line (slot_line slot) (map slot_line slots ++ price_line prices ∷ others) (omega (arith, size)) ∙ slot_no_saving slot (All-head FitsSlot slot slots slots_fit)
 
-slots_back : (savings : List Saving) (slots : List ℕ) (lines : List (List ℕ)) → All FitsSlot slots → length slots ≤ 256 → 0 < length lines → read_first slot_of lines ≡ None → slots_then savings (map slot_line slots ++ lines) ≡ certified savings slots (last_in (length savings + length slots + 2) lines)
+slots_back : (savings : List Saving) (slots : List ℕ) (lines : List (List ℕ)) → All FitsSlot slots → length slots ≤ 256 → 0 < length lines → read_first slot_in_line lines ≡ None → slots_then savings (map slot_line slots ++ lines) ≡ certified savings slots (last_in (length savings + length slots + 2) lines)
 slots_back savings slots lines fits few some none =
     let all = map slot_line slots ++ lines in
-    let read = while_back slot_of slot_line slots lines (All-weaker FitsSlot (λ slot. slot_of (slot_line slot) ≡ Some slot) slot_back slots fits) some none in
+    let read = while_back slot_in_line slot_line slots lines (All-weaker FitsSlot (λ slot. slot_in_line (slot_line slot) ≡ Some slot) slot_back slots fits) some none in
     ap (λ xs. certified savings xs (last_in (length savings + length xs + 2) (drop (length xs) all))) (ap (take 256) read ∙ take_all 256 slots few)
     ∙ ap (λ ls. certified savings slots (last_in (length savings + length slots + 2) ls)) (drop_at (map slot_line slots) lines (length slots) (length-map slots slot_line))
 
-savings_back : (savings : List Saving) (lines : List (List ℕ)) → All FitsSaving savings → 0 < length lines → read_first saving_of lines ≡ None → savings_then (map saving_line savings ++ lines) ≡ slots_then savings lines
+savings_back : (savings : List Saving) (lines : List (List ℕ)) → All FitsSaving savings → 0 < length lines → read_first saving_in_line lines ≡ None → savings_then (map saving_line savings ++ lines) ≡ slots_then savings lines
 savings_back savings lines fits some none =
     let all = map saving_line savings ++ lines in
-    let read = while_back saving_of saving_line savings lines (All-weaker FitsSaving (λ s. saving_of (saving_line s) ≡ Some s) saving_back savings fits) some none in
+    let read = while_back saving_in_line saving_line savings lines (All-weaker FitsSaving (λ s. saving_in_line (saving_line s) ≡ Some s) saving_back savings fits) some none in
     ap (λ xs. slots_then xs (drop (length xs) all)) read
     ∙ ap (slots_then savings) (drop_at (map saving_line savings) lines (length savings) (length-map savings saving_line))
 
@@ -134,8 +134,8 @@ end_read number prices net lines last is =
 
 net_then_read : (number : ℕ) (prices : List ℕ) (lines : List (List ℕ)) (last : List ℕ × ℕ) → net_then number prices lines ≡ Ok last → (lines ≡ net_line last.1 ∷ codes "end" ∷ [] ∷ []) × (prices ≡ last.0) × AreWithin net_limits (last.1 ∷ [])
 net_then_read number prices lines last is =
-    let first = then_ok number (read_first net_of lines) (λ net. end_then (number + 1) prices net (drop 1 lines)) last is in
-    let line = first_is net_of lines first.0 first.1 in
+    let first = then_ok number (read_first net_in_line lines) (λ net. end_then (number + 1) prices net (drop 1 lines)) last is in
+    let line = first_is net_in_line lines first.0 first.1 in
     let net = net_read line.0 first.0 line.2 in
     let end = end_read (number + 1) prices first.0 (drop 1 lines) last first.2 in
     let same = ap (λ p. p.1) end.1 in
@@ -144,8 +144,8 @@ net_then_read number prices lines last is =
 last_read : (number : ℕ) (lines : List (List ℕ)) (last : List ℕ × ℕ) → last_in number lines ≡ Ok last → (lines ≡ last_lines last.0 last.1 ++ [] ∷ []) × AreWithin price_limits last.0 × AreWithin net_limits (last.1 ∷ [])
 unfolding last_in
 last_read number lines last is =
-    let first = then_ok number (read_first prices_of lines) (λ prices. net_then (number + 1) prices (drop 1 lines)) last is in
-    let line = first_is prices_of lines first.0 first.1 in
+    let first = then_ok number (read_first prices_in_line lines) (λ prices. net_then (number + 1) prices (drop 1 lines)) last is in
+    let line = first_is prices_in_line lines first.0 first.1 in
     let prices = prices_read line.0 first.0 line.2 in
     let net = net_then_read (number + 1) first.0 (drop 1 lines) last first.2 in
     (line.1 ∙ ap₂ (λ l ls. l ∷ ls) (prices.0 ∙ ap price_line net.1) net.0, subst (AreWithin price_limits) net.1 prices.1, net.2)
@@ -167,12 +167,12 @@ lines_read lines y is =
     let first = then_ok 1 (read_first (only (codes "zcld certificate 1")) lines) (λ title. savings_then (drop 1 lines)) y is in
     let title = first_is (only (codes "zcld certificate 1")) lines first.0 first.1 in
     let rest = drop 1 lines in
-    let savings = while_all saving_of saving_line FitsSaving saving_read rest in
-    let found = read_while saving_of rest in
+    let savings = while_all saving_in_line saving_line FitsSaving saving_read rest in
+    let found = read_while saving_in_line rest in
     let others = drop (length found) rest in
-    let slots = while_is slot_of slot_line FitsSlot slot_read 256 others in
-    let chosen = take 256 (read_while slot_of others) in
-    let few : length chosen ≤ 256 = length_chosen 256 (read_while slot_of others) in
+    let slots = while_is slot_in_line slot_line FitsSlot slot_read 256 others in
+    let chosen = take 256 (read_while slot_in_line others) in
+    let few : length chosen ≤ 256 = length_chosen 256 (read_while slot_in_line others) in
     let end = certified_ok found chosen (last_in (length found + length chosen + 2) (drop (length chosen) others)) y first.2 in
     let last = last_read (length found + length chosen + 2) (drop (length chosen) others) end.0 end.1 in
     let spelled = title.1
@@ -205,7 +205,7 @@ pub within_limit : (text : List ℕ) → length text ≤ 8388608 → certificate
 unfolding certificate_in
 within_limit text small = cond-false (ltb 8388608 (length text)) (Err TooLarge) (certificate_of (lines_of text)) (le-ltb 8388608 (length text) small)
 
-pub certificate_read : (text : List ℕ) (savings : List Saving) (c : Certified) → IsText text savings c → length text ≤ 8388608 → certificate_in text ≡ Ok (savings, c)
+pub certificate_read : (text : List ℕ) (savings : List Saving) (c : Certified) → IsCertText text savings c → length text ≤ 8388608 → certificate_in text ≡ Ok (savings, c)
 unfolding certificate_text
 certificate_read text savings c is small =
     within_limit text small
@@ -216,7 +216,7 @@ not_large : (text : List ℕ) (y : List Saving × Certified) (b : Bool) → cond
 not_large text y true ok = no_ok TooLarge y ok
 not_large text y false ok = ok
 
-pub text_read : (text : List ℕ) (savings : List Saving) (c : Certified) → certificate_in text ≡ Ok (savings, c) → IsText text savings c
+pub text_read : (text : List ℕ) (savings : List Saving) (c : Certified) → certificate_in text ≡ Ok (savings, c) → IsCertText text savings c
 unfolding certificate_in certificate_text
 text_read text savings c ok =
     let read = lines_read (lines_of text) (savings, c) (not_large text (savings, c) (ltb 8388608 (length text)) ok) in
@@ -227,10 +227,10 @@ text_read text savings c ok =
     }
 
 -- so a text that spells a certificate isn't refused for what stands in it
-pub refused : (text : List ℕ) (fault : CertFault) (savings : List Saving) (c : Certified) → (fault ≡ OutOfMemory) ⊎ (certificate_in text ≡ Err fault) → IsText text savings c → length text ≤ 8388608 → (◌≡◌ {A = Result (List Saving × Certified) CertFault} (Err fault) (Ok (savings, c))) ⊎ (◌≡◌ {A = Result (List Saving × Certified) CertFault} (Err fault) (Err OutOfMemory))
+pub refused : (text : List ℕ) (fault : CertFault) (savings : List Saving) (c : Certified) → (fault ≡ OutOfMemory) ⊎ (certificate_in text ≡ Err fault) → IsCertText text savings c → length text ≤ 8388608 → (◌≡◌ {A = Result (List Saving × Certified) CertFault} (Err fault) (Ok (savings, c))) ⊎ (◌≡◌ {A = Result (List Saving × Certified) CertFault} (Err fault) (Err OutOfMemory))
 refused text fault savings c (inl memory) is small = inr (ap Err memory)
 refused text fault savings c (inr bad) is small = let good = certificate_read text savings c is small in absurd cc
 
 -- nor read as another certificate
-pub same_certificate : (text : List ℕ) (y : List Saving × Certified) (savings : List Saving) (c : Certified) → certificate_in text ≡ Ok y → IsText text savings c → length text ≤ 8388608 → y ≡ (savings, c)
+pub same_certificate : (text : List ℕ) (y : List Saving × Certified) (savings : List Saving) (c : Certified) → certificate_in text ≡ Ok y → IsCertText text savings c → length text ≤ 8388608 → y ≡ (savings, c)
 same_certificate text y savings c ok is small = let good = certificate_read text savings c is small in cc

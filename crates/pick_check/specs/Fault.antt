@@ -1,7 +1,7 @@
 -- What the fault of a text says of it.
 use Rattle.std.specs.Prelude.{◌≡◌, ℕ, ◌+◌, ◌<◌, List, [], ◌∷◌, ◌++◌, length, All}
 use Rattle.pick_check.specs.Certified.{Certified}
-use Rattle.pick_check.specs.Text.{FitsCertified, FitsSaving, IsText, certificate_lines, text_of}
+use Rattle.pick_check.specs.Text.{FitsCertified, FitsSaving, IsCertText, certificate_lines, text_of}
 use Rattle.pick_check.specs.declared.fault.CertFault.{CertFault}
 use Rattle.pick_check.specs.declared.fault.CertFault.TheVariants.{BadLine, OutOfMemory, TooLarge}
 use Rattle.pick_check.specs.declared.saving.Saving.{Saving}
@@ -21,11 +21,11 @@ NoneGoesOn before rest = (line more : List ℕ) → rest ≡ line ++ 10 ∷ more
 
 -- it isn't the text of a certificate
 abbrev pub SpellsNone : List ℕ → Type 0
-SpellsNone text = (savings : List Saving) (c : Certified) → IsText text savings c → ⊥
+SpellsNone text = (savings : List Saving) (c : Certified) → IsCertText text savings c → ⊥
 
 -- the lines before a bad line begin some certificate's text; with it they don't, or it is missing, or there is one line too
 -- many; want of memory may come at any text
-pub data IsFault (text : List ℕ) : CertFault → Type 0 where
-  bad_line : (before : List (List ℕ)) (rest : List ℕ) → text ≡ text_of before ++ rest → IsBeginning before → NoneGoesOn before rest → SpellsNone text → IsFault text (BadLine (length before + 1))
-  large : 8388608 < length text → IsFault text TooLarge
-  memory : IsFault text OutOfMemory
+pub data IsCertFault (text : List ℕ) : CertFault → Type 0 where
+  bad_line : (before : List (List ℕ)) (rest : List ℕ) → text ≡ text_of before ++ rest → IsBeginning before → NoneGoesOn before rest → SpellsNone text → IsCertFault text (BadLine (length before + 1))
+  large : 8388608 < length text → IsCertFault text TooLarge
+  memory : IsCertFault text OutOfMemory

@@ -80,7 +80,7 @@ pub record FitsCertified (c : Certified) : Type 0 where
   pub net_fits : AreWithin net_limits (c.net ∷ [])
 
 -- the text is that of savings and a certificate whose numbers fit their types
-pub record IsText (text : List ℕ) (savings : List Saving) (c : Certified) : Type 0 where
+pub record IsCertText (text : List ℕ) (savings : List Saving) (c : Certified) : Type 0 where
   pub spells : text ≡ certificate_text savings c
   pub savings_fit : All FitsSaving savings
   pub certificate_fits : FitsCertified c
@@ -113,17 +113,17 @@ saving_with ns = record {
 }
 
 -- the saving, the slot, the prices, or the net of a line
-abbrev pub saving_of : List ℕ → Option Saving
-saving_of line = option_map saving_with (numbers_in (codes "saving") saving_limits line)
+abbrev pub saving_in_line : List ℕ → Option Saving
+saving_in_line line = option_map saving_with (numbers_in (codes "saving") saving_limits line)
 
-abbrev pub slot_of : List ℕ → Option ℕ
-slot_of line = option_map (λ ns. slice_index ns 0) (numbers_in (codes "slot") slot_limits line)
+abbrev pub slot_in_line : List ℕ → Option ℕ
+slot_in_line line = option_map (λ ns. slice_index ns 0) (numbers_in (codes "slot") slot_limits line)
 
-abbrev pub prices_of : List ℕ → Option (List ℕ)
-prices_of line = numbers_in (codes "price") price_limits line
+abbrev pub prices_in_line : List ℕ → Option (List ℕ)
+prices_in_line line = numbers_in (codes "price") price_limits line
 
-abbrev pub net_of : List ℕ → Option ℕ
-net_of line = option_map (λ ns. slice_index ns 0) (numbers_in (codes "net") net_limits line)
+abbrev pub net_in_line : List ℕ → Option ℕ
+net_in_line line = option_map (λ ns. slice_index ns 0) (numbers_in (codes "net") net_limits line)
 
 -- a line, if it is this one
 abbrev pub only : List ℕ → List ℕ → Option (List ℕ)
@@ -166,12 +166,12 @@ end_then number prices net lines =
 -- behind the prices comes the net
 abbrev pub net_then : ℕ → List ℕ → List (List ℕ) → Result (List ℕ × ℕ) CertFault
 net_then number prices lines =
-    read_then number (read_first net_of lines) (λ net. end_then (number + 1) prices net (drop 1 lines))
+    read_then number (read_first net_in_line lines) (λ net. end_then (number + 1) prices net (drop 1 lines))
 
 -- the prices and the net, which the last lines spell; the first of these has this number
 unfoldable pub last_in : ℕ → List (List ℕ) → Result (List ℕ × ℕ) CertFault
 last_in number lines =
-    read_then number (read_first prices_of lines) (λ prices. net_then (number + 1) prices (drop 1 lines))
+    read_then number (read_first prices_in_line lines) (λ prices. net_then (number + 1) prices (drop 1 lines))
 
 -- the certificate of these slots, and of prices and a net
 abbrev pub certified : List Saving → List ℕ → Result (List ℕ × ℕ) CertFault → Result (List Saving × Certified) CertFault
@@ -181,12 +181,12 @@ certified savings slots (Err fault) = Err fault
 -- behind the savings come at most 256 slots, and behind these the last lines
 abbrev pub slots_then : List Saving → List (List ℕ) → Result (List Saving × Certified) CertFault
 slots_then savings lines =
-    let slots = take 256 (read_while slot_of lines) in
+    let slots = take 256 (read_while slot_in_line lines) in
     certified savings slots (last_in (length savings + length slots + 2) (drop (length slots) lines))
 
 -- behind the first line come the savings
 abbrev pub savings_then : List (List ℕ) → Result (List Saving × Certified) CertFault
-savings_then lines = let savings = read_while saving_of lines in slots_then savings (drop (length savings) lines)
+savings_then lines = let savings = read_while saving_in_line lines in slots_then savings (drop (length savings) lines)
 
 unfoldable pub certificate_of : List (List ℕ) → Result (List Saving × Certified) CertFault
 certificate_of lines = read_then 1 (read_first (only (codes "zcld certificate 1")) lines) (λ title. savings_then (drop 1 lines))
@@ -196,7 +196,7 @@ unfoldable pub certificate_in : List ℕ → Result (List Saving × Certified) C
 certificate_in text = if nat_lt 8388608 (length text) then Err TooLarge else certificate_of (lines_of text)
 
 -- a text within the limit that spells a certificate is read as that certificate, unless memory is wanting
-abbrev pub ReadsEach : List ℕ → Result (List Saving × Certified) CertFault → Type 0
-ReadsEach text result =
-    (savings : List Saving) (c : Certified) → IsText text savings c → length text ≤ 8388608
+abbrev pub ReadsEachCert : List ℕ → Result (List Saving × Certified) CertFault → Type 0
+ReadsEachCert text result =
+    (savings : List Saving) (c : Certified) → IsCertText text savings c → length text ≤ 8388608
     → (result ≡ Ok (savings, c)) ⊎ (result ≡ Err OutOfMemory)

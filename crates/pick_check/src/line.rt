@@ -1,7 +1,7 @@
 // The lines of a certificate.
 
 ghost use Rattle.std.specs.Prelude.{◌≡◌, IfSome};
-ghost use Rattle.pick_check.specs.Text.{AreWithin, net_of, numbers_in, prices_of, saving_of, slot_of};
+ghost use Rattle.pick_check.specs.Text.{AreWithin, net_in_line, numbers_in, prices_in_line, saving_in_line, slot_in_line};
 
 use crate::saving::Saving;
 use text_lines::number::read_number;
@@ -14,7 +14,7 @@ const WORD: u64 = 0xFFFF_FFFF;
 
 /// The saving that a line spells.
 pub fn read_saving(line: &[u8]) -> Option<Saving>
-    ensures { result ≡ saving_of line.now }
+    ensures { result ≡ saving_in_line line.now }
 {
     let numbers = read_numbers(line, b"saving", [HALF, HALF, WORD, WORD, WORD])?;
     let target = Place {
@@ -31,7 +31,7 @@ pub fn read_saving(line: &[u8]) -> Option<Saving>
 
 /// The slot that a line spells.
 pub fn read_slot(line: &[u8]) -> Option<u32>
-    ensures { result ≡ slot_of line.now }
+    ensures { result ≡ slot_in_line line.now }
 {
     let numbers = read_numbers(line, b"slot", [WORD])?;
     Some(numbers[0] as u32)
@@ -39,7 +39,7 @@ pub fn read_slot(line: &[u8]) -> Option<u32>
 
 /// The prices that a line spells.
 pub fn read_prices(line: &[u8]) -> Option<[u32; 3]>
-    ensures { result ≡ prices_of line.now }
+    ensures { result ≡ prices_in_line line.now }
 {
     let numbers = read_numbers(line, b"price", [WORD, WORD, WORD])?;
     Some([numbers[0] as u32, numbers[1] as u32, numbers[2] as u32])
@@ -47,7 +47,7 @@ pub fn read_prices(line: &[u8]) -> Option<[u32; 3]>
 
 /// The net that a line spells.
 pub fn read_net(line: &[u8]) -> Option<u64>
-    ensures { result ≡ net_of line.now }
+    ensures { result ≡ net_in_line line.now }
 {
     let numbers = read_numbers(line, b"net", [u64::MAX])?;
     Some(numbers[0])

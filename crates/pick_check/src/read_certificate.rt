@@ -2,8 +2,8 @@
 
 ghost use Rattle.std.specs.Prelude.{◌≡◌, ◌⊎◌, ◌+◌, ◌*◌, ◌<◌, ◌≤◌, ◌++◌, IfOk, IfErr, Ok, Err, None, length, drop};
 ghost use Rattle.std.specs.Result.{result_map_both};
-ghost use Rattle.pick_check.specs.Fault.{IsFault};
-ghost use Rattle.pick_check.specs.Text.{IsText, ReadsEach, certificate_in, certificate_of, last_in, read_first, read_while, saving_of, slot_of};
+ghost use Rattle.pick_check.specs.Fault.{IsCertFault};
+ghost use Rattle.pick_check.specs.Text.{IsCertText, ReadsEachCert, certificate_in, certificate_of, last_in, read_first, read_while, saving_in_line, slot_in_line};
 ghost use Rattle.text_lines.specs.Lines.{lines_of};
 
 use crate::certificate::Certificate;
@@ -19,10 +19,10 @@ pub const CERTIFICATE_LIMIT: usize = 8_388_608;
 pub fn read_certificate(alloc: Global, text: &[u8]) -> Result<(Vec<Saving>, Certificate), CertFault>
     ensures ok { IfOk result (λ r. certificate_in text.now ≡ Ok (r.0.items, r.1)) }
     ensures err { IfErr result (λ fault. (fault ≡ CertFault.OutOfMemory) ⊎ (certificate_in text.now ≡ Err fault)) }
-    ensures fault { IfErr result (IsFault text.now) }
-    ensures spells { IfOk result (λ r. IsText text.now r.0.items r.1) }
+    ensures fault { IfErr result (IsCertFault text.now) }
+    ensures spells { IfOk result (λ r. IsCertText text.now r.0.items r.1) }
     ensures few { IfOk result (λ r. length r.0.items ≤ 1048576) }
-    ensures complete { ReadsEach text.now (result_map_both (λ r. (r.0.items, r.1)) (λ fault. fault) result) }
+    ensures complete { ReadsEachCert text.now (result_map_both (λ r. (r.0.items, r.1)) (λ fault. fault) result) }
 {
     if text.len() > CERTIFICATE_LIMIT {
         return Err(CertFault::TooLarge);
@@ -52,7 +52,7 @@ fn read_lines(alloc: Global, text: &[u8]) -> Result<(Vec<Saving>, Certificate), 
 
 // The savings whose lines a text begins with, and what stands behind them.
 fn read_savings(alloc: Global, lines: &[u8]) -> Result<(Vec<Saving>, &[u8]), AllocError>
-    ensures savings { IfOk result (λ r. read_while saving_of (lines_of lines.now) ≡ r.0.items) }
+    ensures savings { IfOk result (λ r. read_while saving_in_line (lines_of lines.now) ≡ r.0.items) }
     ensures rest { IfOk result (λ r. lines_of r.1.now ≡ drop (length r.0.items) (lines_of lines.now)) }
     ensures few { IfOk result (λ r. 8 * length r.0.items ≤ length lines.now) }
 {
@@ -67,11 +67,11 @@ fn read_savings(alloc: Global, lines: &[u8]) -> Result<(Vec<Saving>, &[u8]), All
 
 // The slots, at most 256, whose lines a text begins with, and what stands behind them.
 fn read_slots(alloc: Global, lines: &[u8]) -> Result<(Vec<u32>, &[u8]), AllocError>
-    ensures slots { IfOk result (λ r. read_while slot_of (lines_of lines.now)
-        ≡ r.0.items ++ read_while slot_of (lines_of r.1.now)) }
+    ensures slots { IfOk result (λ r. read_while slot_in_line (lines_of lines.now)
+        ≡ r.0.items ++ read_while slot_in_line (lines_of r.1.now)) }
     ensures rest { IfOk result (λ r. lines_of r.1.now ≡ drop (length r.0.items) (lines_of lines.now)) }
     ensures few { IfOk result (λ r. length r.0.items ≤ 256) }
-    ensures last { IfOk result (λ r. (read_first slot_of (lines_of r.1.now) ≡ None) ⊎ (length r.0.items ≡ 256)) }
+    ensures last { IfOk result (λ r. (read_first slot_in_line (lines_of r.1.now) ≡ None) ⊎ (length r.0.items ≡ 256)) }
 {
     let mut slots = Vec::new(alloc);
     let mut rest = lines;

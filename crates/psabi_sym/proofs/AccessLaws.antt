@@ -27,7 +27,7 @@ use Rattle.psabi_sym.specs.Resolve.{Definition, home_target, name_definition, nu
 use Rattle.psabi_sym.specs.Resolve.Definition.{InObject, AtNumber}
 use Rattle.psabi_sym.specs.declared.target.Target.{Target}
 use Rattle.psabi_sym.specs.declared.target.Target.TheVariants.{Nowhere, Number as TargetNumber}
-use Rattle.psabi_sym.specs.Invariants.Rows.{ArePlaced, name_number, section_row, symbol_number, symbol_row}
+use Rattle.psabi_sym.specs.Invariants.Rows.{AreAddressed, name_number, section_row, symbol_number, symbol_row}
 use Rattle.psabi_sym.proofs.NumberLaws.{symbol_number_is}
 use Rattle.psabi_sym.proofs.FoundLaws.{IsFoundSection, IsFoundSymbol, section_found, section_none, symbol_found, symbol_none}
 use Rattle.psabi_sym.proofs.SectionNumbers.{IsOfFile, of_file}
@@ -79,7 +79,7 @@ module _ {inputs : Inputs} {sections : SectionRows} {symbols : Symbols} {definit
     address_is class role =
         ap (λ n. get_or definitions.addresses.items n 0) found.place
         ∙ address_there (parsed inputs) o i found.object found.section found.at found.is definitions.addresses.items class
-        (subst (λ rows. ArePlaced rows inputs.map.data_low definitions.addresses.items) gathered.indexed.sections_are gathered.defined.placed) role
+        (subst (λ rows. AreAddressed rows inputs.map.data_low definitions.addresses.items) gathered.indexed.sections_are gathered.defined.placed) role
 
     -- the address of a section that has one
     pub data_address_is : (role : SectionRole) → role_of found.section ≡ role → IsSome (role_address (parsed inputs) o i found.section role)

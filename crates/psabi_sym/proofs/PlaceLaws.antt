@@ -18,7 +18,7 @@ use Rattle.psabi_sym.specs.Data.{address_in, blocks_in, class_of, class_start, i
 use Rattle.psabi_sym.specs.Inputs.{ParsedInputs}
 use Rattle.psabi_sym.specs.Indexed.{IndexedSection, IndexedSymbol, all_sections, all_symbols, sections_before, sections_in, symbols_in}
 use Rattle.psabi_sym.specs.Places.{place_in}
-use Rattle.psabi_sym.specs.Invariants.Rows.{ArePlaced, row_blocks, row_start, section_row, section_starts, symbol_starts}
+use Rattle.psabi_sym.specs.Invariants.Rows.{AreAddressed, row_blocks, row_start, section_row, section_starts, symbol_starts}
 use Rattle.psabi_sym.proofs.BridgeLaws.{row_blocks_are}
 use Rattle.psabi_sym.proofs.FlatLaws.{flat_at, flat_before, flat_push}
 use Rattle.psabi_sym.proofs.PartLaws.{length-sections_in, length-symbols_in, section_listed, symbol_listed}
@@ -183,7 +183,7 @@ module _ (inputs : ParsedInputs) where
         ∙ ap section_row (get_or_from_slice_get (all_sections inputs.objects) k e e (listed_there inputs.objects o i object s at is))
 
     -- the address at its place, if it is data
-    pub address_there : (addresses : List ℕ) (class : DataClass) → ArePlaced (map section_row (all_sections inputs.objects)) inputs.map.data_low addresses → role_of s ≡ InClass class
+    pub address_there : (addresses : List ℕ) (class : DataClass) → AreAddressed (map section_row (all_sections inputs.objects)) inputs.map.data_low addresses → role_of s ≡ InClass class
         → get_or addresses (section_starts inputs.objects o + i) 0 ≡ address_in inputs o i s class
     address_there addresses class placed role =
         let rows = map section_row (all_sections inputs.objects) in

@@ -13,7 +13,7 @@ use Rattle.psabi_sym.specs.Classes.{same_class}
 use Rattle.psabi_sym.specs.declared.data_class.DataClass.TheVariants.{ReadOnly, Data, SmallData, SmallZero, Zero, Common}
 use Rattle.psabi_sym.specs.declared.section_row.SectionRole.{SectionRole}
 use Rattle.psabi_sym.specs.declared.section_row.SectionRole.TheVariants.{Code, InClass, Dropped}
-use Rattle.psabi_sym.specs.Invariants.Rows.{ArePlaced, role_room, row_address, row_block, row_blocks, row_data_room, row_end, row_start}
+use Rattle.psabi_sym.specs.Invariants.Rows.{AreAddressed, role_room, row_address, row_block, row_blocks, row_data_room, row_end, row_start}
 use Rattle.psabi_sym.proofs.BlockLaws.{aligned_up-lt, end_from_fits, end_from_push}
 
 -- the room that a row takes in a class
@@ -118,7 +118,7 @@ pub placed_all : (rows : List SectionRow) (low : ℕ) (a0 a1 a2 a3 a4 a5 : List 
     → IsTable rows (row_end rows (row_end rows low ReadOnly) Data) SmallData a2 a3
     → IsTable rows (row_end rows (row_end rows (row_end rows low ReadOnly) Data) SmallData) SmallZero a3 a4
     → IsTable rows (row_end rows (row_end rows (row_end rows (row_end rows low ReadOnly) Data) SmallData) SmallZero) Zero a4 a5
-    → ArePlaced rows low a5
+    → AreAddressed rows low a5
 placed_all rows low a0 a1 a2 a3 a4 a5 h1 h2 h3 h4 h5 k r class at = by class
   where
     by : (class : DataClass) → r.role ≡ InClass class → same_class class Common ≡ false → get_or a5 k 0 ≡ row_address class (row_start rows low class) rows k r

@@ -102,7 +102,7 @@ with_object s file = record {
 }
 
 -- each of them is at most a number
-pub record AreWithin (most : ℕ) (s : Sums) : Type 0 where
+pub record AreAtMost (most : ℕ) (s : Sums) : Type 0 where
   pub file_bytes : s.file_bytes ≤ most
   pub code_room : s.code_room ≤ most
   pub data_room : s.data_room ≤ most

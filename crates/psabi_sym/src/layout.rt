@@ -3,7 +3,7 @@
 ghost use Rattle.std.specs.Prelude.{◌≡◌, IfOk, ◌+◌, ◌^◌, ◌<◌, ◌≤◌, ℕ, Some, length, max, slice_get, slice_index, take, if◌then◌else◌};
 ghost use Rattle.psabi_sym.specs.Blocks.{aligned_up, end_from, room_of_all};
 ghost use Rattle.psabi_sym.specs.Data.{has_class};
-ghost use Rattle.psabi_sym.specs.Invariants.Rows.{row_address, row_blocks, row_data_room, AreClassEnds, ArePlaced};
+ghost use Rattle.psabi_sym.specs.Invariants.Rows.{row_address, row_blocks, row_data_room, AreClassEnds, AreAddressed};
 ghost use Rattle.std.specs.List.{sum_by};
 ghost use Rattle.psabi_sym.specs.declared.section_row.SectionRow.{SectionRow};
 
@@ -67,7 +67,7 @@ pub struct DataLayout {
 pub fn place_classes(rows: &[SectionRow], low: u32, addresses: &mut [u32]) -> ClassEnds
     requires same_length { length addresses.old ≡ length rows.now }
     requires room { low + 96 + sum_by row_data_room rows.now < 2 ^ 32 }
-    ensures addresses { ArePlaced rows.now low addresses.new }
+    ensures addresses { AreAddressed rows.now low addresses.new }
     ensures ends { AreClassEnds rows.now low result }
 {
     let read_only = place_class(rows, DataClass::ReadOnly, low, addresses);
@@ -86,7 +86,7 @@ pub fn place_classes(rows: &[SectionRow], low: u32, addresses: &mut [u32]) -> Cl
 /// The address of each section from an address on, and where classes begin and end.
 pub fn lay_out(alloc: Global, rows: &[SectionRow], low: u32) -> Result<DataLayout, AllocError>
     requires { low + 96 + sum_by row_data_room rows.now < 2 ^ 32 }
-    ensures addresses { IfOk result (λ layout. ArePlaced rows.now low layout.addresses.items) }
+    ensures addresses { IfOk result (λ layout. AreAddressed rows.now low layout.addresses.items) }
     ensures count { IfOk result (λ layout. length layout.addresses.items ≡ length rows.now) }
     ensures ends { IfOk result (λ layout. AreClassEnds rows.now low layout.ends) }
 {

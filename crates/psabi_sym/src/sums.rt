@@ -4,7 +4,7 @@ ghost use Rattle.std.specs.Prelude.{◌≡◌, ◌≤◌, ◌<◌, ◌+◌, ◌*
 ghost use Rattle.std.specs.List.{find, range_with_len, sum_by};
 ghost use Rattle.elf32_read.specs.Header.{header_of, section_count};
 ghost use Rattle.elf32_read.specs.Parts.{object_parts, relocs_held, relocs_of, section_parts, symbol_parts};
-ghost use Rattle.psabi_sym.specs.Faults.{align_room, are_too_large, code_room, common_room, data_room, object_code, reloc_room, sums_of, AreWithin, with_object};
+ghost use Rattle.psabi_sym.specs.Faults.{align_room, are_too_large, code_room, common_room, data_room, object_code, reloc_room, sums_of, AreAtMost, with_object};
 
 use crate::loaded::Loaded;
 use crate::padding::power_above;
@@ -142,9 +142,9 @@ fn commons_room(loaded: &Loaded) -> u64
 impl Sums {
     // The sums with one more object.
     fn with(self, loaded: &Loaded) -> Sums
-        requires { AreWithin (2 ^ 62) self }
+        requires { AreAtMost (2 ^ 62) self }
         ensures value { result ≡ with_object self loaded.now }
-        ensures most { (most : ℕ) → AreWithin most self → AreWithin (most + 2 ^ 54) result }
+        ensures most { (most : ℕ) → AreAtMost most self → AreAtMost (most + 2 ^ 54) result }
     {
         let room = sections_room(loaded);
         Sums {

@@ -26,7 +26,7 @@ use Rattle.rv_decode.proofs.DecodeLaws.{OfBranch, OfCsrrw, OfEbreak, OfEcall, Of
 use Rattle.rv_encode.specs.declared.codes.ImmCode.{ImmCode}
 use Rattle.rv_encode.specs.declared.codes.ImmCode.TheVariants.{Operand, Shift}
 use Rattle.rv_encode.specs.Codes.{branch_funct3, imm_code, load_funct3, reg_funct, store_funct3, upper_opcode}
-use Rattle.rv_encode.specs.Words.{bits_of, branch_five_of, branch_seven_of, branch_word, encoded, fields_word, funct_word, imm_word, jump_twenty_of, store_word, twelve_of, upper_word_of}
+use Rattle.rv_encode.specs.Words.{bits_of, branch_five_of, branch_seven_of, branch_word, encoded, fields_word, funct_word, op_imm_word, jump_twenty_of, store_word, twelve_of, upper_word_of}
 
 -- ---- fields
 
@@ -274,7 +274,7 @@ with_reg_decodes op rd first second result one two =
     format-decoded word (WithReg op rd first second) (OfReg op has.op (ap (row_of reg_ops) has.ten ∙ row.1) (λ i. WithReg op (sym has.rd i) (sym has.first i) (sym has.second i)))
 
 -- an operation with an immediate, by its code
-code_decodes : (op : ImmOp) (code : ImmCode) (rd first : ℕ) (imm : ℤ) → rd < 32 → first < 32 → CodeFits op imm code → decoded (imm_word code rd first imm) ≡ Some (WithImm op rd first imm)
+code_decodes : (op : ImmOp) (code : ImmCode) (rd first : ℕ) (imm : ℤ) → rd < 32 → first < 32 → CodeFits op imm code → decoded (op_imm_word code rd first imm) ≡ Some (WithImm op rd first imm)
 unfolding CodeFits
 code_decodes op (Operand funct3) rd first imm result one row =
     let bits = bits_of 12 imm in

@@ -52,9 +52,9 @@ abbrev pub funct_word : ℕ → ℕ → ℕ → ℕ → ℕ → ℕ
 funct_word funct rs2 rs1 rd opcode = fields_word (twelve_of (field funct 3 7) rs2) rs1 (field funct 0 3) rd opcode
 
 -- an operation with an immediate, by its code
-abbrev pub imm_word : ImmCode → ℕ → ℕ → ℤ → ℕ
-imm_word (Operand funct3) rd rs1 imm = fields_word (bits_of 12 imm) rs1 funct3 rd 0b0010011
-imm_word (Shift funct) rd rs1 imm = funct_word funct (unsigned_abs imm) rs1 rd 0b0010011
+abbrev pub op_imm_word : ImmCode → ℕ → ℕ → ℤ → ℕ
+op_imm_word (Operand funct3) rd rs1 imm = fields_word (bits_of 12 imm) rs1 funct3 rd 0b0010011
+op_imm_word (Shift funct) rd rs1 imm = funct_word funct (unsigned_abs imm) rs1 rd 0b0010011
 
 -- the word of an instruction whose immediate has room in it
 unfoldable pub encoded : Instr → ℕ
@@ -64,7 +64,7 @@ encoded (Jalr rd base imm) = fields_word (bits_of 12 imm) base 0b000 rd 0b110011
 encoded (Branch op first second distance) = branch_word (bits_of 13 distance) second first (branch_funct3 op)
 encoded (Load op rd base imm) = fields_word (bits_of 12 imm) base (load_funct3 op) rd 0b0000011
 encoded (Store op source base imm) = store_word (bits_of 12 imm) source base (store_funct3 op)
-encoded (WithImm op rd first imm) = imm_word (imm_code op) rd first imm
+encoded (WithImm op rd first imm) = op_imm_word (imm_code op) rd first imm
 encoded (WithReg op rd first second) = funct_word (reg_funct op) second first rd 0b0110011
 encoded (Fence rest) = upper_word_of (rest / 2 ^ 5 * 2 ^ 3) (field rest 0 5) 0b0001111
 encoded Ecall = 0x00000073

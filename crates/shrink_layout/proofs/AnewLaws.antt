@@ -8,7 +8,7 @@ use Rattle.shrink_layout.specs.declared.piece.Piece.TheVariants.{Fixed}
 use Rattle.shrink_layout.specs.declared.widths.Widths.{Widths}
 use Rattle.shrink_layout.specs.Forms.{longest, width}
 use Rattle.shrink_layout.specs.Invariants.Blocks.{block_size, nth_piece}
-use Rattle.shrink_layout.specs.Invariants.Widths.{CanBeLaidAnew, IsLaid, IsRise, count_before}
+use Rattle.shrink_layout.specs.Invariants.Widths.{CanBeLaidAnew, IsLaid, IsRise, changed_before}
 use Rattle.shrink_layout.specs.Layout.{addresses_of, widths_of}
 use Rattle.shrink_layout.proofs.AddressLaws.{address_most, length_addresses, next_address}
 use Rattle.shrink_layout.proofs.ChangeLaws.{sum_below}
@@ -163,7 +163,7 @@ module _ (pieces : List Piece) (sizes : List ℕ) (old : Widths) (block : ℕ) (
     count_start k b e le within same =
         ap (λ l. slice_index l k) same ∙ now.within_after k le ∙ ap (slice_index old.within.items) e ∙ can.start b (omega (arith, e, within))
 
-    count_is : (k : ℕ) → first ≤ k → k ≤ end → count_before w' k ≡ slice_index old.changes.items block + slice_index (counts_with w end changed) k
+    count_is : (k : ℕ) → first ≤ k → k ≤ end → changed_before w' k ≡ slice_index old.changes.items block + slice_index (counts_with w end changed) k
     count_is k ge le = elim (cases_lt k end) [
       | inl before ↦
           let at_block : k / block_size ≡ block = omega (arith, first_is, end_is, ge, before) in

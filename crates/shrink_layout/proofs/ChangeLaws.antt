@@ -11,7 +11,7 @@ use Rattle.shrink_layout.specs.declared.widths.Widths.{Widths}
 use Rattle.shrink_layout.specs.Forms.{IsForm, longest, target, width}
 use Rattle.shrink_layout.specs.Invariants.Blocks.{IsStill, block_fits, block_size, nth_piece}
 use Rattle.shrink_layout.specs.Invariants.Rounds.{ArePlaced}
-use Rattle.shrink_layout.specs.Invariants.Widths.{AreCounted, AreStarts, IsUntouched, addresses_by, addresses_in, count_before}
+use Rattle.shrink_layout.specs.Invariants.Widths.{AreCounted, AreStarts, IsUntouched, addresses_by, addresses_in, changed_before}
 use Rattle.shrink_layout.specs.Layout.{addresses_of, holds_at, widths_of}
 use Rattle.shrink_layout.proofs.AddressLaws.{form_at}
 use Rattle.shrink_layout.proofs.BlockLaws.{IsSameStep, still_holds, way_between}
@@ -86,41 +86,41 @@ sum_below (p ∷ pieces) (w ∷ widths) e most =
 
 module _ (w : Widths) (counted : AreCounted w) where
   -- before the first piece there is none
-  pub count_none : count_before w 0 ≡ 0
+  pub count_none : changed_before w 0 ≡ 0
   count_none = omega (arith, counted.none, counted.start 0 (omega arith))
 
   -- counts rise
-  rises : (i d : ℕ) → i + d ≤ length w.sums → count_before w i ≤ count_before w (i + d)
-  rises i zero within = let e : i + 0 ≡ i = omega arith in omega (arith, ap (count_before w) e)
+  rises : (i d : ℕ) → i + d ≤ length w.sums → changed_before w i ≤ changed_before w (i + d)
+  rises i zero within = let e : i + 0 ≡ i = omega arith in omega (arith, ap (changed_before w) e)
   rises i (suc d) within =
       let e : i + suc d ≡ i + d + 1 = omega arith in
-      omega (arith, rises i d (omega arith), ap (count_before w) e, (counted.rise (i + d) (omega arith)).0)
+      omega (arith, rises i d (omega arith), ap (changed_before w) e, (counted.rise (i + d) (omega arith)).0)
 
-  pub rise_between : (i j : ℕ) → i ≤ j → j ≤ length w.sums → count_before w i ≤ count_before w j
+  pub rise_between : (i j : ℕ) → i ≤ j → j ≤ length w.sums → changed_before w i ≤ changed_before w j
   rise_between i j le within =
       let e : i + (j - i) ≡ j = omega arith in
-      omega (arith, rises i (j - i) (omega arith), ap (count_before w) e)
+      omega (arith, rises i (j - i) (omega arith), ap (changed_before w) e)
 
   -- by no more than one a piece
-  pub count_most : (k : ℕ) → k ≤ length w.sums → count_before w k ≤ k
+  pub count_most : (k : ℕ) → k ≤ length w.sums → changed_before w k ≤ k
   count_most zero le = omega (arith, count_none)
   count_most (suc k) le =
       let e : suc k ≡ k + 1 = omega arith in
-      omega (arith, count_most k (omega arith), ap (count_before w) e, (counted.rise k (omega arith)).1)
+      omega (arith, count_most k (omega arith), ap (changed_before w) e, (counted.rise k (omega arith)).1)
 
   -- where two are the same, so are all between
-  pub same_between : (i j k : ℕ) → count_before w i ≡ count_before w j → i ≤ k → k < j → j ≤ length w.sums → count_before w k ≡ count_before w (k + 1)
+  pub same_between : (i j k : ℕ) → changed_before w i ≡ changed_before w j → i ≤ k → k < j → j ≤ length w.sums → changed_before w k ≡ changed_before w (k + 1)
   same_between i j k same ge lt within =
       omega (arith, same, rise_between i k ge (omega arith), (counted.rise k (omega arith)).0, rise_between (k + 1) j (omega arith) within)
 
   -- the count of a block is that of its first piece
-  pub count_block : (b : ℕ) → b * block_size ≤ length w.sums → slice_index w.changes.items b ≡ count_before w (b * block_size)
+  pub count_block : (b : ℕ) → b * block_size ≤ length w.sums → slice_index w.changes.items b ≡ changed_before w (b * block_size)
   count_block b le =
       let e : b * block_size / block_size ≡ b = omega arith in
       omega (arith, ap (slice_index w.changes.items) e, counted.start b le)
 
   -- up to the end of a block no more are counted than before the next one
-  count_until : (b k : ℕ) → b ≤ length w.sums / block_size → k ≤ (b + 1) * block_size → k ≤ length w.sums → count_before w k ≤ slice_index w.changes.items (b + 1)
+  count_until : (b k : ℕ) → b ≤ length w.sums / block_size → k ≤ (b + 1) * block_size → k ≤ length w.sums → changed_before w k ≤ slice_index w.changes.items (b + 1)
   count_until b k in_blocks le within = elim (cases_lt b (length w.sums / block_size)) [
     | inl before ↦ omega (arith, count_block (b + 1) (omega arith), rise_between k ((b + 1) * block_size) le (omega arith))
     | inr last ↦
@@ -134,8 +134,8 @@ module _ (w : Widths) (counted : AreCounted w) where
       → IsStill w.changes.items low high → IsUntouched w p k
   untouched p low high k in_k in_t in_high low_k high_k low_t high_t still =
       let t : ℕ = target p in
-      let from : count_before w (low * block_size) ≤ count_before w (min t k) = rise_between (low * block_size) (min t k) (omega arith) (omega arith) in
-      let on : count_before w (min t k) ≤ count_before w (max t (k + 1)) = rise_between (min t k) (max t (k + 1)) (omega arith) (omega arith) in
+      let from : changed_before w (low * block_size) ≤ changed_before w (min t k) = rise_between (low * block_size) (min t k) (omega arith) (omega arith) in
+      let on : changed_before w (min t k) ≤ changed_before w (max t (k + 1)) = rise_between (min t k) (max t (k + 1)) (omega arith) (omega arith) in
       let until = count_until high (max t (k + 1)) in_high (omega arith) (omega arith) in
       omega (arith, still, count_block low (omega arith), from, on, until)
 
@@ -167,9 +167,9 @@ placed_width pieces sizes w k placed lt =
 
 module _ (pieces : List Piece) (old sizes : List ℕ) (w w' : Widths) (targets : All (λ p. target p ≤ length pieces) pieces) (before : ArePlaced pieces old w) (after : ArePlaced pieces sizes w')
     (fit : (k : ℕ) → k < length pieces → slice_index sizes k ≡ slice_index old k → block_fits (addresses_in w) pieces old k ≡ true)
-    (same : (k : ℕ) → k < length pieces → count_before w' k ≡ count_before w' (k + 1) → slice_index w'.sums k ≡ slice_index w.sums k) where
+    (same : (k : ℕ) → k < length pieces → changed_before w' k ≡ changed_before w' (k + 1) → slice_index w'.sums k ≡ slice_index w.sums k) where
   -- pieces that take as many bytes leave the next address as far
-  same_step : (m : ℕ) → m < length pieces → count_before w' m ≡ count_before w' (m + 1) → IsSameStep (addresses_in w) (addresses_in w') m
+  same_step : (m : ℕ) → m < length pieces → changed_before w' m ≡ changed_before w' (m + 1) → IsSameStep (addresses_in w) (addresses_in w') m
   same_step m lt e =
       omega (
         arith,

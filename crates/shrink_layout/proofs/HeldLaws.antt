@@ -17,7 +17,7 @@ use Rattle.block_cut.specs.declared.code_place.CodePlace.{CodePlace}
 use Rattle.block_cut.proofs.StartLaws.{along}
 use Rattle.block_cut.proofs.TextLaws.{place_number}
 use Rattle.block_cut.proofs.WordLaws.{code_here}
-use Rattle.shrink_layout.specs.Invariants.Made.{AreHeld, IsItemPlace}
+use Rattle.shrink_layout.specs.Invariants.Made.{AreItemPlaces, IsItemPlace}
 use Rattle.shrink_layout.proofs.SectionLaws.{but_last}
 
 -- ---- numbers in order
@@ -74,7 +74,7 @@ got_of f (x ∷ xs) (suc i) y got = got_of f xs i y got
 
 pub starts_held : (inputs : Inputs) → gather_fault inputs ≡ None → (k : ℕ) (l : IndexedSection) → slice_get (all_sections (parsed inputs).objects) k ≡ Some l
     → is_code_section l.section ≡ true
-    → AreHeld (parsed inputs) k l (take (length (code_places (parsed inputs) l) - 1) (code_places (parsed inputs) l))
+    → AreItemPlaces (parsed inputs) k l (take (length (code_places (parsed inputs) l) - 1) (code_places (parsed inputs) l))
 starts_held inputs none k l at code i p got = subst (IsItemPlace' i) found.2 here
   where
     given : ParsedInputs

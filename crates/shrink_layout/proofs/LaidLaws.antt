@@ -14,7 +14,7 @@ use Rattle.shrink_layout.specs.Forms.{IsForm, holds, longer, longest, shortest, 
 use Rattle.shrink_layout.specs.Layout.{addresses_of, all_fit, fit_from, grown_from, holds_at, next_sizes, widths_of}
 use Rattle.shrink_layout.specs.Least.{AreForms}
 use Rattle.shrink_layout.specs.Invariants.Rounds.{AreBlocks, AreLaid, ArePlaced, CanBeLaid, HaveGrown}
-use Rattle.shrink_layout.specs.Invariants.Widths.{AreCounted, AreStarts, CanBeTested, addresses_in, count_before}
+use Rattle.shrink_layout.specs.Invariants.Widths.{AreCounted, AreStarts, CanBeTested, addresses_in, changed_before}
 use Rattle.shrink_layout.proofs.AddressLaws.{first_address, fit_at, form_at, near_addresses}
 use Rattle.shrink_layout.proofs.ChangeLaws.{count_block, placed_addresses, placed_long, still_fits, untouched}
 use Rattle.shrink_layout.proofs.FormLaws.{slack, slack_falls}
@@ -38,7 +38,7 @@ starts_text text pieces sizes w starts =
 
 module _ (text : ℕ) (pieces : List Piece) (sizes : List ℕ) (w : Widths) (blocks : Blocks) (can : CanBeLaid text pieces) (is : sizes ≡ map shortest pieces)
     (sums : w.sums ≡ widths_of text pieces sizes) (starts : AreStarts (addresses_of text pieces sizes) (length pieces) w.starts.items)
-    (counted : AreCounted w) (changed : (k : ℕ) → k ≤ length w.sums → count_before w k ≡ k) (blocks_are : AreBlocks pieces blocks)
+    (counted : AreCounted w) (changed : (k : ℕ) → k ≤ length w.sums → changed_before w k ≡ k) (blocks_are : AreBlocks pieces blocks)
     (lows : (k : ℕ) → slice_index blocks.lows.items k ≡ 0) (highs : (k : ℕ) → slice_index blocks.highs.items k ≡ 0) where
   shortest_text : slice_index w.starts.items 0 ≡ text
   shortest_text = starts_text text pieces sizes w starts
@@ -218,7 +218,7 @@ module _ (pieces : List Piece) (sizes : List ℕ) (old w : Widths) (blocks : Blo
           total =
               let e : length w.sums ≡ n = omega (arith, long, all) in
               let e' : block ≡ length w.sums / block_size + 1 = omega (arith, long, all_blocks) in
-              omega (arith, ap (count_before w) e ∙ moved.total ∙ ap (slice_index w.changes.items) e');
+              omega (arith, ap (changed_before w) e ∙ moved.total ∙ ap (slice_index w.changes.items) e');
         };
       }
 

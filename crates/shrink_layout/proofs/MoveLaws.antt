@@ -8,7 +8,7 @@ use Rattle.shrink_layout.specs.declared.widths.Widths.{Widths}
 use Rattle.shrink_layout.specs.Forms.{HasAlignment, longest, width}
 use Rattle.shrink_layout.specs.Invariants.Blocks.{IsMovedBy, block_size, nth_piece}
 use Rattle.shrink_layout.specs.Invariants.Rounds.{ArePlaced}
-use Rattle.shrink_layout.specs.Invariants.Widths.{CanBeLaidAnew, IsAscending, IsLaid, IsMoved, IsRise, count_before}
+use Rattle.shrink_layout.specs.Invariants.Widths.{CanBeLaidAnew, IsAscending, IsLaid, IsBlockMoved, IsRise, changed_before}
 use Rattle.shrink_layout.specs.Layout.{addresses_of, widths_of}
 use Rattle.shrink_layout.specs.Least.{AreForms}
 use Rattle.shrink_layout.proofs.AddressLaws.{ascending, form_at, next_address}
@@ -34,9 +34,9 @@ pub record IsMovedOn (pieces : List Piece) (sizes : List ℕ) (old w : Widths) (
   pub few : slice_index w.changes.items block ≤ block * block_size
   pub start : (b : ℕ) → b * block_size ≤ length pieces → slice_index w.within.items (b * block_size) ≡ 0
   pub within_rest : (k : ℕ) → block * block_size ≤ k → slice_index w.within.items k ≡ slice_index old.within.items k
-  pub rise : (k : ℕ) → k < n → IsRise (count_before w k) (count_before w (k + 1))
-      × (count_before w k ≡ count_before w (k + 1) → slice_index w.sums k ≡ slice_index old.sums k)
-  pub total : count_before w n ≡ slice_index w.changes.items block
+  pub rise : (k : ℕ) → k < n → IsRise (changed_before w k) (changed_before w (k + 1))
+      × (changed_before w k ≡ changed_before w (k + 1) → slice_index w.sums k ≡ slice_index old.sums k)
+  pub total : changed_before w n ≡ slice_index w.changes.items block
 
 -- ---- before the first block
 
@@ -63,7 +63,7 @@ none_moved pieces sizes old_sizes w n placed long e first =
       start = λ b le. counted.start b (omega (arith, le, long));
       within_rest = λ k ge. refl;
       rise = λ k lt. absurd (omega (arith, e, lt));
-      total = ap (count_before w) e ∙ omega (arith, counted.start 0 (omega arith));
+      total = ap (changed_before w) e ∙ omega (arith, counted.start 0 (omega arith));
     }
 
 -- ---- one block more
@@ -72,7 +72,7 @@ module _ (pieces : List Piece) (sizes : List ℕ) (old w w' : Widths) (block n e
     (n_is : n ≡ block * block_size) (end_is : end ≡ min (length pieces) (block * block_size + block_size))
     (now : IsMovedOn pieces sizes old w block n here) (laid : IsLaid (slice_index old.starts.items 0) pieces sizes w w' block n end) (next_is : next ≡ slice_index w.starts.items (block + 1)) where
   -- the blocks before it count as many
-  count_kept : (k : ℕ) → k ≤ n → count_before w' k ≡ count_before w k
+  count_kept : (k : ℕ) → k ≤ n → changed_before w' k ≡ changed_before w k
   count_kept k le =
       let before = laid.changes (k / block_size) (omega (arith, n_is, le)) in
       elim (cases_lt k n) [
@@ -199,7 +199,7 @@ module _ (pieces : List Piece) (old_sizes sizes : List ℕ) (old : Widths) (bloc
       let up = ascending (slice_index old.starts.items 0) pieces old_sizes before.forms n end (omega (arith, n_is, end_is, in_blocks)) (omega (arith, end_is)) in
       omega (arith, at_is, here_is, next_is, up, moved_at end (omega (arith, n_is, end_is, in_blocks)) (omega arith))
 
-  module _ (w w' : Widths) (here taken : ℕ) (now : IsMovedOn pieces sizes old w block n here) (moved : IsMoved w w' block taken)
+  module _ (w w' : Widths) (here taken : ℕ) (now : IsMovedOn pieces sizes old w block n here) (moved : IsBlockMoved w w' block taken)
       (ends : slice_index w.starts.items block + taken ≡ slice_index a' end) where
     changes_before : (b : ℕ) → b ≤ block → slice_index w'.changes.items b ≡ slice_index w.changes.items b
     changes_before b le =
@@ -211,7 +211,7 @@ module _ (pieces : List Piece) (old_sizes sizes : List ℕ) (old : Widths) (bloc
         ∙ get_or-set_same w.changes.items (block + 1) (slice_index w.changes.items block) 0 (omega (arith, now.changes_count, in_blocks))
 
     -- none of its pieces counts
-    count_still : (k : ℕ) → n ≤ k → k ≤ end → count_before w' k ≡ slice_index w.changes.items block
+    count_still : (k : ℕ) → n ≤ k → k ≤ end → changed_before w' k ≡ slice_index w.changes.items block
     count_still k ge le = elim (cases_lt k (n + block_size)) [
       | inl inside ↦
           let at : k / block_size ≡ block = omega (arith, n_is, ge, inside) in

@@ -4,7 +4,7 @@ use Rattle.std.proofs.Common.{◌≡◌, ◌∙◌, ℕ, zero, suc, ◌+◌, ◌
 use Rattle.std.specs.Prelude.{slice_get}
 use Rattle.std.proofs.lemmas.Option.{none-some, same_Some}
 use Rattle.rv_decode.specs.declared.instr.Instr.{Instr}
-use Rattle.frame_match.specs.Groups.{Spot, items_behind, op_then, ops_behind, ops_from, role_of, roles_from}
+use Rattle.frame_match.specs.Groups.{Spot, items_behind, op_then, ops_behind, ops_from, group_role, roles_from}
 use Rattle.frame_match.specs.Matches.{longest_of}
 use Rattle.frame_match.specs.declared.found.Found.{Found}
 use Rattle.frame_match.specs.declared.role.Role.{Role}
@@ -28,20 +28,20 @@ behind_few (s ∷ ss) = by s.leader (behind_few ss)
     by false few = omega (arith, few, then_few s.op (ops_behind ss))
 
 -- a group has no more further items than instructions stand behind its first
-group_few : (s : Spot) (ss : List Spot) → items_behind (role_of s.place (longest_of (ops_from s ss))) ≤ length (ops_behind ss)
+group_few : (s : Spot) (ss : List Spot) → items_behind (group_role s.place (longest_of (ops_from s ss))) ≤ length (ops_behind ss)
 group_few s ss = by (longest_of (ops_from s ss)) refl
   where
-    by : (o : Option Found) → longest_of (ops_from s ss) ≡ o → items_behind (role_of s.place o) ≤ length (ops_behind ss)
+    by : (o : Option Found) → longest_of (ops_from s ss) ≡ o → items_behind (group_role s.place o) ≤ length (ops_behind ss)
     by None at = omega arith
     by (Some f) at =
         let sized = longest_sized (ops_from s ss) f at in
         omega (arith, sized.least, sized.within, then_few s.op (ops_behind ss))
 
 -- what is found at an item isn't inside
-role_outside : (s : Spot) (ss : List Spot) → is_within (Some (role_of s.place (longest_of (ops_from s ss)))) ≡ false
+role_outside : (s : Spot) (ss : List Spot) → is_within (Some (group_role s.place (longest_of (ops_from s ss)))) ≡ false
 role_outside s ss = by (longest_of (ops_from s ss))
   where
-    by : (o : Option Found) → is_within (Some (role_of s.place o)) ≡ false
+    by : (o : Option Found) → is_within (Some (group_role s.place o)) ≡ false
     by None = refl
     by (Some f) = refl
 
@@ -51,7 +51,7 @@ role_outside s ss = by (longest_of (ops_from s ss))
 pub roles_count : (left : ℕ) (ss : List Spot) → length (roles_from left ss) ≡ length ss
 roles_count zero [] = refl
 roles_count (suc left) [] = refl
-roles_count zero (s ∷ ss) = ap suc (roles_count (items_behind (role_of s.place (longest_of (ops_from s ss)))) ss)
+roles_count zero (s ∷ ss) = ap suc (roles_count (items_behind (group_role s.place (longest_of (ops_from s ss)))) ss)
 roles_count (suc left) (s ∷ ss) = ap suc (roles_count left ss)
 
 -- so many items are inside a group, and the next one isn't
@@ -88,12 +88,12 @@ pub role_next : (left : ℕ) (ss : List Spot) (k : ℕ) (r : Role) → slice_get
 role_next zero [] k r at outside = absurd (none-some r at)
 role_next (suc left) [] k r at outside = absurd (none-some r at)
 role_next zero (s ∷ ss) zero r at outside =
-    let own = role_of s.place (longest_of (ops_from s ss)) in
+    let own = group_role s.place (longest_of (ops_from s ss)) in
     let rest = inside_first (items_behind own) ss (omega (arith, group_few s ss, behind_few ss)) in
     let more = inside_more own (roles_from (items_behind own) ss) 0 (items_behind own) rest in
     subst (λ (x : Role). AreInside (roles_from zero (s ∷ ss)) 1 (items_behind x)) (same_Some own r at) more
 role_next zero (s ∷ ss) (suc k) r at outside =
-    let own = role_of s.place (longest_of (ops_from s ss)) in
+    let own = group_role s.place (longest_of (ops_from s ss)) in
     inside_more own (roles_from (items_behind own) ss) (suc k) (items_behind r) (role_next (items_behind own) ss k r at outside)
 role_next (suc left) (s ∷ ss) zero r at outside = absurd (cc (outside, ap (λ (x : Role). is_within (Some x)) (same_Some Inside r at)))
 role_next (suc left) (s ∷ ss) (suc k) r at outside =
@@ -108,11 +108,11 @@ IsCounted Inside = Unit {0}
 pub first_some : (left : ℕ) (ss : List Spot) (k : ℕ) (r : Role) → slice_get (roles_from left ss) k ≡ Some r → IsCounted r
 first_some zero [] k r at = absurd (none-some r at)
 first_some (suc left) [] k r at = absurd (none-some r at)
-first_some zero (s ∷ ss) zero r at = subst IsCounted (same_Some (role_of s.place (longest_of (ops_from s ss))) r at) (by (longest_of (ops_from s ss)) refl)
+first_some zero (s ∷ ss) zero r at = subst IsCounted (same_Some (group_role s.place (longest_of (ops_from s ss))) r at) (by (longest_of (ops_from s ss)) refl)
   where
-    by : (o : Option Found) → longest_of (ops_from s ss) ≡ o → IsCounted (role_of s.place o)
+    by : (o : Option Found) → longest_of (ops_from s ss) ≡ o → IsCounted (group_role s.place o)
     by None is = tt
     by (Some f) is = omega (arith, (longest_sized (ops_from s ss) f is).least)
-first_some zero (s ∷ ss) (suc k) r at = first_some (items_behind (role_of s.place (longest_of (ops_from s ss)))) ss k r at
+first_some zero (s ∷ ss) (suc k) r at = first_some (items_behind (group_role s.place (longest_of (ops_from s ss)))) ss k r at
 first_some (suc left) (s ∷ ss) zero r at = subst IsCounted (same_Some Inside r at) tt
 first_some (suc left) (s ∷ ss) (suc k) r at = first_some left ss k r at

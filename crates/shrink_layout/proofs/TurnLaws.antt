@@ -6,7 +6,7 @@ use Rattle.shrink_layout.specs.declared.piece.Piece.{Piece}
 use Rattle.shrink_layout.specs.declared.widths.Widths.{Widths}
 use Rattle.shrink_layout.specs.Invariants.Blocks.{IsMovedBy, IsUnchanged, block_size, nth_piece}
 use Rattle.shrink_layout.specs.Invariants.Rounds.{HaveGrown}
-use Rattle.shrink_layout.specs.Invariants.Widths.{CanBeLaidAnew, IsAscending, IsLaid, IsMoved}
+use Rattle.shrink_layout.specs.Invariants.Widths.{CanBeLaidAnew, IsAscending, IsLaid, IsBlockMoved}
 use Rattle.shrink_layout.specs.Layout.{addresses_of}
 use Rattle.shrink_layout.proofs.AddressLaws.{address_most, ascending, first_address, length_addresses}
 use Rattle.shrink_layout.proofs.MoveLaws.{IsMovedOn, block_more, can_clear, can_lay, moved_end, moved_laid_block}
@@ -97,7 +97,7 @@ module _ (pieces : List Piece) (sizes : List ℕ) (old w : Widths) (blocks : Blo
         let most = address_most text pieces sizes grown.placed.can.alignments grown.forms end 0 (omega (arith, length_addresses text pieces sizes grown.forms)) in
         omega (arith, ends, most, grown.placed.can.room)
 
-    pub moved_whole : (w' : Widths) → IsMoved w w' block (next - here) → IsMovedOn pieces sizes old w' (block + 1) (min (length pieces) ((block + 1) * block_size)) next
+    pub moved_whole : (w' : Widths) → IsBlockMoved w w' block (next - here) → IsMovedOn pieces sizes old w' (block + 1) (min (length pieces) ((block + 1) * block_size)) next
     moved_whole w' moved =
         laid_block w'
         (moved_laid_block pieces grown.old sizes old block first end multiple grown.placed grown.forms in_blocks refl refl same_sizes movable same_rest w w' here (next - here) now moved ends)

@@ -3,7 +3,7 @@
 ghost use Rattle.std.specs.Prelude.{◌≡◌, ◌+◌, ◌*◌, ◌^◌, ◌%◌, ◌<◌, true, false, length, min, slice_index, slice_set};
 ghost use Rattle.std.specs.List.{sum};
 ghost use Rattle.shrink_layout.specs.Invariants.Blocks.{IsUnchanged, block_count, block_size};
-ghost use Rattle.shrink_layout.specs.Invariants.Widths.{CanBeLaidAnew, IsAscending, IsCleared, IsLaid, IsMoved};
+ghost use Rattle.shrink_layout.specs.Invariants.Widths.{CanBeLaidAnew, IsAscending, IsCleared, IsLaid, IsBlockMoved};
 ghost use Rattle.shrink_layout.specs.Invariants.Rounds.{AreLaid, HaveGrown};
 
 use crate::blocks::{BLOCK, Blocks, PieceSpan};
@@ -70,7 +70,7 @@ fn move_block(widths: &mut Widths, block: usize, taken: u32)
     requires first { block * block_size < length widths.old.within.items }
     requires ascend { IsAscending widths.old.within.items (block * block_size) }
     requires room { slice_index widths.old.starts.items block + taken < 2 ^ 32 }
-    ensures { IsMoved widths.old widths.new block taken }
+    ensures { IsBlockMoved widths.old widths.new block taken }
 {
     clear(&mut widths.within, block * BLOCK);
     widths.starts[block + 1] = widths.starts[block] + taken;

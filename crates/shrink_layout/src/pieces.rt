@@ -6,7 +6,7 @@ ghost use Rattle.psabi_sym.specs.Inputs.{ParsedInputs, parsed};
 ghost use Rattle.psabi_sym.specs.Indexed.{all_sections};
 ghost use Rattle.block_cut.specs.Items.{place_of};
 ghost use Rattle.block_cut.specs.declared.code_place.CodePlace.{CodePlace};
-ghost use Rattle.shrink_layout.specs.Invariants.Made.{AreHalvesOf, AreHeld, AreMade, ArePiecesOf, AreStartsOf, IsItemPlace, IsNoCode, places_held};
+ghost use Rattle.shrink_layout.specs.Invariants.Made.{AreHalvesOf, AreItemPlaces, AreMade, ArePiecesOf, AreStartsOf, IsItemPlace, IsNoCode, places_held};
 ghost use Rattle.shrink_layout.specs.Invariants.Slots.{AreNumbered, first_piece, first_unit};
 ghost use Rattle.shrink_layout.specs.Units.{CodeUnit};
 
@@ -75,7 +75,7 @@ impl<'a> SectionPlaces<'a> {
         ensures at { (p : CodePlace) → slice_get self.now.places.now i ≡ Some p
             → result.at ≡ place_of self.now.section p.offset }
         ensures number { result.number ≡ record { section = self.now.number; index = i } }
-        ensures held { (inputs : ParsedInputs) → AreHeld inputs self.now.number self.now.section self.now.places.now
+        ensures held { (inputs : ParsedInputs) → AreItemPlaces inputs self.now.number self.now.section self.now.places.now
             → IsItemPlace inputs result.at result.number result.item.now }
     {
         let place = &self.places[i];
@@ -112,7 +112,7 @@ pub fn starts_of(places: &[CodePlace]) -> &[CodePlace]
 // Adds the pieces of places of a section.
 fn add_places(of: &Numbered, section: &SectionPlaces, made: &mut Pieces) -> Result<(), AllocError>
     requires numbered { AreNumbered of.now }
-    requires held { AreHeld (parsed of.now.planned.now) section.now.number section.now.section section.now.places.now }
+    requires held { AreItemPlaces (parsed of.now.planned.now) section.now.number section.now.section section.now.places.now }
     requires few { length section.now.places.now < 2 ^ 32 }
     ensures pieces { IfOk result (λ _. made.new.pieces.items ≡ made.old.pieces.items
         ++ map (first_piece (parsed of.now.planned.now)) (places_held section.now.section section.now.places.now)) }

@@ -3,7 +3,7 @@
 ghost use Rattle.std.specs.Prelude.{◌≡◌, ◌<◌, ◌≤◌, ◌+◌, ◌^◌, ℕ, [], List, Option, Some, length, slice_get, slice_set};
 ghost use Rattle.psabi_sym.specs.Inputs.{parsed};
 ghost use Rattle.psabi_sym.specs.Indexed.{all_sections};
-ghost use Rattle.shrink_layout.specs.Invariants.Made.{AreHalvesOf, AreHeld, ArePiecesOf, ArePut, ArePutIn, IsItemPlace, places_held};
+ghost use Rattle.shrink_layout.specs.Invariants.Made.{AreHalvesOf, AreItemPlaces, ArePiecesOf, ArePut, ArePutIn, IsItemPlace, places_held};
 ghost use Rattle.shrink_layout.specs.Invariants.Slots.{AreNumbered, AreSlotsOf, IsSource, first_piece, first_unit, source_inputs, source_piece, source_slots, source_unit};
 ghost use Rattle.shrink_layout.specs.Pieces.{piece_number_at, pieces_of, slot_at};
 ghost use Rattle.shrink_layout.specs.Units as units;
@@ -107,7 +107,7 @@ fn put_place(of: &PieceSource, place: &ItemPlace, made: &mut Pieces)
 // Puts those at places of a section of code.
 fn put_places(of: &PieceSource, section: &SectionPlaces, made: &mut Pieces)
     requires source { IsSource of.now }
-    requires held { AreHeld (source_inputs of.now) section.now.number section.now.section section.now.places.now }
+    requires held { AreItemPlaces (source_inputs of.now) section.now.number section.now.section section.now.places.now }
     requires few { length section.now.places.now < 2 ^ 32 }
     requires first { ArePutIn (source_inputs of.now) (source_slots of.now) section.now.number section.now.section
         [] (places_held section.now.section section.now.places.now) made.old }

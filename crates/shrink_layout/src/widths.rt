@@ -3,7 +3,7 @@
 ghost use Rattle.std.specs.Prelude.{◌≡◌, ℕ, ◌+◌, ◌*◌, ◌<◌, ◌≤◌, ◌^◌, ◌%◌, false, IfOk, length, slice_index};
 ghost use Rattle.std.specs.List.{sum};
 ghost use Rattle.shrink_layout.specs.Invariants.Blocks.{block_size};
-ghost use Rattle.shrink_layout.specs.Invariants.Widths.{AreCounted, AreStarts, addresses_in, count_before};
+ghost use Rattle.shrink_layout.specs.Invariants.Widths.{AreCounted, AreStarts, addresses_in, changed_before};
 
 use crate::blocks::BLOCK;
 use crate::sums::Sums;
@@ -55,7 +55,7 @@ impl Widths {
         ensures sums { IfOk result (λ w. w.sums ≡ sums) }
         ensures starts { IfOk result (λ w. w.starts.items ≡ starts.items) }
         ensures counted { IfOk result AreCounted }
-        ensures changed { IfOk result (λ w. (k : ℕ) → k ≤ length sums → count_before w k ≡ k) }
+        ensures changed { IfOk result (λ w. (k : ℕ) → k ≤ length sums → changed_before w k ≡ k) }
     {
         let pieces = sums.count();
         let changes = counts_before(alloc, pieces / BLOCK + 1)?;
@@ -79,10 +79,10 @@ impl Widths {
     }
 
     // How many pieces before this one changed, or before the end.
-    fn count_before(&self, k: usize) -> usize
+    fn changed_before(&self, k: usize) -> usize
         requires counted { AreCounted self.now }
         requires within { k ≤ length self.now.sums }
-        ensures { result ≡ count_before self.now k }
+        ensures { result ≡ changed_before self.now k }
     {
         self.changes[k / BLOCK] + usize::from(self.within[k])
     }
@@ -92,8 +92,8 @@ impl Widths {
         requires counted { AreCounted self.now }
         requires within { first ≤ length self.now.sums }
         requires until { end ≤ length self.now.sums }
-        ensures { result ≡ false → count_before self.now first ≡ count_before self.now end }
+        ensures { result ≡ false → changed_before self.now first ≡ changed_before self.now end }
     {
-        self.count_before(first) != self.count_before(end)
+        self.changed_before(first) != self.changed_before(end)
     }
 }

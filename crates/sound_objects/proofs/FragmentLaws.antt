@@ -22,7 +22,7 @@ use Rattle.block_cut.specs.Resolved.{asks}
 use Rattle.block_cut.specs.Whole.{IsWhole}
 use Rattle.block_cut.proofs.StartLaws.{Above, Among, IsStep, along, among, is_among, start_first, start_is}
 use Rattle.block_cut.proofs.StartLaws.Among.{Here, There}
-use Rattle.sound_objects.specs.Fragments.{CanStand, IsMadeOf, IsFragmentAt, IsUnder, Fragment, FragmentReloc, fragment_size, fragments_bytes, fragments_size, reloc_at, relocs_at, relocs_from}
+use Rattle.sound_objects.specs.Fragments.{CanStand, IsMadeOf, IsFragmentAt, IsUnder, Fragment, FragmentReloc, fragment_size, fragments_bytes, fragments_size, fragment_reloc_at, relocs_at, relocs_from}
 use Rattle.sound_objects.specs.Fragments.CanStand.{Alone, Under}
 use Rattle.sound_objects.specs.WellFormed.{RelocsAreRight}
 use Rattle.sound_objects.proofs.IgnoredLaws.{found_asking, overlaps_asking}
@@ -86,7 +86,7 @@ relocs_lie at (p ∷ ps) all =
     here (Under r is under) =
         let more = sum_by-cons fragment_size p ps in
         subst (λ o. All (LiesIn at (at + fragments_size (p ∷ ps))) (relocs_at at o)) (sym is)
-        (All-cons (LiesIn at (at + fragments_size (p ∷ ps))) (reloc_at at r) [] (record {
+        (All-cons (LiesIn at (at + fragments_size (p ∷ ps))) (fragment_reloc_at at r) [] (record {
           low = omega arith;
           below = omega (arith, more, under.some);
           end = omega (arith, more, under.long);
@@ -189,7 +189,7 @@ module _ (fragments : List Fragment) (s : SectionParts) (made : IsMadeOf fragmen
     -- a fragment with one
     module _ (r : FragmentReloc) (is : p.reloc ≡ Some r) where
       abbrev own : Reloc
-      own = reloc_at at r
+      own = fragment_reloc_at at r
 
       under : IsUnder p r
       under = by stands
@@ -330,7 +330,7 @@ module _ (fragments : List Fragment) (s : SectionParts) (made : IsMadeOf fragmen
 
   -- what holds of those that ask for nothing and of each fragment's holds of all
   pub relocs_each : (Q : Reloc → Type 0) → ((r : Reloc) → is_ignored (kind_of r.kind) ≡ true → Q r)
-      → ((front : List Fragment) (p : Fragment) (back : List Fragment) (r : FragmentReloc) → fragments ≡ front ++ p ∷ back → p.reloc ≡ Some r → Q (reloc_at (fragments_size front) r)) → All Q s.relocs
+      → ((front : List Fragment) (p : Fragment) (back : List Fragment) (r : FragmentReloc) → fragments ≡ front ++ p ∷ back → p.reloc ≡ Some r → Q (fragment_reloc_at (fragments_size front) r)) → All Q s.relocs
   relocs_each Q ignored each = with_idle s.relocs (subst (All Q) (sym made.relocs) (walk [] fragments refl))
     where
       with_idle : (relocs : List Reloc) → All Q (filter asks relocs) → All Q relocs
@@ -341,9 +341,9 @@ module _ (fragments : List Fragment) (s : SectionParts) (made : IsMadeOf fragmen
           by true idle rest all = All-cons Q r rs (ignored r idle) (rest all)
           by false busy rest all = All-cons Q r rs (All-head Q r (filter asks rs) all) (rest (All-tail Q r (filter asks rs) all))
 
-      of_fragment : (n : ℕ) (o : Option FragmentReloc) → ((r : FragmentReloc) → o ≡ Some r → Q (reloc_at n r)) → All Q (relocs_at n o)
+      of_fragment : (n : ℕ) (o : Option FragmentReloc) → ((r : FragmentReloc) → o ≡ Some r → Q (fragment_reloc_at n r)) → All Q (relocs_at n o)
       of_fragment n None holds = All-nil Q
-      of_fragment n (Some r) holds = All-cons Q (reloc_at n r) [] (holds r refl) (All-nil Q)
+      of_fragment n (Some r) holds = All-cons Q (fragment_reloc_at n r) [] (holds r refl) (All-nil Q)
 
       walk : (front back : List Fragment) → fragments ≡ front ++ back → All Q (relocs_from (fragments_size front) back)
       walk front [] split = All-nil Q
@@ -354,7 +354,7 @@ module _ (fragments : List Fragment) (s : SectionParts) (made : IsMadeOf fragmen
 
 -- so all are right that lead right
 pub relocs_right : (inputs : ParsedInputs) (l : IndexedSection) (fragments : List Fragment) → IsMadeOf fragments l.section → IsWhole l.section
-    → ((front : List Fragment) (p : Fragment) (back : List Fragment) (r : FragmentReloc) → fragments ≡ front ++ p ∷ back → p.reloc ≡ Some r → LeadsRight inputs l (reloc_at (fragments_size front) r))
+    → ((front : List Fragment) (p : Fragment) (back : List Fragment) (r : FragmentReloc) → fragments ≡ front ++ p ∷ back → p.reloc ≡ Some r → LeadsRight inputs l (fragment_reloc_at (fragments_size front) r))
     → RelocsAreRight inputs l
 relocs_right inputs l fragments made whole each =
     relocs_each fragments l.section made (λ r. reloc_fault inputs l r ≡ None) (ignored_right inputs l)
@@ -362,4 +362,4 @@ relocs_right inputs l fragments made whole each =
     let own = fine fragments l.section made front p back split r is in
     let right = each front p back r split is in
     let start = start_at fragments l.section made whole front p back split in
-    no_reloc_fault inputs l (reloc_at (fragments_size front) r) own.known own.placed (starts_right inputs l (reloc_at (fragments_size front) r) start) right.paired right.leads)
+    no_reloc_fault inputs l (fragment_reloc_at (fragments_size front) r) own.known own.placed (starts_right inputs l (fragment_reloc_at (fragments_size front) r) start) right.paired right.leads)

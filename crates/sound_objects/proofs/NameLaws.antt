@@ -17,7 +17,7 @@ use Rattle.psabi_sym.specs.Resolve.{Definition, linker_number, linker_numbers, n
 use Rattle.psabi_sym.specs.Resolve.Definition.{AtNumber, InObject}
 use Rattle.psabi_sym.proofs.NumberLaws.{same_is, same_self}
 use Rattle.block_cut.proofs.SoundLaws.{found_passes}
-use Rattle.sound_objects.specs.WellFormed.{AreDefined, AreSingle, HasStrong, HasSymbol}
+use Rattle.sound_objects.specs.WellFormed.{HaveDefinitions, AreSingle, HasStrong, HasSymbol}
 use Rattle.sound_objects.proofs.ListLaws.{all_found, find_none, none_found, unmapped}
 use Rattle.sound_objects.proofs.ListedLaws.{all_by_symbol, symbol_by_all}
 
@@ -112,7 +112,7 @@ module _ (inputs : ParsedInputs) where
   abbrev needed_by : IndexedSymbol → Bool
   needed_by l = (eqb l.symbol.bind 1 && eqb l.symbol.home 0) && is_used inputs.objects l
 
-  not_missing : AreDefined inputs → (l : IndexedSymbol) → HasSymbol inputs.objects l → is_missing inputs l ≡ false
+  not_missing : HaveDefinitions inputs → (l : IndexedSymbol) → HasSymbol inputs.objects l → is_missing inputs l ≡ false
   not_missing defined l has = by (needed_by l) refl
     where
       by : (b : Bool) → needed_by l ≡ b → (needed_by l && is_none (name_definition inputs l.symbol.name)) ≡ false
@@ -123,13 +123,13 @@ module _ (inputs : ParsedInputs) where
           and_right (needed_by l) (is_none (name_definition inputs l.symbol.name)) (ap is_none found.1)
       by false other = and_left (needed_by l) (is_none (name_definition inputs l.symbol.name)) other
 
-  pub no_undefined : AreDefined inputs → undefined_fault inputs ≡ None
+  pub no_undefined : HaveDefinitions inputs → undefined_fault inputs ≡ None
   unfolding undefined_fault
   no_undefined defined =
       ap (option_map {U = ℕ × Fault} (λ (l : IndexedSymbol). (l.object, Undefined l.index)))
       (find_none (is_missing inputs) (all_symbols inputs.objects) (all_by_symbol inputs.objects (λ l. is_missing inputs l ≡ false) (not_missing defined)))
 
-  pub no_undefined_defined : undefined_fault inputs ≡ None → AreDefined inputs
+  pub no_undefined_defined : undefined_fault inputs ≡ None → HaveDefinitions inputs
   unfolding undefined_fault
   no_undefined_defined none l is = by (name_definition inputs l.symbol.name) refl
     where

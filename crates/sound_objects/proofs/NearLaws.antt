@@ -27,7 +27,7 @@ use Rattle.block_cut.proofs.PlainLaws.{IsHere, address_bounds, here, offset_end,
 use Rattle.block_cut.proofs.RawLaws.{raw_by}
 use Rattle.block_cut.proofs.RoomLaws.{after_starts-ge, items_fit, section_end-code}
 use Rattle.block_cut.proofs.SoundLaws.{sound_at}
-use Rattle.sound_objects.specs.Parts.{CanBeWritten, files_of, objects_of}
+use Rattle.sound_objects.specs.Parts.{CanBeWritten, inputs_of_parts, objects_of}
 use Rattle.sound_objects.specs.Reach.{IsBranchless, IsShort, StaysIn, is_branch_kind}
 use Rattle.sound_objects.specs.WellFormed.{BranchesReach, HasSection}
 use Rattle.sound_objects.proofs.BranchLaws.{LeadsIn, known_in, known_no_branch, spelled_in, spelled_no_branch}
@@ -183,8 +183,8 @@ module _ (inputs : Inputs) (none : gather_fault inputs ≡ None) (is_map : IsMap
           (λ a b one two. both_near (place_of l n) to l.section a b (code_here (parsed inputs) l has code n) object section short.room one two)
 
 -- a short section of parts that are written
-pub parts_short_reach : (memory : MemMap) (parts : List ObjectParts) → All CanBeWritten parts → gather_fault (files_of memory parts) ≡ None → IsMap memory
+pub parts_short_reach : (memory : MemMap) (parts : List ObjectParts) → All CanBeWritten parts → gather_fault (inputs_of_parts memory parts) ≡ None → IsMap memory
     → (l : IndexedSection) → HasSection (objects_of memory parts).objects l → is_code_section l.section ≡ true → l.section.compressed ≡ false → IsShort (objects_of memory parts) l → BranchesReach (objects_of memory parts) l
 parts_short_reach memory parts all none is_map =
     subst (λ (i : ParsedInputs). (l : IndexedSection) → HasSection i.objects l → is_code_section l.section ≡ true → l.section.compressed ≡ false → IsShort i l → BranchesReach i l)
-    (parsed_is memory parts all) (short_reach (files_of memory parts) none is_map)
+    (parsed_is memory parts all) (short_reach (inputs_of_parts memory parts) none is_map)

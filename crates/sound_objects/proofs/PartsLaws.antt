@@ -30,8 +30,8 @@ use Rattle.block_cut.specs.Faults.{first_fault}
 use Rattle.block_cut.specs.Items.{entry_in}
 use Rattle.block_cut.specs.Whole.{IsWhole}
 use Rattle.block_cut.proofs.WholeLaws.{file_whole}
-use Rattle.sound_objects.specs.Parts.{AreWellFormed, CanBeWritten, files_of, objects_of, parts_code, parts_data, read_of}
-use Rattle.sound_objects.specs.WellFormed.{AllBranchesReach, AllRelocsAreRight, AreDefined, AreSingle, HasSection}
+use Rattle.sound_objects.specs.Parts.{AreWellFormed, CanBeWritten, inputs_of_parts, objects_of, parts_code, parts_data, read_of}
+use Rattle.sound_objects.specs.WellFormed.{AllBranchesReach, AllRelocsAreRight, HaveDefinitions, AreSingle, HasSection}
 use Rattle.sound_objects.proofs.FaultlessLaws.{well_formed_faultless}
 use Rattle.sound_objects.proofs.ListLaws.{all_at}
 
@@ -57,7 +57,7 @@ all_read (p ∷ parts) all =
     let tail = all_read parts (All-tail CanBeWritten p parts all) in
     λ i. head i ∷ tail i
 
-pub parsed_is : (memory : MemMap) (parts : List ObjectParts) → All CanBeWritten parts → parsed (files_of memory parts) ≡ objects_of memory parts
+pub parsed_is : (memory : MemMap) (parts : List ObjectParts) → All CanBeWritten parts → parsed (inputs_of_parts memory parts) ≡ objects_of memory parts
 parsed_is memory parts all = λ i. record { objects = all_read parts all i; map = memory }
 
 -- ---- sums
@@ -204,8 +204,8 @@ written_whole p can i s at code =
 
 -- ---- the whole
 
-pub are_faultless : (memory : MemMap) (parts : List ObjectParts) → AreWellFormed memory parts → first_fault (files_of memory parts) ≡ None
-are_faultless memory parts sound = well_formed_faultless (files_of memory parts) (record {
+pub are_faultless : (memory : MemMap) (parts : List ObjectParts) → AreWellFormed memory parts → first_fault (inputs_of_parts memory parts) ≡ None
+are_faultless memory parts sound = well_formed_faultless (inputs_of_parts memory parts) (record {
   few = omega (arith, length-map parts object_bytes, sound.few);
   readable =
       All-map (λ f. object_fault f ≡ None) object_bytes parts
@@ -216,12 +216,12 @@ are_faultless memory parts sound = well_formed_faultless (files_of memory parts)
     data_room = omega (arith, sum_same (λ f. object_data (object_parts f)) parts_data data_is parts sound.written, sound.small.data_room);
   };
   single = subst (λ (i : ParsedInputs). AreSingle i.objects) (sym is) sound.single;
-  defined = subst AreDefined (sym is) sound.defined;
+  defined = subst HaveDefinitions (sym is) sound.defined;
   relocs = subst AllRelocsAreRight (sym is) sound.relocs;
   entry = sound.entry;
   entry_found = subst (λ (i : ParsedInputs). entry_in i ≡ Some sound.entry) (sym is) sound.entry_found;
-  near = subst (λ (i : ParsedInputs). gather_fault (files_of memory parts) ≡ None → AllBranchesReach i) (sym is) sound.near;
+  near = subst (λ (i : ParsedInputs). gather_fault (inputs_of_parts memory parts) ≡ None → AllBranchesReach i) (sym is) sound.near;
 })
   where
-    is : parsed (files_of memory parts) ≡ objects_of memory parts
+    is : parsed (inputs_of_parts memory parts) ≡ objects_of memory parts
     is = parsed_is memory parts sound.written

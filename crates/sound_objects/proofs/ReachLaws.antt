@@ -24,7 +24,7 @@ use Rattle.block_cut.specs.CodeSizes.{own_size}
 use Rattle.block_cut.specs.Relocs.{field_of, instr_in, is_ignored, reloc_on}
 use Rattle.block_cut.proofs.CodeSizeLaws.{own_plain}
 use Rattle.block_cut.specs.Whole.{IsWhole}
-use Rattle.sound_objects.specs.Fragments.{CanStand, IsMadeOf, IsFragmentAt, Fragment, FragmentReloc, fragment_size, fragments_size, reloc_at}
+use Rattle.sound_objects.specs.Fragments.{CanStand, IsMadeOf, IsFragmentAt, Fragment, FragmentReloc, fragment_size, fragments_size, fragment_reloc_at}
 use Rattle.sound_objects.specs.Fragments.CanStand.{Alone, Under}
 use Rattle.sound_objects.specs.Reach.{HaveNoBareBranch, HaveNoBranchOrAlign, IsBranchless, IsShort, StaysIn, is_branch, is_branch_kind, is_no_bare_branch, is_no_branch_or_align}
 use Rattle.sound_objects.proofs.ListLaws.{all_right}
@@ -89,7 +89,7 @@ module _ (fragments : List Fragment) (s : SectionParts) (made : IsMadeOf fragmen
   pub made_no_branch : All IsNoBranchOrAlign s.relocs
   made_no_branch = relocs_each fragments s made IsNoBranchOrAlign ignored_no_branch own
     where
-      own : (front : List Fragment) (p : Fragment) (back : List Fragment) (r : FragmentReloc) → fragments ≡ front ++ p ∷ back → p.reloc ≡ Some r → IsNoBranchOrAlign (reloc_at (fragments_size front) r)
+      own : (front : List Fragment) (p : Fragment) (back : List Fragment) (r : FragmentReloc) → fragments ≡ front ++ p ∷ back → p.reloc ≡ Some r → IsNoBranchOrAlign (fragment_reloc_at (fragments_size front) r)
       own front p back r split is =
           let P = λ (q : Fragment). is_no_branch_or_align q.reloc ≡ true in
           let one : is_no_branch_or_align p.reloc ≡ true = All-head P p back (all_right P front (p ∷ back) (subst (All P) split no_branch)) in

@@ -47,13 +47,13 @@ abbrev pub fragments_bytes : List Fragment → List ℕ
 fragments_bytes fragments = flat_map (λ p. p.bytes) fragments
 
 -- the relocation of a fragment that stands at an offset
-abbrev pub reloc_at : ℕ → FragmentReloc → Reloc
-reloc_at at r = record { offset = at; symbol = r.symbol; kind = r.kind; addend = r.addend }
+abbrev pub fragment_reloc_at : ℕ → FragmentReloc → Reloc
+fragment_reloc_at at r = record { offset = at; symbol = r.symbol; kind = r.kind; addend = r.addend }
 
 -- those of a fragment, and of fragments from an offset on
 abbrev pub relocs_at : ℕ → Option FragmentReloc → List Reloc
 relocs_at at None = []
-relocs_at at (Some r) = reloc_at at r ∷ []
+relocs_at at (Some r) = fragment_reloc_at at r ∷ []
 
 abbrev pub relocs_from : ℕ → List Fragment → List Reloc
 relocs_from at [] = []

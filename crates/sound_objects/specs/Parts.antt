@@ -11,7 +11,7 @@ use Rattle.psabi_sym.specs.Faults.{code_room, common_room, data_room, gather_fau
 use Rattle.psabi_sym.specs.Inputs.{Inputs, ParsedInputs}
 use Rattle.psabi_sym.specs.declared.sums.Sums.{Sums}
 use Rattle.block_cut.specs.Items.{entry_in}
-use Rattle.sound_objects.specs.WellFormed.{AllBranchesReach, AllRelocsAreRight, AreDefined, AreSingle, AreSmall}
+use Rattle.sound_objects.specs.WellFormed.{AllBranchesReach, AllRelocsAreRight, HaveDefinitions, AreSingle, AreSmall}
 
 -- ---- files
 
@@ -22,8 +22,8 @@ pub record CanBeWritten (p : ObjectParts) : Type 0 where
   pub sized : IsPartsSized p.sections p.symbols
 
 -- the files of parts, in order, and a map
-abbrev pub files_of : MemMap → List ObjectParts → Inputs
-files_of memory parts = record { files = map object_bytes parts; map = memory }
+abbrev pub inputs_of_parts : MemMap → List ObjectParts → Inputs
+inputs_of_parts memory parts = record { files = map object_bytes parts; map = memory }
 
 -- what a file of parts reads as: section 0 and symbol 0 come first, and the sections that are added last
 abbrev pub read_of : ObjectParts → ObjectParts
@@ -62,8 +62,8 @@ pub record AreWellFormed (memory : MemMap) (parts : List ObjectParts) : Type 0 w
   pub few : length parts ≤ most_objects
   pub small : AreSmall (parts_sums parts)
   pub single : AreSingle (map read_of parts)
-  pub defined : AreDefined (objects_of memory parts)
+  pub defined : HaveDefinitions (objects_of memory parts)
   pub relocs : AllRelocsAreRight (objects_of memory parts)
   pub entry : Place
   pub entry_found : entry_in (objects_of memory parts) ≡ Some entry
-  pub near : gather_fault (files_of memory parts) ≡ None → AllBranchesReach (objects_of memory parts)
+  pub near : gather_fault (inputs_of_parts memory parts) ≡ None → AllBranchesReach (objects_of memory parts)

@@ -45,8 +45,8 @@ AreSingle objects = (l m : IndexedSymbol) → HasStrong objects l → HasStrong 
     → (l.object ≡ m.object) × (l.index ≡ m.index)
 
 -- each symbol that needs a definition has one
-abbrev pub AreDefined : ParsedInputs → Type 0
-AreDefined inputs =
+abbrev pub HaveDefinitions : ParsedInputs → Type 0
+HaveDefinitions inputs =
     (l : IndexedSymbol) → HasNeeded inputs.objects l
     → (d : Definition) × (name_definition inputs l.symbol.name ≡ Some d)
 
@@ -81,7 +81,7 @@ pub record IsWellFormed (inputs : Inputs) : Type 0 where
   pub readable : All (λ file. object_fault file ≡ None) inputs.files
   pub small : AreSmall (sums_of inputs.files)
   pub single : AreSingle (parsed inputs).objects
-  pub defined : AreDefined (parsed inputs)
+  pub defined : HaveDefinitions (parsed inputs)
   pub relocs : AllRelocsAreRight (parsed inputs)
   pub entry : Place
   pub entry_found : entry_in (parsed inputs) ≡ Some entry

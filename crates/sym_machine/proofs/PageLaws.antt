@@ -14,7 +14,7 @@ use Rattle.sym_machine.specs.declared.page.Page.{Page}
 use Rattle.sym_machine.specs.declared.page.Page.TheVariants.{Numbers, Cells}
 use Rattle.sym_machine.specs.declared.word.SymByte.{SymByte}
 use Rattle.sym_machine.specs.declared.word.SymByte.TheVariants.{Num, Undef}
-use Rattle.sym_machine.specs.Pages.{AreBytesWritten, AreCellsWritten, IsInPool, IsMade, IsPooled, IsSame, Pooled, bytes_in, cells_of_pages, cells_wanted, number_in_pool, numbers_wanted, page_cell, page_of, pooled_cell, pooled_word, word_in}
+use Rattle.sym_machine.specs.Pages.{AreBytesWritten, AreCellsWritten, IsInPool, IsMade, IsPooled, IsSame, Pooled, bytes_in, cells_of_pages, cells_wanted, number_in_pool, numbers_wanted, page_cell, page_of, pooled_cell, pooled_word, cell_word}
 use Rattle.sym_machine.proofs.WrittenLaws.{written_moved, written_numbers, written_there}
 
 -- ---- what is read
@@ -67,7 +67,7 @@ module _ {q : Pooled} (p : Pooled) (view : q ≡ p) (i : ℕ) (within : i < 4096
       let later = λ (k : ℕ) (lt : k < 4). number_further is k (omega (arith, one, lt)) in
       λ j. record { b0 = first j; b1 = later 1 (omega arith) j; b2 = later 2 (omega arith) j; b3 = later 3 (omega arith) j }
 
-  pub word_of_cells : read ≡ Cells n → i % 4096 + 4 ≤ 4096 → word_in q.cells (4096 * n + i % 4096) ≡ pooled_word p i
+  pub word_of_cells : read ≡ Cells n → i % 4096 + 4 ≤ 4096 → cell_word q.cells (4096 * n + i % 4096) ≡ pooled_word p i
   word_of_cells is one =
       let first = cell_read p view i within (Cells n) read there is i refl in
       let later = λ (k : ℕ) (lt : k < 4). cell_further is k (omega (arith, one, lt)) in

@@ -7,7 +7,7 @@ use Rattle.sym_machine.specs.declared.span.Span.TheVariants as span
 use Rattle.sym_machine.specs.declared.word.SymByte.{SymByte}
 use Rattle.sym_machine.specs.declared.word.SymByte.TheVariants.{Undef}
 use Rattle.sym_machine.specs.Kept.{IsChanged, IsKept, IsSpan, Kept, regions_of, sym_word_at}
-use Rattle.sym_machine.specs.Pages.{AreCellsWritten, word_in}
+use Rattle.sym_machine.specs.Pages.{AreCellsWritten, cell_word}
 use Rattle.sym_machine.proofs.MemoryLaws.{byte_in_data, byte_in_stack, reaches_is, stored_data, stored_stack}
 use Rattle.sym_machine.proofs.WrittenLaws.{written_one}
 
@@ -53,7 +53,7 @@ module _ {m k : Kept} (view : m ≡ k) (a n i : ℕ) (at : IsSpan k a n (span.Da
       ∙ byte_in_data k x (omega (arith, at, from)) (omega (arith, at, before))
 
 -- the word of four of them
-pub stack_word : {m k : Kept} → m ≡ k → IsKept m → (a i : ℕ) → IsSpan k a 4 (span.Stack i) → word_in m.stack i ≡ sym_word_at (regions_of k) a
+pub stack_word : {m k : Kept} → m ≡ k → IsKept m → (a i : ℕ) → IsSpan k a 4 (span.Stack i) → cell_word m.stack i ≡ sym_word_at (regions_of k) a
 stack_word view is a i at = λ j. record {
   b0 = stack_cell view is a 4 i at a i (omega arith) (omega arith) j;
   b1 = stack_cell view is a 4 i at (a + 1) (i + 1) (omega arith) (omega arith) j;
@@ -61,7 +61,7 @@ stack_word view is a i at = λ j. record {
   b3 = stack_cell view is a 4 i at (a + 3) (i + 3) (omega arith) (omega arith) j;
 }
 
-pub data_word : {m k : Kept} → m ≡ k → (a i : ℕ) → IsSpan k a 4 (span.Data i) → word_in m.bytes i ≡ sym_word_at (regions_of k) a
+pub data_word : {m k : Kept} → m ≡ k → (a i : ℕ) → IsSpan k a 4 (span.Data i) → cell_word m.bytes i ≡ sym_word_at (regions_of k) a
 data_word view a i at = λ j. record {
   b0 = data_cell view a 4 i at a i (omega arith) (omega arith) (omega arith) j;
   b1 = data_cell view a 4 i at (a + 1) (i + 1) (omega arith) (omega arith) (omega arith) j;

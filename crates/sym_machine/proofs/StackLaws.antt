@@ -8,7 +8,7 @@ use Rattle.rv_decode.specs.Memory.{blank, written}
 use Rattle.rv_decode.proofs.MemoryLaws.{untouched}
 use Rattle.sym_machine.specs.declared.word.SymByte.{SymByte}
 use Rattle.sym_machine.specs.declared.word.SymByte.TheVariants.{Undef}
-use Rattle.sym_machine.specs.Pages.{AreCellsWritten, word_in}
+use Rattle.sym_machine.specs.Pages.{AreCellsWritten, cell_word}
 use Rattle.sym_machine.specs.Stack.{AreAlike, AreOpened, AreStrips, Strips, is_open, stack_cell, stack_cells}
 use Rattle.sym_machine.proofs.WrittenLaws.{not_below, written_there}
 
@@ -72,7 +72,7 @@ module _ (s : Strips) where
       let strip : j / 32 ≡ i / 32 = omega (arith, from, to, one) in
       open_there j (omega (arith, to, within)) (from_parts j (omega (arith, q.0, from)) (ap (λ k. get_or s.live k false) strip ∙ q.1))
 
-  pub open_word : (i : ℕ) → i + 4 ≤ length s.cells → i % 32 + 4 ≤ 32 → is_open s i ≡ true → word_in s.cells i ≡ word_in (stack_cells s) i
+  pub open_word : (i : ℕ) → i + 4 ≤ length s.cells → i % 32 + 4 ≤ 32 → is_open s i ≡ true → cell_word s.cells i ≡ cell_word (stack_cells s) i
   open_word i within one h =
       let there = open_strip_there i 4 within one h in
       let first = there i (omega arith) (omega arith) in

@@ -18,7 +18,7 @@ use Rattle.sym_machine.specs.declared.word.SymByte.TheVariants.{Num, Undef}
 use Rattle.sym_machine.specs.declared.word.SymWord.{SymWord}
 use Rattle.sym_machine.specs.Answer.{StepAnswers}
 use Rattle.sym_machine.specs.Change.{Change, Goes, Stops, call_to, exit_does, sets, continues, puts, read_does}
-use Rattle.sym_machine.specs.Kept.{IsChanged, IsKept, IsWorking, Kept, above_only, kept_from, regions_of, word_of, words_of}
+use Rattle.sym_machine.specs.Kept.{IsChanged, IsKept, IsWorking, Kept, above_only, kept_from, regions_of, word_of, register_words}
 use Rattle.sym_machine.specs.Program.{Program, start_memory}
 use Rattle.sym_machine.specs.State.{PlainCore, reg_of}
 use Rattle.sym_machine.specs.Step.{Stuck, Went, after_change, ends, applied, item_step, plain_step, undefined_below}
@@ -31,33 +31,33 @@ use Rattle.sym_machine.proofs.StepLaws.{ends_outside, ends_unknown, ends_within,
 -- ---- registers
 
 -- a register that is set, but register 0
-pub words_set : (R : List Held) (r : ℕ) (w : Held) → r ≢ 0 → words_of (set R r w) ≡ set_reg (words_of R) r (word_of w)
-words_set R r w some = map-set word_of R r w ∙ sym (cond-false (eqb r 0) (words_of R) (set (words_of R) r (word_of w)) (ne_eqb r 0 some))
+pub words_set : (R : List Held) (r : ℕ) (w : Held) → r ≢ 0 → register_words (set R r w) ≡ set_reg (register_words R) r (word_of w)
+words_set R r w some = map-set word_of R r w ∙ sym (cond-false (eqb r 0) (register_words R) (set (register_words R) r (word_of w)) (ne_eqb r 0 some))
 
 -- registers with one that is neither register 0 nor sp
-pub working_set : (R : List Held) (k k' : Kept) (r : ℕ) (w : Held) → IsWorking (words_of R) k → IsKept k' → kept_from k' ≡ kept_from k → r ≢ 0 → r ≢ 2
-    → IsWorking (words_of (set R r w)) k'
+pub working_set : (R : List Held) (k k' : Kept) (r : ℕ) (w : Held) → IsWorking (register_words R) k → IsKept k' → kept_from k' ≡ kept_from k → r ≢ 0 → r ≢ 2
+    → IsWorking (register_words (set R r w)) k'
 working_set R k k' r w is kept from some other =
     let same = map-set word_of R r w in record {
       registers_are = record {
-        count = ap length same ∙ length-set (words_of R) r (word_of w) ∙ is.registers_are.count;
-        first = ap (λ l. get_or l 0 undef_word) same ∙ get_or-set_other (words_of R) r 0 (word_of w) undef_word (λ e. some (sym e)) ∙ is.registers_are.first;
+        count = ap length same ∙ length-set (register_words R) r (word_of w) ∙ is.registers_are.count;
+        first = ap (λ l. get_or l 0 undef_word) same ∙ get_or-set_other (register_words R) r 0 (word_of w) undef_word (λ e. some (sym e)) ∙ is.registers_are.first;
       };
-      sp = ap (λ l. number_of (get_or l 2 undef_word)) same ∙ ap number_of (get_or-set_other (words_of R) r 2 (word_of w) undef_word (λ e. other (sym e))) ∙ is.sp ∙ ap Some (sym from);
+      sp = ap (λ l. number_of (get_or l 2 undef_word)) same ∙ ap number_of (get_or-set_other (register_words R) r 2 (word_of w) undef_word (λ e. other (sym e))) ∙ is.sp ∙ ap Some (sym from);
       kept = kept;
     }
 
 -- and with another sp
-pub working_sp : (R : List Held) (k k' : Kept) (w : Held) (sp : ℕ) → IsWorking (words_of R) k → IsKept k' → kept_from k' ≡ sp → number_of (word_of w) ≡ Some sp
-    → IsWorking (words_of (set R 2 w)) k'
+pub working_sp : (R : List Held) (k k' : Kept) (w : Held) (sp : ℕ) → IsWorking (register_words R) k → IsKept k' → kept_from k' ≡ sp → number_of (word_of w) ≡ Some sp
+    → IsWorking (register_words (set R 2 w)) k'
 working_sp R k k' w sp is kept from number =
     let same = map-set word_of R 2 w in
-    let inside : 2 ≤ length (words_of R) = omega (arith, is.registers_are.count) in record {
+    let inside : 2 ≤ length (register_words R) = omega (arith, is.registers_are.count) in record {
       registers_are = record {
-        count = ap length same ∙ length-set (words_of R) 2 (word_of w) ∙ is.registers_are.count;
-        first = ap (λ l. get_or l 0 undef_word) same ∙ get_or-set_other (words_of R) 2 0 (word_of w) undef_word (λ e. omega (arith, e)) ∙ is.registers_are.first;
+        count = ap length same ∙ length-set (register_words R) 2 (word_of w) ∙ is.registers_are.count;
+        first = ap (λ l. get_or l 0 undef_word) same ∙ get_or-set_other (register_words R) 2 0 (word_of w) undef_word (λ e. omega (arith, e)) ∙ is.registers_are.first;
       };
-      sp = ap (λ l. number_of (get_or l 2 undef_word)) same ∙ ap number_of (get_or-set_same (words_of R) 2 (word_of w) undef_word (omega (arith, is.registers_are.count))) ∙ number ∙ ap Some (sym from);
+      sp = ap (λ l. number_of (get_or l 2 undef_word)) same ∙ ap number_of (get_or-set_same (register_words R) 2 (word_of w) undef_word (omega (arith, is.registers_are.count))) ∙ number ∙ ap Some (sym from);
       kept = kept;
     }
 
@@ -65,7 +65,7 @@ working_sp R k k' w sp is kept from number =
 
 -- the state that registers and memory are
 abbrev pub core_of : Place → List Held → Kept → List ℕ → Option ℕ → PlainCore
-core_of place R k input exit = record { place = place; regs = words_of R; memory = regions_of k; input = input; exit = exit }
+core_of place R k input exit = record { place = place; regs = register_words R; memory = regions_of k; input = input; exit = exit }
 
 -- what a call does but for register 0 as its first one
 abbrev pub calls : ℕ → ℕ → Place → Place → Change
@@ -94,7 +94,7 @@ module _ (k : Kept) (is : IsKept k) where
       (ap (changed (undefined_below k.map (kept_from k))) memory
       ∙ changed-after (undefined_below k.map (kept_from k)) f (above_only k f) (λ x c. refl) (regions_of k) ∙ sym new.regions)
 
-module _ (k : Kept) (R : List Held) (is : IsWorking (words_of R) k) (place to : Place) (input : List ℕ) (exit : Option ℕ) (running : exit ≡ None) where
+module _ (k : Kept) (R : List Held) (is : IsWorking (register_words R) k) (place to : Place) (input : List ℕ) (exit : Option ℕ) (running : exit ≡ None) where
   abbrev core : PlainCore
   core = core_of place R k input exit
 
@@ -124,7 +124,7 @@ module _ (k : Kept) (R : List Held) (is : IsWorking (words_of R) k) (place to : 
       → StepAnswers (applied k.map (core_of place R k input exit) (Goes (sets 2 (word_of w) to))) answer.Done (core_of place R k input exit) (core_of to (set R 2 w) k' input exit)
   gives_sp w sp k' number low high regions =
       let s = after_change (sets 2 (word_of w) to) core in
-      let set = get_or-set_same (words_of R) 2 (word_of w) undef_word (omega (arith, is.registers_are.count)) in (
+      let set = get_or-set_same (register_words R) 2 (word_of w) undef_word (omega (arith, is.registers_are.count)) in (
         running,
         running,
         ends_within k.map sp s [] (ap number_of set ∙ number) low high

@@ -177,12 +177,12 @@ by_sum (WithImm Addi rd first imm) w s next = Goes (sets rd w next)
 by_sum other w s next = Stops NoInstruction
 
 -- the register whose word such a sum begins with
-abbrev pub base_of : Instr → ℕ
-base_of (Jalr rd base imm) = base
-base_of (Load op rd base imm) = base
-base_of (Store op source base imm) = base
-base_of (WithImm op rd first imm) = first
-base_of other = 0
+abbrev pub base_register : Instr → ℕ
+base_register (Jalr rd base imm) = base
+base_register (Load op rd base imm) = base
+base_register (Store op source base imm) = base
+base_register (WithImm op rd first imm) = first
+base_register other = 0
 
 -- an instruction without relocation, by its format, with the place after it; a branch or a `jal` is an item of its own
 abbrev pub op_does : Instr → PlainCore → Place → Does
@@ -217,9 +217,9 @@ abbrev pub item_does : Program → Option Item → PlainCore → Place → Does
 item_does p None s next = Stops NoInstruction
 item_does p (Some (Op i)) s next = op_does i s next
 item_does p (Some (Hi i t)) s next = upper_does Lui i (high_word t) next
-item_does p (Some (Lo i t)) s next = by_sum i (low_sum t (reg_of s (base_of i))) s next
+item_does p (Some (Lo i t)) s next = by_sum i (low_sum t (reg_of s (base_register i))) s next
 item_does p (Some (PcHi i t)) s next = upper_does Auipc i (value_word (value.PcHi s.place)) next
-item_does p (Some (PcLo i q)) s next = by_sum i (pc_low_sum q (pc_target (p.item q)) (reg_of s (base_of i))) s next
+item_does p (Some (PcLo i q)) s next = by_sum i (pc_low_sum q (pc_target (p.item q)) (reg_of s (base_register i))) s next
 item_does p (Some (Branch op first second to)) s next = branch_does (condition p op (reg_of s first) (reg_of s second)) to next
 item_does p (Some (Jump rd to)) s next = jump_does (Some to) rd next
 item_does p (Some (Call rd temp to)) s next = call_to rd temp to next

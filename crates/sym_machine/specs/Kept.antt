@@ -23,8 +23,8 @@ word_of (held.Code q) = code_word q
 word_of (held.Bytes w) = w
 
 -- the words of registers
-abbrev pub words_of : List Held → List SymWord
-words_of registers = map word_of registers
+abbrev pub register_words : List Held → List SymWord
+register_words registers = map word_of registers
 
 -- ---- memory
 

@@ -94,8 +94,8 @@ AreCellsWritten at cells old new =
     (j : ℕ) (d : SymByte) → j < length old → slice_index_or new j d ≡ written at (length cells) (λ i. slice_index_or cells i Undef) j (slice_index_or old j d)
 
 -- the word of the four cells from an index on
-abbrev pub word_in : List SymByte → ℕ → SymWord
-word_in cells i = record { b0 = slice_index_or cells i Undef; b1 = slice_index_or cells (i + 1) Undef; b2 = slice_index_or cells (i + 2) Undef; b3 = slice_index_or cells (i + 3) Undef }
+abbrev pub cell_word : List SymByte → ℕ → SymWord
+cell_word cells i = record { b0 = slice_index_or cells i Undef; b1 = slice_index_or cells (i + 1) Undef; b2 = slice_index_or cells (i + 2) Undef; b3 = slice_index_or cells (i + 3) Undef }
 
 -- the word of the four numbers from an index on
 abbrev pub bytes_in : List ℕ → ℕ → SymWord

@@ -2,7 +2,7 @@
 
 ghost use Rattle.std.specs.Prelude.{◌≡◌, ◌≤◌, ◌<◌, ◌+◌, ◌-◌, ◌++◌, ◌∷◌, [], ◌^◌, ◌%◌, ℕ, IfOk, IfSome, length, map, replicate, slice_index_or};
 ghost use Rattle.rv_decode.specs.Memory.{blank, written};
-ghost use Rattle.sym_machine.specs.Pages.{AreCellsWritten, word_in};
+ghost use Rattle.sym_machine.specs.Pages.{AreCellsWritten, cell_word};
 ghost use Rattle.sym_machine.specs.Words.{number_word};
 ghost use Rattle.sym_machine.specs.declared.word.SymByte.{SymByte};
 ghost use Rattle.sym_machine.specs.declared.word.SymByte.TheVariants.{Num, Undef};
@@ -109,7 +109,7 @@ impl Pages {
     #[inline(always)]
     pub fn word_at(&self, i: usize) -> Option<u32>
         requires { i + 4 ≤ length self.now }
-        ensures { IfSome result (λ n. number_word n ≡ word_in self.now i) }
+        ensures { IfSome result (λ n. number_word n ≡ cell_word self.now i) }
     {
         if i % PAGE > PAGE - 4 {
             return None;
@@ -121,7 +121,7 @@ impl Pages {
     #[inline(always)]
     pub fn word(&self, i: usize) -> SymWord
         requires { i + 4 ≤ length self.now }
-        ensures { result ≡ word_in self.now i }
+        ensures { result ≡ cell_word self.now i }
     {
         if i % PAGE > PAGE - 4 {
             return self.word_across(i);
@@ -133,7 +133,7 @@ impl Pages {
     #[cold]
     fn word_across(&self, i: usize) -> SymWord
         requires { i + 4 ≤ length self.now }
-        ensures { result ≡ word_in self.now i }
+        ensures { result ≡ cell_word self.now i }
     {
         // The number of cells is far below the largest index, so no sum overflows.
         let _size = self.len();

@@ -3,7 +3,7 @@
 ghost use Rattle.std.specs.Bool.{OnTrue};
 ghost use Rattle.std.specs.Prelude.{◌≡◌, ◌≤◌, ◌<◌, ◌+◌, ◌-◌, ◌*◌, ◌/◌, ◌%◌, ◌^◌, ℕ, IfOk, IfSome, length, map, replicate, slice_index, slice_index_or};
 ghost use Rattle.rv_decode.specs.Memory.{written};
-ghost use Rattle.sym_machine.specs.Pages.{IsMade, IsPooled, IsSame, bytes_in, number_in_pool, page_of, pooled_cell, pooled_word, word_in};
+ghost use Rattle.sym_machine.specs.Pages.{IsMade, IsPooled, IsSame, bytes_in, number_in_pool, page_of, pooled_cell, pooled_word, cell_word};
 ghost use Rattle.sym_machine.specs.Words.{number_word};
 ghost use Rattle.sym_machine.specs.declared.page.Page.TheVariants as page;
 ghost use Rattle.sym_machine.specs.declared.word.SymByte.TheVariants.{Num, Undef};
@@ -397,7 +397,7 @@ fn word_in_numbers(numbers: &Vec<u8>, page: usize, offset: usize) -> SymWord
 #[inline(always)]
 fn word_in_cells(cells: &Vec<SymByte>, page: usize, offset: usize) -> SymWord
     requires { 4096 * page + offset + 4 ≤ length cells.now.items }
-    ensures { result ≡ word_in cells.now.items (4096 * page + offset) }
+    ensures { result ≡ cell_word cells.now.items (4096 * page + offset) }
 {
     let x = PAGE * page + offset;
     SymWord {
@@ -422,7 +422,7 @@ fn number_in_numbers(numbers: &Vec<u8>, page: usize, offset: usize) -> u32
 #[inline(always)]
 fn number_in_cells(cells: &Vec<SymByte>, page: usize, offset: usize) -> Option<u32>
     requires { 4096 * page + offset + 4 ≤ length cells.now.items }
-    ensures { IfSome result (λ n. number_word n ≡ word_in cells.now.items (4096 * page + offset)) }
+    ensures { IfSome result (λ n. number_word n ≡ cell_word cells.now.items (4096 * page + offset)) }
 {
     let x = PAGE * page + offset;
     word_of(&cells[x], &cells[x + 1], &cells[x + 2], &cells[x + 3])

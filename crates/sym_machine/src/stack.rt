@@ -4,7 +4,7 @@
 
 ghost use Rattle.std.specs.Prelude.{◌≡◌, ◌≤◌, ◌<◌, ◌+◌, ◌*◌, ◌/◌, ◌%◌, ◌^◌, ◌∷◌, [], ℕ, IfOk, IfSome, false, length, map, nat_lt, slice_index_or, true, if◌then◌else◌};
 ghost use Rattle.rv_decode.specs.Memory.{blank};
-ghost use Rattle.sym_machine.specs.Pages.{AreCellsWritten, word_in};
+ghost use Rattle.sym_machine.specs.Pages.{AreCellsWritten, cell_word};
 ghost use Rattle.sym_machine.specs.Stack.{AreAlike, AreOpened, is_open, stack_cells};
 ghost use Rattle.sym_machine.specs.Words.{number_word};
 ghost use Rattle.sym_machine.specs.declared.word.SymByte.{SymByte};
@@ -114,7 +114,7 @@ impl Stack {
     #[inline(always)]
     pub fn word_at(&self, i: usize) -> Option<u32>
         requires { i + 4 ≤ length (stack_cells self.now) }
-        ensures { IfSome result (λ n. number_word n ≡ word_in (stack_cells self.now) i) }
+        ensures { IfSome result (λ n. number_word n ≡ cell_word (stack_cells self.now) i) }
     {
         if i % STRIP <= STRIP - 4 && self.is_open(i) {
             self.cells.word_at(i)
@@ -127,7 +127,7 @@ impl Stack {
     #[inline(always)]
     pub fn word(&self, i: usize) -> SymWord
         requires { i + 4 ≤ length (stack_cells self.now) }
-        ensures { result ≡ word_in (stack_cells self.now) i }
+        ensures { result ≡ cell_word (stack_cells self.now) i }
     {
         if i % STRIP <= STRIP - 4 && self.is_open(i) {
             self.cells.word(i)
@@ -140,7 +140,7 @@ impl Stack {
     #[cold]
     fn word_across(&self, i: usize) -> SymWord
         requires { i + 4 ≤ length (stack_cells self.now) }
-        ensures { result ≡ word_in (stack_cells self.now) i }
+        ensures { result ≡ cell_word (stack_cells self.now) i }
     {
         // The number of cells is far below the largest index, so no sum overflows.
         let _size = self.len();

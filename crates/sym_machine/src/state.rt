@@ -52,14 +52,14 @@ pub struct State {
 
 impl Model for State {
     ghost use Rattle.std.specs.Prelude.{◌≤◌, drop, length};
-    ghost use Rattle.sym_machine.specs.Kept.{IsWorking, Working, regions_of, words_of};
+    ghost use Rattle.sym_machine.specs.Kept.{IsWorking, Working, regions_of, register_words};
 
     ghost Value = { Working };
 
     ghost view = { λ s. record {
       core = record {
         place = s.place;
-        regs = words_of s.registers;
+        regs = register_words s.registers;
         memory = regions_of s.memory;
         input = drop s.taken s.input.items;
         exit = s.exit;
@@ -67,7 +67,7 @@ impl Model for State {
       map = s.memory.map;
     } };
 
-    ghost invariant = { λ s. IsWorking (words_of s.registers) s.memory × (s.taken ≤ length s.input.items) };
+    ghost invariant = { λ s. IsWorking (register_words s.registers) s.memory × (s.taken ≤ length s.input.items) };
 }
 
 impl State {

@@ -12,7 +12,7 @@ use Rattle.rv_decode.proofs.RowLaws.{EachRow}
 use Rattle.zc_decode.specs.Fields as fields
 use Rattle.zc_decode.specs.Fields.{c_rd_of, c_rs2_of, index_of, list_of, s_register_of}
 use Rattle.zc_decode.specs.Halfwords.{decoded16, spelled}
-use Rattle.zc_decode.specs.Lists.{base_of, registers_of, saved_registers}
+use Rattle.zc_decode.specs.Lists.{stack_adjust_base, registers_of, saved_registers}
 use Rattle.zc_decode.specs.Operands.{HasOperands, IsFrameSize, IsMoved}
 use Rattle.zc_decode.specs.Rows.{form_of, groups, jump_row, operations, register_rows, unless, zcmp_lists, zcmp_moves, zcmp_rows, zcb_memory, zcb_unary}
 use Rattle.zc_decode.specs.declared.form.Form.{Form}
@@ -233,7 +233,7 @@ spelled_operands half short spells = by (form_of half) (form_fits half) spells
 
 -- ---- what follows of a frame
 
-base_whole : (list : ℕ) → base_of list % 16 ≡ 0
+base_whole : (list : ℕ) → stack_adjust_base list % 16 ≡ 0
 base_whole list = by (eqb list 15) (ltb list 8) (ltb list 12)
   where
     by : (a b c : Bool) → cond a 64 (cond b 16 (cond c 32 48)) % 16 ≡ 0
@@ -242,7 +242,7 @@ base_whole list = by (eqb list 15) (ltb list 8) (ltb list 12)
     by false false true = refl
     by false false false = refl
 
-base_least : (list : ℕ) → 16 ≤ base_of list
+base_least : (list : ℕ) → 16 ≤ stack_adjust_base list
 base_least list = by (eqb list 15) (ltb list 8) (ltb list 12)
   where
     by : (a b c : Bool) → 16 ≤ cond a 64 (cond b 16 (cond c 32 48))
@@ -251,7 +251,7 @@ base_least list = by (eqb list 15) (ltb list 8) (ltb list 12)
     by false false true = omega arith
     by false false false = omega arith
 
-base_most : (list : ℕ) → base_of list ≤ 64
+base_most : (list : ℕ) → stack_adjust_base list ≤ 64
 base_most list = by (eqb list 15) (ltb list 8) (ltb list 12)
   where
     by : (a b c : Bool) → cond a 64 (cond b 16 (cond c 32 48)) ≤ 64
@@ -289,7 +289,7 @@ each_below P (suc n) all k few = ⊎_elim
 pub record IsFrameList (list : ℕ) : Type 0 where
   pub some : 0 < length (registers_of list)
   pub last : get_or (registers_of list) (length (registers_of list) - 1) 0 ≡ 1
-  pub room : 4 * length (registers_of list) ≤ base_of list
+  pub room : 4 * length (registers_of list) ≤ stack_adjust_base list
 
 frame_lists : AllBelow (λ k. IsFrameList (4 + k)) 12
 frame_lists = (

@@ -2,7 +2,7 @@
 -- RISC-V Zc specification 1.0, "Zcb", "Zcmp" and "Zcmt").
 use Rattle.std.specs.Prelude.{ℕ, ℤ, ◌+◌, ◌-◌, ◌*◌, ◌^◌, nat_lt, if◌then◌else◌}
 use Rattle.rv_decode.specs.Bits.{field, signed}
-use Rattle.zc_decode.specs.Lists.{base_of}
+use Rattle.zc_decode.specs.Lists.{stack_adjust_base}
 
 -- which rows are possible: bits 15 to 13 and 1 to 0, as one number of five bits
 abbrev pub group_of : ℕ → ℕ
@@ -74,7 +74,7 @@ swsp_of half = field half 7 2 * 2 ^ 6 + field half 9 4 * 2 ^ 2
 
 -- the bytes that a push or pop moves sp by: its list's base, and sixteens by bits 3 to 2
 abbrev pub adjust_of : ℕ → ℕ
-adjust_of half = base_of (list_of half) + 16 * field half 2 2
+adjust_of half = stack_adjust_base (list_of half) + 16 * field half 2 2
 
 -- the entry of the jump table: bits 9 to 2
 abbrev pub index_of : ℕ → ℕ

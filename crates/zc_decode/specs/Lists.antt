@@ -10,5 +10,5 @@ abbrev pub registers_of : ℕ → List ℕ
 registers_of list = if list == 15 then saved_registers else drop (16 - list) saved_registers
 
 -- the bytes that sp moves by at least
-abbrev pub base_of : ℕ → ℕ
-base_of list = if list == 15 then 64 else (if nat_lt list 8 then 16 else (if nat_lt list 12 then 32 else 48))
+abbrev pub stack_adjust_base : ℕ → ℕ
+stack_adjust_base list = if list == 15 then 64 else (if nat_lt list 8 then 16 else (if nat_lt list 12 then 32 else 48))

@@ -1,7 +1,7 @@
 -- What the operands of pushes, pops and pairs of moves are (RISC-V Zc specification 1.0, "Zcmp"). Nothing that must be believed
 -- names these: they follow from the tables.
 use Rattle.std.specs.Prelude.{◌≡◌, ◌≢◌, ℕ, ◌≤◌, ◌+◌, ◌*◌, ◌⊎◌, Option, Some, None}
-use Rattle.zc_decode.specs.Lists.{base_of}
+use Rattle.zc_decode.specs.Lists.{stack_adjust_base}
 use Rattle.zc_decode.specs.declared.short.Short.{Short}
 use Rattle.zc_decode.specs.declared.short.Short.TheVariants.{Base, Push, Pop, PopRet, PopRetz, MoveSa, MoveAs, TableJump}
 
@@ -12,7 +12,7 @@ pub record IsFrameSize (list adjust : ℕ) : Type 0 where
   pub to : list ≤ 15
   pub blocks : ℕ
   pub few : blocks ≤ 3
-  pub is : adjust ≡ base_of list + 16 * blocks
+  pub is : adjust ≡ stack_adjust_base list + 16 * blocks
 
 -- a register that moves name: s0 to s7
 abbrev pub IsMoved : ℕ → Type 0

@@ -1,11 +1,11 @@
 // The register lists of pushes and pops.
 
 ghost use Rattle.std.specs.Prelude.{◌≡◌, ◌<◌, ◌≤◌, All, length};
-ghost use Rattle.zc_decode.specs.Lists.{base_of, registers_of};
+ghost use Rattle.zc_decode.specs.Lists.{stack_adjust_base, registers_of};
 
 /// The bytes that a push or pop of a list moves sp by at least.
 pub fn base(list: u32) -> u32
-    ensures value { result ≡ base_of list }
+    ensures value { result ≡ stack_adjust_base list }
     ensures below { result < 65 }
 {
     if list == 15 {

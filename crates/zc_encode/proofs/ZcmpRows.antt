@@ -6,7 +6,7 @@ use Rattle.std.proofs.lemmas.Bool.{and_parts, cond-false, cond-true, lt-ltb, eqb
 use Rattle.rv_decode.specs.Bits.{field}
 use Rattle.rv_decode.specs.Decode.{row_of}
 use Rattle.zc_decode.specs.Fields.{adjust_of, group_of, index_of, list_of, r1s_of, r2s_of, s_register_of}
-use Rattle.zc_decode.specs.Lists.{base_of}
+use Rattle.zc_decode.specs.Lists.{stack_adjust_base}
 use Rattle.zc_decode.specs.Rows.{form_of, unless, zcmp_lists, zcmp_moves}
 use Rattle.zc_decode.specs.declared.form.Form.{Form}
 use Rattle.zc_decode.specs.declared.form.Form.TheVariants.{CmJalt, CmJt, CmMva01s, CmMvsa01, CmPop, CmPopret, CmPopretz, CmPush}
@@ -30,14 +30,14 @@ record OfList (kind list adjust half : ℕ) : Type 0 where
 
 of_list : (kind list adjust half : ℕ) → kind < 16 → list_half kind list adjust ≡ Some half → OfList kind list adjust half
 of_list kind list adjust half four h =
-    let base = base_of list in
+    let base = stack_adjust_base list in
     let more = adjust - base in
     let t = when_some (leb 4 list && (ltb list 16 && (leb base adjust && (eqb (more % 16) 0 && ltb more 64)))) (half_of 0b101_10 1 (kind * 2 + field list 3 1) (field list 0 3 * 4 + more / 16)) half h in
     let p = and_parts (leb 4 list) (ltb list 16 && (leb base adjust && (eqb (more % 16) 0 && ltb more 64))) t.0 in
     let tests = and_four (ltb list 16) (leb base adjust) (eqb (more % 16) 0) (ltb more 64) p.1 in
     built base (leb-true 4 list p.0) (ltb-true list 16 tests.0) (leb-true base adjust tests.1) (eqb-true (more % 16) 0 tests.2) (ltb-true more 64 tests.3) t.1 refl
   where
-    built : (base : ℕ) → 4 ≤ list → list < 16 → base ≤ adjust → (adjust - base) % 16 ≡ 0 → adjust - base < 64 → half ≡ half_of 0b101_10 1 (kind * 2 + field list 3 1) (field list 0 3 * 4 + (adjust - base) / 16) → base_of list ≡ base → OfList kind list adjust half
+    built : (base : ℕ) → 4 ≤ list → list < 16 → base ≤ adjust → (adjust - base) % 16 ≡ 0 → adjust - base < 64 → half ≡ half_of 0b101_10 1 (kind * 2 + field list 3 1) (field list 0 3 * 4 + (adjust - base) / 16) → stack_adjust_base list ≡ base → OfList kind list adjust half
     built base least most more_than whole few is same =
         let f = fields_of 0b101_10 1 (kind * 2 + field list 3 1) (field list 0 3 * 4 + (adjust - base) / 16) half is (omega arith) (omega arith) (omega (arith, four)) (omega (arith, few)) in
         let number : list_of half ≡ list = omega (arith, f.above, f.below, most, few) in
@@ -49,7 +49,7 @@ of_list kind list adjust half four h =
           twelfth = omega (arith, f.twelfth, f.above, four);
           kind_is = omega (arith, f.twelfth, f.above, four);
           list_is = number;
-          adjust_is = (λ i. base_of (number i) + 16 * more i) ∙ ap (λ b. b + 16 * ((adjust - base) / 16)) same ∙ sum;
+          adjust_is = (λ i. stack_adjust_base (number i) + 16 * more i) ∙ ap (λ b. b + 16 * ((adjust - base) / 16)) same ∙ sum;
           some = ap (λ k. ltb k 4) number ∙ le-ltb list 4 least;
         }
 

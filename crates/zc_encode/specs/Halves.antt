@@ -21,7 +21,7 @@ use Rattle.rv_decode.specs.Bits.{as_word, field}
 use Rattle.rv_decode.specs.Normal.{normal_of}
 use Rattle.zc_decode.specs.declared.short.Short.{Short}
 use Rattle.zc_decode.specs.declared.short.Short.TheVariants.{Base, Push, Pop, PopRet, PopRetz, MoveSa, MoveAs, TableJump}
-use Rattle.zc_decode.specs.Lists.{base_of}
+use Rattle.zc_decode.specs.Lists.{stack_adjust_base}
 
 -- ---- fields
 
@@ -288,8 +288,8 @@ half_for (Csrrw rd source) = None
 -- a push or pop by bits 11 to 8, its list, and the sixteens that sp moves by beyond the list's base
 abbrev pub list_half : ℕ → ℕ → ℕ → Option ℕ
 list_half kind list adjust =
-    let more = adjust - base_of list in
-    when (nat_le 4 list && (nat_lt list 16 && (nat_le (base_of list) adjust && (more % 16 == 0 && nat_lt more 64))))
+    let more = adjust - stack_adjust_base list in
+    when (nat_le 4 list && (nat_lt list 16 && (nat_le (stack_adjust_base list) adjust && (more % 16 == 0 && nat_lt more 64))))
     (half_of 0b101_10 1 (kind * 2 + field list 3 1) (field list 0 3 * 4 + more / 16))
 
 -- the number of one of s0 to s7 in three bits; 8 of another register

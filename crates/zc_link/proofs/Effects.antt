@@ -11,7 +11,7 @@ use Rattle.rv_decode.specs.Memory.{Extent, byte_of, extents_of, is_data, lies_in
 use Rattle.rv_decode.specs.State.{ZcCore, reg_in, set_reg, word_at}
 use Rattle.rv_decode.proofs.MemoryLaws.{extents-changed}
 use Rattle.rv_decode.proofs.RegisterLaws.{length-set_reg, reads-set_reg_other}
-use Rattle.zc_link.specs.Invariants.Groups.{Slot, loads_of, stores_of}
+use Rattle.zc_link.specs.Invariants.Groups.{Slot, slot_loads, stores_of}
 use Rattle.zc_link.proofs.Slots.{IsOneOf}
 use Rattle.zc_link.proofs.SlotWords.{read_all, written_all}
 
@@ -118,7 +118,7 @@ pub record LoadsAre (base : ℕ) (ds : List Slot) (y z : ZcCore) : Type 0 where
   pub reach : AreReached (extents_of y.memory) base ds
 
 pub loads_are :
-    (base : ℕ) (ds : List Slot) (y z : ZcCore) → reg_in y 2 ≡ base → ((d : Slot) → IsOneOf d ds → (base + d.offset < 2 ^ 32) × (d.register ≢ 2)) → Effects (loads_of ds) y z
+    (base : ℕ) (ds : List Slot) (y z : ZcCore) → reg_in y 2 ≡ base → ((d : Slot) → IsOneOf d ds → (base + d.offset < 2 ^ 32) × (d.register ≢ 2)) → Effects (slot_loads ds) y z
     → LoadsAre base ds y z
 loads_are base [] y z at small h = record { regs = ap (λ x. x.regs) h; memory = ap (λ x. x.memory) h; rest = keeps_same h; reach = λ d m. absurd m }
 loads_are base (d ∷ ds) y z at small h =
@@ -129,7 +129,7 @@ loads_are base (d ∷ ds) y z at small h =
     let first : reaching 4 (base + d.offset) y (Commits y1) ≡ Commits h.1 = subst (λ x. reaching 4 x y (Commits (after x)) ≡ Commits h.1) a h.2 in
     let ok = reached_by (base + d.offset) y y1 h.1 first in
     let at1 : reg_in y1 2 ≡ base = reads-set_reg_other 0 0 y.regs d.register (word_at y (base + d.offset)) 2 (λ is. in_range.1 (sym is)) ∙ at in
-    let rest = loads_are base ds y1 z at1 (λ c m. small c (inr m)) (subst (λ x. Effects (loads_of ds) x z) ok.0 h.3) in
+    let rest = loads_are base ds y1 z at1 (λ c m. small c (inr m)) (subst (λ x. Effects (slot_loads ds) x z) ok.0 h.3) in
     record {
       regs = rest.regs;
       memory = rest.memory;
@@ -143,7 +143,7 @@ loads_are base (d ∷ ds) y z at small h =
 
 -- whatever they load, sp stays
 pub loads_sp :
-    (ds : List Slot) (y z : ZcCore) → ((d : Slot) → IsOneOf d ds → d.register ≢ 2) → Effects (loads_of ds) y z → (reg_in z 2 ≡ reg_in y 2) × (length z.regs ≡ length y.regs)
+    (ds : List Slot) (y z : ZcCore) → ((d : Slot) → IsOneOf d ds → d.register ≢ 2) → Effects (slot_loads ds) y z → (reg_in z 2 ≡ reg_in y 2) × (length z.regs ≡ length y.regs)
 loads_sp [] y z no_sp h = (ap (λ x. reg_in x 2) h, ap (λ x. length x.regs) h)
 loads_sp (d ∷ ds) y z no_sp h =
     let a : ℕ = add32 (reg_in y 2) (pos d.offset) in

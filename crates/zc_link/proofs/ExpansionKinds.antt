@@ -15,7 +15,7 @@ use Rattle.zc_decode.proofs.OperandLaws.{frame_range, spelled_operands}
 use Rattle.zc_machine.specs.Fetch.{Found}
 use Rattle.zc_link.specs.Image.{Image}
 use Rattle.zc_link.specs.Invariants.Stretches.{OneAt}
-use Rattle.zc_link.specs.Invariants.Groups.{A0First, GoesOn, GroupKind, IsFrame, IsGroup, MovesFromSaved, MovesToSaved, PopOf, PushOf, Returns, Slot, ZeroBeforeRaise, adjust_of, group_half, group_ops, group_rest, loads_of, lower_sp, raise_sp, rest_of, return_to_ra, slots_below, stores_of, zero_a0}
+use Rattle.zc_link.specs.Invariants.Groups.{A0First, GoesOn, GroupKind, IsFrame, IsGroup, MovesFromSaved, MovesToSaved, PopOf, PushOf, Returns, Slot, ZeroBeforeRaise, frame_adjust, group_half, group_ops, group_rest, slot_loads, lower_sp, raise_sp, rest_of, return_to_ra, slots_below, stores_of, zero_a0}
 
 -- the instructions are those of a group without a rest, and the halfword is the group's
 pub record IsExpansionKind (short : Short) (is : List Instr) : Type 0 where
@@ -33,7 +33,7 @@ stores_are : (top : ℕ) (rs : List ℕ) → stores_of (slots_below top rs) ≡ 
 stores_are top [] = refl
 stores_are top (r ∷ rs) = λ j. saves top (r ∷ []) ++ stores_are (top - 4) rs j
 
-loads_are : (top : ℕ) (rs : List ℕ) → loads_of (slots_below top rs) ≡ restores top rs
+loads_are : (top : ℕ) (rs : List ℕ) → slot_loads (slots_below top rs) ≡ restores top rs
 loads_are top [] = refl
 loads_are top (r ∷ rs) = λ j. restores top (r ∷ []) ++ loads_are (top - 4) rs j
 
@@ -59,12 +59,12 @@ module _ (list adjust : ℕ) (size : IsFrameSize list adjust) where
   none : rest_of list adjust ≡ 0
   none = (let is = size.is in let few = size.few in omega (arith, is, few))
 
-  all : adjust_of list adjust ≡ adjust
+  all : frame_adjust list adjust ≡ adjust
   all = (let n = none in omega (arith, n))
 
   -- the loads of slots, and what stands behind them
-  behind_loads : (is js : List Instr) → (loads_of slots ++ is) ++ js ≡ restores adjust (registers_of list) ++ (is ++ js)
-  behind_loads is js = append_assoc (loads_of slots) is js ∙ ap (λ l. l ++ (is ++ js)) (loads_are adjust (registers_of list))
+  behind_loads : (is js : List Instr) → (slot_loads slots ++ is) ++ js ≡ restores adjust (registers_of list) ++ (is ++ js)
+  behind_loads is js = append_assoc (slot_loads slots) is js ∙ ap (λ l. l ++ (is ++ js)) (loads_are adjust (registers_of list))
 
 -- ---- kinds
 

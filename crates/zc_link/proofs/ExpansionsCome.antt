@@ -21,7 +21,7 @@ use Rattle.sym_machine.proofs.StepLaws.{Ended, ended}
 use Rattle.zc_decode.specs.Halfwords.{decoded16}
 use Rattle.zc_decode.specs.declared.short.Short.{Short}
 use Rattle.zc_decode.specs.declared.short.Short.TheVariants.{Push}
-use Rattle.zc_link.specs.Invariants.Groups.{Ending, GoesOn, GroupKind, IsGroup, MovesFromSaved, MovesToSaved, PopOf, PushOf, Returns, Slot, ZeroBeforeRaise, ZeroBeforeReturn, ZeroFirst, adjust_of, group_half, group_ops, group_rest, loads_of, move_ops, ops_before_return, pop_kind, pop_ops, push_ops, raise_sp, rest_of, return_ops, return_to_ra, zero_a0}
+use Rattle.zc_link.specs.Invariants.Groups.{Ending, GoesOn, GroupKind, IsGroup, MovesFromSaved, MovesToSaved, PopOf, PushOf, Returns, Slot, ZeroBeforeRaise, ZeroBeforeReturn, ZeroFirst, frame_adjust, group_half, group_ops, group_rest, slot_loads, move_ops, ops_before_return, pop_kind, pop_ops, push_ops, raise_sp, rest_of, return_ops, return_to_ra, zero_a0}
 use Rattle.zc_link.specs.Image.{Image}
 use Rattle.zc_link.specs.IsSimulation.{Comes}
 use Rattle.zc_link.specs.Invariants.Room.{Room}
@@ -43,7 +43,7 @@ use Rattle.zc_link.proofs.Zeroed.{final_regs, without_zero}
 
 module _ {p : Program} {Named : Place → Type 0} {e : Image} (room : Room p e) {r : PlainState} {cuts : ℕ → List Interrupt} {z : ZcState} (from : FromPlace p Named e r cuts z)
     (next : Place) {list frame : ℕ} {order : List Slot} (facts : FrameFacts list frame order) (none : rest_of list frame ≡ 0) (ending : Ending)
-    (half : OneAt e z.core.pc (pop_kind ending list (adjust_of list frame))) (m : PlainCore) (h : in_turn p.map (ops_before_return ending frame order) next r.core ≡ Went m []) where
+    (half : OneAt e z.core.pc (pop_kind ending list (frame_adjust list frame))) (m : PlainCore) (h : in_turn p.map (ops_before_return ending frame order) next r.core ≡ Went m []) where
   abbrev before : List Instr
   before = ops_before_return ending frame order
 
@@ -54,10 +54,10 @@ module _ {p : Program} {Named : Place → Type 0} {e : Image} (room : Room p e) 
   some_before = by ending
     where
       by : (k : Ending) → 0 < length (ops_before_return k frame order)
-      by GoesOn = (let l = length-append (loads_of order) (raise_sp frame ∷ []) in omega (arith, l))
-      by Returns = (let l = length-append (loads_of order) (raise_sp frame ∷ []) in omega (arith, l))
+      by GoesOn = (let l = length-append (slot_loads order) (raise_sp frame ∷ []) in omega (arith, l))
+      by Returns = (let l = length-append (slot_loads order) (raise_sp frame ∷ []) in omega (arith, l))
       by ZeroFirst = omega arith
-      by ZeroBeforeRaise = (let l = length-append (loads_of order) (zero_a0 ∷ raise_sp frame ∷ []) in omega (arith, l))
+      by ZeroBeforeRaise = (let l = length-append (slot_loads order) (zero_a0 ∷ raise_sp frame ∷ []) in omega (arith, l))
       by ZeroBeforeReturn = (let l = length-append (pop_ops frame order) (zero_a0 ∷ []) in omega (arith, l))
 
   done : AllDone p Named e before next r.core middle z.core
@@ -94,7 +94,7 @@ module _ {p : Program} {Named : Place → Type 0} {e : Image} (room : Room p e) 
   -- ---- a push
 
   push_turns :
-      {list frame : ℕ} {order : List Slot} → FrameFacts list frame order → rest_of list frame ≡ 0 → (half : OneAt e z.core.pc (Push list (adjust_of list frame)))
+      {list frame : ℕ} {order : List Slot} → FrameFacts list frame order → rest_of list frame ≡ 0 → (half : OneAt e z.core.pc (Push list (frame_adjust list frame)))
       → in_turn p.map (push_ops frame order) next r.core ≡ Went r'.core made → e.address next ≡ Some (z.core.pc + half.size) → Comes p Named e cuts 1 z r'
   push_turns {list} {frame} {order} facts none half h listed =
       let is = push_ops frame order in
@@ -132,14 +132,14 @@ module _ {p : Program} {Named : Place → Type 0} {e : Image} (room : Room p e) 
               known (Some q) g = (let is : sets 0 (code_word next) q ≡ c = cc in ap (λ (x : Change). x.events) (sym is))
 
   pop_turns :
-      {list frame : ℕ} {order : List Slot} → FrameFacts list frame order → rest_of list frame ≡ 0 → (ending : Ending) → (half : OneAt e z.core.pc (pop_kind ending list (adjust_of list frame)))
+      {list frame : ℕ} {order : List Slot} → FrameFacts list frame order → rest_of list frame ≡ 0 → (ending : Ending) → (half : OneAt e z.core.pc (pop_kind ending list (frame_adjust list frame)))
       → in_turn p.map (ops_before_return ending frame order ++ return_ops ending) next r.core ≡ Went r'.core made → e.address next ≡ Some (z.core.pc + half.size)
       → Comes p Named e cuts 1 z r'
   pop_turns {list} {frame} {order} facts none ending half h listed = by ending half h listed
     where
       -- one that returns
       landed :
-          (k : Ending) (at : OneAt e z.core.pc (pop_kind k list (adjust_of list frame))) → return_ops k ≡ return_to_ra ∷ []
+          (k : Ending) (at : OneAt e z.core.pc (pop_kind k list (frame_adjust list frame))) → return_ops k ≡ return_to_ra ∷ []
           → in_turn p.map (ops_before_return k frame order ++ return_to_ra ∷ []) next r.core ≡ Went r'.core made → Comes p Named e cuts 1 z r'
       landed k at is g =
           let parts = in_turn-apart p.map (ops_before_return k frame order) (return_to_ra ∷ []) next r.core r'.core made g in
@@ -148,7 +148,7 @@ module _ {p : Program} {Named : Place → Type 0} {e : Image} (room : Room p e) 
           (turn_lands parts.middle (record b.now { regs = final_regs k b.done.regs }) b.done.alike parts.rest)
 
       by :
-          (k : Ending) → (at : OneAt e z.core.pc (pop_kind k list (adjust_of list frame))) → in_turn p.map (ops_before_return k frame order ++ return_ops k) next r.core ≡ Went r'.core made
+          (k : Ending) → (at : OneAt e z.core.pc (pop_kind k list (frame_adjust list frame))) → in_turn p.map (ops_before_return k frame order ++ return_ops k) next r.core ≡ Went r'.core made
           → e.address next ≡ Some (z.core.pc + at.size) → Comes p Named e cuts 1 z r'
       by GoesOn at g to =
           let parts = in_turn-apart p.map (ops_before_return GoesOn frame order) [] next r.core r'.core made g in

@@ -13,7 +13,7 @@ use Rattle.sym_machine.proofs.RunLaws.{SteppedExpansion}
 use Rattle.zc_decode.specs.declared.short.Short.{Short}
 use Rattle.zc_decode.specs.declared.short.Short.TheVariants.{MoveAs, MoveSa, Push}
 use Rattle.zc_link.specs.DataApart.{IsCell, all_poked}
-use Rattle.zc_link.specs.Invariants.Groups.{GroupKind, IsGroup, MovesFromSaved, MovesToSaved, PopOf, PushOf, adjust_of, group_half, group_ops, group_rest, ops_before_return, pop_kind, push_ops, return_ops}
+use Rattle.zc_link.specs.Invariants.Groups.{GroupKind, IsGroup, MovesFromSaved, MovesToSaved, PopOf, PushOf, frame_adjust, group_half, group_ops, group_rest, ops_before_return, pop_kind, push_ops, return_ops}
 use Rattle.zc_link.specs.Image.{Image}
 use Rattle.zc_link.specs.Invariants.Room.{Room}
 use Rattle.zc_link.specs.Sound.{Alike, Sound}
@@ -37,7 +37,7 @@ module _ {p : Program} {Named : Place → Type 0} {e : Image} (room : Room p e) 
       let facts = frame_facts list frame order is in
       let f = (all_done room (push_ops frame order) next s r' made y (push_straight facts) h al).follow in
       let deep = push_deep p.map.stack_low p.map.stack_high frame order y f.after room.deep room.top facts.some facts.most al.core.count al.low al.high f.alike.low f.alike.high f.effects in
-      one_left room (Push list (adjust_of list frame)) (reg_in y 2) pc at (APush list frame order facts deep)
+      one_left room (Push list (frame_adjust list frame)) (reg_in y 2) pc at (APush list frame order facts deep)
   left_by (PopOf ending list frame order) is none s r' made y next pc at h al =
       let facts = frame_facts list frame order is in
       let before = ops_before_return ending frame order in
@@ -48,7 +48,7 @@ module _ {p : Program} {Named : Place → Type 0} {e : Image} (room : Room p e) 
       let low = f.alike.low in
       let top = pop_top room facts s y wz.zp al (omega (arith, sp, low)) wz.effects in
       let sum = facts.sum in
-      one_left room (pop_kind ending list (adjust_of list frame)) (reg_in y 2) pc at (APop ending list frame order facts (reg_in y 2) al.low (omega (arith, sum, none)) top.0)
+      one_left room (pop_kind ending list (frame_adjust list frame)) (reg_in y 2) pc at (APop ending list frame order facts (reg_in y 2) al.low (omega (arith, sum, none)) top.0)
   left_by (MovesToSaved order first second) is none s r' made y next pc at h al = one_left room (MoveSa first second) (reg_in y 2) pc at (AMoveSa first second)
   left_by (MovesFromSaved order first second) is none s r' made y next pc at h al = one_left room (MoveAs first second) (reg_in y 2) pc at (AMoveAs first second)
 

@@ -30,7 +30,7 @@ use Rattle.zc_machine.specs.Run.{committed, zc_turn}
 use Rattle.zc_machine.specs.Step.{Ended, effect_step, made, zc_step}
 use Rattle.zc_machine.proofs.FetchLaws.{SameText, fetched_same}
 use Rattle.zc_machine.proofs.TurnLaws.{zc_turn-running}
-use Rattle.zc_link.specs.Invariants.Groups.{Ending, GoesOn, Returns, Slot, ZeroBeforeRaise, ZeroBeforeReturn, ZeroFirst, adjust_of, pop_kind, slots_below}
+use Rattle.zc_link.specs.Invariants.Groups.{Ending, GoesOn, Returns, Slot, ZeroBeforeRaise, ZeroBeforeReturn, ZeroFirst, frame_adjust, pop_kind, slots_below}
 use Rattle.zc_link.specs.Image.{Image, loaded_core}
 use Rattle.zc_link.specs.Invariants.Room.{Room}
 use Rattle.zc_link.specs.Sound.{Alike}
@@ -170,11 +170,11 @@ module _ (low : ℕ) (ds : List Slot) (no_sp : AvoidSp ds) (y : ZcCore) (stack :
   -- a pop's load registers of its slots
   pub pop_kept :
       {list frame : ℕ} {order : List Slot} → FrameFacts list frame order → (ending : Ending) (base size : ℕ)
-      → ((d : Slot) → IsOneOf d (slots_below frame (registers_of list)) → IsOneOf d ds) → reg_in y 2 + adjust_of list frame ≡ base + frame → base + frame < 2 ^ 32
-      → (js : List ℕ) (z : ZcCore) → K z → K (done_of (Found (pop_kind ending list (adjust_of list frame)) size) js z)
+      → ((d : Slot) → IsOneOf d (slots_below frame (registers_of list)) → IsOneOf d ds) → reg_in y 2 + frame_adjust list frame ≡ base + frame → base + frame < 2 ^ 32
+      → (js : List ℕ) (z : ZcCore) → K z → K (done_of (Found (pop_kind ending list (frame_adjust list frame)) size) js z)
   pop_kept {list} {frame} facts ending base size among top small js z k =
       let rs = registers_of list in
-      let adjust = adjust_of list frame in
+      let adjust = frame_adjust list frame in
       let short = pop_kind ending list adjust in
       let sp = k.registers 2 no_sp in
       let at : reg_result Add (reg_in z 2) adjust ≡ base + frame = omega (arith, sp, top, small) in

@@ -13,7 +13,7 @@ use Rattle.zc_decode.specs.Accesses.{Access, words_below}
 use Rattle.zc_decode.specs.Effect.{all_accessed, reaching_all, restored, returned, saved, short_effect, zeroed}
 use Rattle.zc_decode.specs.Lists.{registers_of}
 use Rattle.zc_decode.specs.declared.short.Short.TheVariants.{Pop, PopRet, PopRetz, Push}
-use Rattle.zc_link.specs.Invariants.Groups.{Ending, GoesOn, Returns, Slot, ZeroBeforeRaise, ZeroBeforeReturn, ZeroFirst, adjust_of, loads_of, pop_kind, pop_ops, push_ops, raise_sp, slots_below, stores_of}
+use Rattle.zc_link.specs.Invariants.Groups.{Ending, GoesOn, Returns, Slot, ZeroBeforeRaise, ZeroBeforeReturn, ZeroFirst, frame_adjust, slot_loads, pop_kind, pop_ops, push_ops, raise_sp, slots_below, stores_of}
 use Rattle.zc_link.proofs.Effects.{AreReached, Effects, IsReached, KeepsRest, commits_same, effects_apart, keeps_both, keeps_same, loads_are, reaches, stores_are, sum_is}
 use Rattle.zc_link.proofs.Slots.{FrameFacts, IsOneOf, slots_apart}
 use Rattle.zc_link.proofs.SlotWords.{length-read_all, read_all, read_given, reads_out, reads_same, written_all, written_extents, written_given, written_same}
@@ -63,8 +63,8 @@ module _ (base : ℕ) where
 pub record PushMade (list frame size : ℕ) (z zf : ZcCore) : Type 0 where
   pub memory : List (Region ℕ)
   pub does :
-      short_effect (Push list (adjust_of list frame)) size z
-      ≡ Commits (onward (record z { memory = memory }) size (set_reg z.regs 2 (reg_in z 2 - adjust_of list frame)))
+      short_effect (Push list (frame_adjust list frame)) size z
+      ≡ Commits (onward (record z { memory = memory }) size (set_reg z.regs 2 (reg_in z 2 - frame_adjust list frame)))
   pub bytes : (x : ℕ) → cell_at 0 memory x ≡ byte_in zf x
   pub extents : extents_of memory ≡ extents_of z.memory
   pub extents_f : extents_of zf.memory ≡ extents_of z.memory
@@ -96,7 +96,7 @@ module _ {list frame : ℕ} {order : List Slot} (facts : FrameFacts list frame o
       let mem : List (Region ℕ) = written_all given base (slots_below frame rs) z.memory in
       let same_given : written_all (λ r. byte_of (reg_in y r)) base order z.memory ≡ written_all given base order z.memory =
       written_given (λ r. byte_of (reg_in y r)) given base order z.memory (λ d m. ap byte_of (reads-set_reg_other 0 0 z.regs 2 base d.register (facts.register d m).no_sp)) in
-      let adjust = adjust_of list frame in
+      let adjust = frame_adjust list frame in
       let low : ℕ = reg_result Sub (reg_in z 2) adjust in
       let lower : low ≡ reg_in z 2 - adjust = omega (arith, sum, deep, small, most) in
       let left : ℕ → ZcCore = λ t. (let x = all_accessed (Push list adjust) (words_below t rs) z in onward x size (set_reg x.regs 2 low)) in
@@ -164,7 +164,7 @@ pop_effect ZeroBeforeReturn list adjust size z =
 -- another from y
 pub record PopMade (ending : Ending) (list frame size : ℕ) (y z zf : ZcCore) : Type 0 where
   pub regs : List ℕ
-  pub does : short_effect (pop_kind ending list (adjust_of list frame)) size z ≡ Commits (ended ending (onward z size regs))
+  pub does : short_effect (pop_kind ending list (frame_adjust list frame)) size z ≡ Commits (ended ending (onward z size regs))
   pub same :
       (r : ℕ) → (r ≢ 2 → ((d : Slot) → IsOneOf d (slots_below frame (registers_of list)) → d.register ≢ r) → reg_in z r ≡ reg_in y r) → reads 0 0 regs r ≡ reg_in zf r
   pub long : length regs ≡ 32
@@ -189,15 +189,15 @@ set_sp xs ys v w r long_x long_y is same = ⊎_elim
 
 module _ {list frame : ℕ} {order : List Slot} (facts : FrameFacts list frame order) where
   pub pop_made :
-      (ending : Ending) (size rest : ℕ) (y z zf : ZcCore) → length y.regs ≡ 32 → length z.regs ≡ 32 → rest + adjust_of list frame ≡ frame → reg_in y 2 + frame < 2 ^ 32
+      (ending : Ending) (size rest : ℕ) (y z zf : ZcCore) → length y.regs ≡ 32 → length z.regs ≡ 32 → rest + frame_adjust list frame ≡ frame → reg_in y 2 + frame < 2 ^ 32
       → reg_in z 2 ≡ reg_in y 2 + rest → extents_of z.memory ≡ extents_of y.memory
       → ((d : Slot) → IsOneOf d (slots_below frame (registers_of list)) → word_at z (reg_in y 2 + d.offset) ≡ word_at y (reg_in y 2 + d.offset))
       → Effects (pop_ops frame order) y zf → PopMade ending list frame size y z zf
   pop_made ending size rest y z zf long_y long_z sum small at ext words h =
       let rs = registers_of list in
-      let adjust = adjust_of list frame in
+      let adjust = frame_adjust list frame in
       let base : ℕ = reg_in y 2 in
-      let parts = effects_apart (loads_of order) (raise_sp frame ∷ []) y zf h in
+      let parts = effects_apart (slot_loads order) (raise_sp frame ∷ []) y zf h in
       let ye : ZcCore = parts.0 in
       let ld = loads_are base order y ye refl (λ d m. let u = facts.under d m in (omega (arith, u, small), (facts.register d m).no_sp)) parts.1 in
       let last = sum_is 2 2 (pos frame) ye zf parts.2 in

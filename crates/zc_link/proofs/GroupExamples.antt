@@ -17,7 +17,7 @@ use Rattle.zc_machine.specs.Fetch.{Found, fetched_at}
 use Rattle.zc_machine.specs.Load.{first_core}
 use Rattle.zc_link.specs.Invariants.Groups.{A1First, IsFrame, MovesFromSaved, PopOf, PushOf, Slot, ZeroBeforeRaise}
 use Rattle.zc_link.specs.Image.{Image, loaded_core}
-use Rattle.zc_link.specs.Invariants.Stretches.{GroupLaid, place_on}
+use Rattle.zc_link.specs.Invariants.Stretches.{GroupLaid, place_items_on}
 use Rattle.zc_link.proofs.Slots.{IsOneOf, contained_one, one_contained}
 
 abbrev place_at : ℕ → Place
@@ -122,7 +122,7 @@ push_laid = record {
   next = refl;
 }
   where
-    inside : (k : ℕ) → 0 < k → k < 2 → image.address (place_on program (place_at 0) k) ≡ None
+    inside : (k : ℕ) → 0 < k → k < 2 → image.address (place_items_on program (place_at 0) k) ≡ None
     inside zero some lt = absurd (omega (arith, some))
     inside (suc zero) some lt = refl
     inside (suc (suc k)) some lt = absurd (omega (arith, lt))
@@ -145,7 +145,7 @@ pop_laid = record {
   next = refl;
 }
   where
-    inside : (k : ℕ) → 0 < k → k < 5 → image.address (place_on program (place_at 8) k) ≡ None
+    inside : (k : ℕ) → 0 < k → k < 5 → image.address (place_items_on program (place_at 8) k) ≡ None
     inside zero some lt = absurd (omega (arith, some))
     inside (suc zero) some lt = refl
     inside (suc (suc zero)) some lt = refl
@@ -166,7 +166,7 @@ moves_laid = record {
   next = refl;
 }
   where
-    inside : (k : ℕ) → 0 < k → k < 2 → image.address (place_on program (place_at 28) k) ≡ None
+    inside : (k : ℕ) → 0 < k → k < 2 → image.address (place_items_on program (place_at 28) k) ≡ None
     inside zero some lt = absurd (omega (arith, some))
     inside (suc zero) some lt = refl
     inside (suc (suc k)) some lt = absurd (omega (arith, lt))

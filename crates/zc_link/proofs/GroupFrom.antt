@@ -24,7 +24,7 @@ use Rattle.zc_decode.specs.declared.short.Short.{Short}
 use Rattle.zc_decode.specs.declared.short.Short.TheVariants.{Base, MoveAs, MoveSa, Push}
 use Rattle.zc_machine.specs.Fetch.{fetched_at}
 use Rattle.zc_link.specs.DataApart.{IsCell, all_poked, poked_plain}
-use Rattle.zc_link.specs.Invariants.Groups.{Ending, GroupKind, IsGroup, MovesFromSaved, MovesToSaved, PopOf, PushOf, Slot, adjust_of, frame_commits, group_commits, group_ops, lower_sp, ops_before_return, pop_kind, push_ops, raise_sp, rest_of, return_ops}
+use Rattle.zc_link.specs.Invariants.Groups.{Ending, GroupKind, IsGroup, MovesFromSaved, MovesToSaved, PopOf, PushOf, Slot, frame_adjust, frame_commits, group_commits, group_ops, lower_sp, ops_before_return, pop_kind, push_ops, raise_sp, rest_of, return_ops}
 use Rattle.zc_link.specs.Image.{Image, loaded_core}
 use Rattle.zc_link.specs.Invariants.Room.{Room}
 use Rattle.zc_link.specs.Sound.{Alike, Sound}
@@ -109,14 +109,14 @@ module _ {p : Program} {e : Image} (room : Room p e) where
         at.rest
       where
         push : Short
-        push = Push list (adjust_of list frame)
+        push = Push list (frame_adjust list frame)
 
         second :
             (form : FormAt e (pc + at.half.size) (lower_sp (rest_of list frame))) (y y' : ZcCore) → IsReady room y → length y.regs ≡ 32 → reg_in y 2 ≡ sp → y.pc ≡ pc
             → short_effect push at.half.size y ≡ Commits y' → IsReady room y' × (length y'.regs ≡ 32) × Left room 1 (reg_in y' 2) y'.pc
         second form y y' ready long is_sp is_pc does =
             let size = at.half.size in
-            let adjust = adjust_of list frame in
+            let adjust = frame_adjust list frame in
             let xs = accesses_of push (reg_in y 2) in
             let x : ZcCore = all_accessed push xs y in
             let low : ℕ = reg_result Sub (reg_in y 2) adjust in
@@ -157,7 +157,7 @@ module _ {p : Program} {e : Image} (room : Room p e) where
         at.rest
       where
         pop : Short
-        pop = pop_kind ending list (adjust_of list frame)
+        pop = pop_kind ending list (frame_adjust list frame)
 
         small : sp + frame < 2 ^ 32
         small = let high = room.top in omega (arith, top, high)

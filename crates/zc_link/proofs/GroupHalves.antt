@@ -3,13 +3,13 @@ use Rattle.std.proofs.Common.{◌≡◌, ◌∙◌, ℕ, ◌-◌, ◌<◌, ◌%�
 use Rattle.std.specs.Prelude.{◌&&◌}
 use Rattle.std.proofs.lemmas.Bool.{and_from, eqb-true, false_from_ne_true, le-leb, le-ltb, lt-ltb}
 use Rattle.std.specs.Option.{is_some}
-use Rattle.zc_decode.specs.Lists.{base_of}
+use Rattle.zc_decode.specs.Lists.{stack_adjust_base}
 use Rattle.zc_encode.specs.Halves.{move_half, s_code}
-use Rattle.zc_link.specs.Invariants.Groups.{GoesOn, GroupKind, IsFrame, IsGroup, IsSaved, MovesFromSaved, MovesToSaved, PopOf, PushOf, Returns, Slot, ZeroBeforeRaise, ZeroBeforeReturn, ZeroFirst, adjust_of, group_half, group_rest}
+use Rattle.zc_link.specs.Invariants.Groups.{GoesOn, GroupKind, IsFrame, IsGroup, IsSaved, MovesFromSaved, MovesToSaved, PopOf, PushOf, Returns, Slot, ZeroBeforeRaise, ZeroBeforeReturn, ZeroFirst, frame_adjust, group_half, group_rest}
 use Rattle.zc_link.specs.Standing.{HasHalf}
 
 -- a list's base is a multiple of 16
-base_sixteens : (list : ℕ) → base_of list % 16 ≡ 0
+base_sixteens : (list : ℕ) → stack_adjust_base list % 16 ≡ 0
 base_sixteens list = by (eqb list 15) (ltb list 8) (ltb list 12)
   where
     by : (a b c : Bool) → cond a 64 (cond b 16 (cond c 32 48)) % 16 ≡ 0
@@ -21,19 +21,19 @@ base_sixteens list = by (eqb list 15) (ltb list 8) (ltb list 12)
 -- what one halfword moves sp by is what a list may have
 module _ (list frame : ℕ) (order : List Slot) (is : IsFrame list frame order) where
   abbrev adjust : ℕ
-  adjust = adjust_of list frame
+  adjust = frame_adjust list frame
 
   abbrev more : ℕ
-  more = adjust - base_of list
+  more = adjust - stack_adjust_base list
 
-  fits : (leb 4 list && (ltb list 16 && (leb (base_of list) adjust && (eqb (more % 16) 0 && ltb more 64)))) ≡ true
+  fits : (leb 4 list && (ltb list 16 && (leb (stack_adjust_base list) adjust && (eqb (more % 16) 0 && ltb more 64)))) ≡ true
   fits =
       let base = base_sixteens list in
       let whole = is.whole in
       let least = is.least in
       and_from (leb 4 list) _ (le-leb 4 list is.from)
       (and_from (ltb list 16) _ (lt-ltb list 16 (let to = is.to in omega (arith, to)))
-      (and_from (leb (base_of list) adjust) _ (le-leb (base_of list) adjust (omega (arith, base, whole, least)))
+      (and_from (leb (stack_adjust_base list) adjust) _ (le-leb (stack_adjust_base list) adjust (omega (arith, base, whole, least)))
       (and_from (eqb (more % 16) 0) _ (eq-eqb (more % 16) 0 (omega (arith, base, whole, least))) (lt-ltb more 64 (omega (arith, base, whole, least))))))
 
 pub some_when : (b : Bool) (x : ℕ) → b ≡ true → is_some (cond b (Some x) None) ≡ true

@@ -28,7 +28,7 @@ use Rattle.zc_machine.specs.Step.{Ended, effect_step, made, zc_step}
 use Rattle.zc_machine.proofs.FetchLaws.{SameText, fetched_same}
 use Rattle.zc_machine.proofs.TurnLaws.{zc_turn-running}
 use Rattle.zc_link.specs.DataApart.{CommitsApart, Cuts, CutsApart, IsCell, OnWay, Pokes, Starts, Turns, poked}
-use Rattle.zc_link.specs.Invariants.Groups.{Ending, GoesOn, Returns, Slot, ZeroBeforeRaise, ZeroBeforeReturn, ZeroFirst, adjust_of, pop_kind, slots_below}
+use Rattle.zc_link.specs.Invariants.Groups.{Ending, GoesOn, Returns, Slot, ZeroBeforeRaise, ZeroBeforeReturn, ZeroFirst, frame_adjust, pop_kind, slots_below}
 use Rattle.zc_link.specs.Image.{Image, loaded_core}
 use Rattle.zc_link.specs.Invariants.Room.{Room}
 use Rattle.zc_link.specs.Invariants.Stretches.{OneAt}
@@ -45,10 +45,10 @@ use Rattle.zc_link.proofs.WithByte.{AreAbove, IsOfGroup, all_dirtied_with, done_
 
 -- an instruction of a group, by sp: a push or a pop whose frame lies in the stack, a move, or a sum of sp
 pub data StandsBy (p : Program) (sp : ℕ) : Short → Type 0 where
-  APush : (list frame : ℕ) (order : List Slot) → FrameFacts list frame order → p.map.stack_low + frame ≤ sp → StandsBy p sp (Push list (adjust_of list frame))
+  APush : (list frame : ℕ) (order : List Slot) → FrameFacts list frame order → p.map.stack_low + frame ≤ sp → StandsBy p sp (Push list (frame_adjust list frame))
   APop :
-      (ending : Ending) (list frame : ℕ) (order : List Slot) → FrameFacts list frame order → (base : ℕ) → p.map.stack_low ≤ base → sp + adjust_of list frame ≡ base + frame
-      → base + frame < 2 ^ 32 → StandsBy p sp (pop_kind ending list (adjust_of list frame))
+      (ending : Ending) (list frame : ℕ) (order : List Slot) → FrameFacts list frame order → (base : ℕ) → p.map.stack_low ≤ base → sp + frame_adjust list frame ≡ base + frame
+      → base + frame < 2 ^ 32 → StandsBy p sp (pop_kind ending list (frame_adjust list frame))
   AMoveSa : (first second : ℕ) → StandsBy p sp (MoveSa first second)
   AMoveAs : (first second : ℕ) → StandsBy p sp (MoveAs first second)
   ASum : (i : Instr) (imm : ℤ) → SameEffect i (WithImm Addi 2 2 imm) → StandsBy p sp (Base i)
@@ -84,8 +84,8 @@ above_data {p} {sp} a b _ words under (APush list frame order facts deep) =
     subst (λ t. AreAbove a b (words_below t (registers_of list))) whole
     (words_above a b p.map.stack_low (sp - frame) (registers_of list) frame under (omega (arith, deep)) facts.room (omega (arith, whole, words)))
 above_data {p} {sp} a b _ words under (APop ending list frame order facts base low top small) =
-    let at : reg_result Add sp (adjust_of list frame) ≡ base + frame = omega (arith, top, small) in
-    subst (AreAbove a b) (sym (pop_accesses ending list (adjust_of list frame) sp ∙ ap (λ t. words_below t (registers_of list)) at))
+    let at : reg_result Add sp (frame_adjust list frame) ≡ base + frame = omega (arith, top, small) in
+    subst (AreAbove a b) (sym (pop_accesses ending list (frame_adjust list frame) sp ∙ ap (λ t. words_below t (registers_of list)) at))
     (words_above a b p.map.stack_low base (registers_of list) frame under low facts.room small)
 above_data a b _ words under (AMoveSa first second) = tt
 above_data a b _ words under (AMoveAs first second) = tt
@@ -107,9 +107,9 @@ stands_with {p} a b s size y y' words under st h = by s st (above_data a b s wor
     pop_of_group ZeroBeforeReturn list adjust = tt
 
     by : (t : Short) → StandsBy p (reg_in y 2) t → AreAbove a b (accesses_of t (reg_in y 2)) → short_effect t size y ≡ Commits y' → short_effect t size (with_byte a b y) ≡ Commits (with_byte a b y')
-    by _ (APush list frame order facts deep) all g = effect_with a b (Push list (adjust_of list frame)) size y y' tt all g
+    by _ (APush list frame order facts deep) all g = effect_with a b (Push list (frame_adjust list frame)) size y y' tt all g
     by _ (APop ending list frame order facts base low top small) all g =
-        effect_with a b (pop_kind ending list (adjust_of list frame)) size y y' (pop_of_group ending list (adjust_of list frame)) all g
+        effect_with a b (pop_kind ending list (frame_adjust list frame)) size y y' (pop_of_group ending list (frame_adjust list frame)) all g
     by _ (AMoveSa first second) all g = effect_with a b (MoveSa first second) size y y' tt all g
     by _ (AMoveAs first second) all g = effect_with a b (MoveAs first second) size y y' tt all g
     by _ (ASum i imm same) all g =
@@ -130,15 +130,15 @@ reaching_calls (x ∷ xs) y go none =
     (λ _. cond_both (lies_in is_data (extents_of y.memory) x.at 4) (reaching_all xs y go) BadAccess NoCall (λ _. reaching_calls xs y go none) (λ _. tt)) (λ _. tt)
 
 stands_calls : {p : Program} {sp : ℕ} (s : Short) (size : ℕ) (y : ZcCore) → StandsBy p sp s → NoCall (short_effect s size y)
-stands_calls _ size y (APush list frame order facts deep) = reaching_calls (accesses_of (Push list (adjust_of list frame)) (reg_in y 2)) y _ tt
+stands_calls _ size y (APush list frame order facts deep) = reaching_calls (accesses_of (Push list (frame_adjust list frame)) (reg_in y 2)) y _ tt
 stands_calls _ size y (APop ending list frame order facts base low top small) = by ending
   where
-    by : (k : Ending) → NoCall (short_effect (pop_kind k list (adjust_of list frame)) size y)
-    by GoesOn = reaching_calls (accesses_of (pop_kind GoesOn list (adjust_of list frame)) (reg_in y 2)) y _ tt
-    by Returns = reaching_calls (accesses_of (pop_kind Returns list (adjust_of list frame)) (reg_in y 2)) y _ tt
-    by ZeroFirst = reaching_calls (accesses_of (pop_kind ZeroFirst list (adjust_of list frame)) (reg_in y 2)) y _ tt
-    by ZeroBeforeRaise = reaching_calls (accesses_of (pop_kind ZeroBeforeRaise list (adjust_of list frame)) (reg_in y 2)) y _ tt
-    by ZeroBeforeReturn = reaching_calls (accesses_of (pop_kind ZeroBeforeReturn list (adjust_of list frame)) (reg_in y 2)) y _ tt
+    by : (k : Ending) → NoCall (short_effect (pop_kind k list (frame_adjust list frame)) size y)
+    by GoesOn = reaching_calls (accesses_of (pop_kind GoesOn list (frame_adjust list frame)) (reg_in y 2)) y _ tt
+    by Returns = reaching_calls (accesses_of (pop_kind Returns list (frame_adjust list frame)) (reg_in y 2)) y _ tt
+    by ZeroFirst = reaching_calls (accesses_of (pop_kind ZeroFirst list (frame_adjust list frame)) (reg_in y 2)) y _ tt
+    by ZeroBeforeRaise = reaching_calls (accesses_of (pop_kind ZeroBeforeRaise list (frame_adjust list frame)) (reg_in y 2)) y _ tt
+    by ZeroBeforeReturn = reaching_calls (accesses_of (pop_kind ZeroBeforeReturn list (frame_adjust list frame)) (reg_in y 2)) y _ tt
 stands_calls _ size y (AMoveSa first second) = tt
 stands_calls _ size y (AMoveAs first second) = tt
 stands_calls _ size y (ASum i imm same) = subst NoCall (sym (same size y)) tt
@@ -187,7 +187,7 @@ module _ {p : Program} {e : Image} (room : Room p e) where
       → SpoiledSlots p.map.stack_low (reg_in y 2) (loaded_slots s st) y (done_of (Found s size) js x)
   unfolding loaded_slots
   stands_kept _ size y is (APush list frame order facts deep) js x k =
-      push_kept p.map.stack_low [] (λ d m. absurd m) y above facts (adjust_of list frame) size deep (sp_small y is) js x k
+      push_kept p.map.stack_low [] (λ d m. absurd m) y above facts (frame_adjust list frame) size deep (sp_small y is) js x k
     where
       above : (a : ℕ) → lies_in is_stack (extents_of y.memory) a 1 ≡ true → p.map.stack_low ≤ a
       above a h = (stack_within room y is.text.extents a h).0

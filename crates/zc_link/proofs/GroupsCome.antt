@@ -13,7 +13,7 @@ use Rattle.zc_link.specs.Invariants.Groups.{Ending, GoesOn, GroupKind, IsGroup, 
 use Rattle.zc_link.specs.Image.{Image}
 use Rattle.zc_link.specs.IsSimulation.{Comes, IsInside}
 use Rattle.zc_link.specs.Invariants.Room.{Room}
-use Rattle.zc_link.specs.Invariants.Stretches.{AreOps, GroupAt, GroupLaid, place_on}
+use Rattle.zc_link.specs.Invariants.Stretches.{AreOps, GroupAt, GroupLaid, place_items_on}
 use Rattle.zc_link.proofs.GroupEnds.{FromPlace}
 use Rattle.zc_link.proofs.MovePairs.{from_saved_comes, moves_straight, saved_facts, to_saved_comes}
 use Rattle.zc_link.proofs.Pushes.{push_comes, push_straight}
@@ -27,7 +27,7 @@ module _ {p : Program} {Named : Place → Type 0} {e : Image} (room : Room p e) 
   -- by its kind
   comes_by :
       {end : ℕ} (kind : GroupKind) → IsGroup kind → AreOps p r.core.place (group_ops kind) → GroupAt e z.core.pc kind end
-      → e.address (place_on p r.core.place (length (group_ops kind))) ≡ Some end → iterate (plain_turn p) (length (group_ops kind)) r ≡ Ok r'
+      → e.address (place_items_on p r.core.place (length (group_ops kind))) ≡ Some end → iterate (plain_turn p) (length (group_ops kind)) r ≡ Ok r'
       → Comes p Named e cuts (group_commits kind) z r'
   comes_by (PushOf list frame order) is ops at next h = push_comes room (frame_facts list frame order is) from at ops next h
   comes_by (PopOf ending list frame order) is ops at next h = pop_comes room (frame_facts list frame order is) from ending at ops next h
@@ -38,7 +38,7 @@ module _ {p : Program} {Named : Place → Type 0} {e : Image} (room : Room p e) 
       {items commits : ℕ} → GroupLaid p e r.core.place z.core.pc items commits → iterate (plain_turn p) items r ≡ Ok r' → Comes p Named e cuts commits z r'
   group_comes {items} {commits} laid h =
       subst (λ k. Comes p Named e cuts k z r') (sym laid.commits_are)
-      (comes_by laid.kind laid.is laid.ops laid.at (ap (λ k. e.address (place_on p r.core.place k)) (sym laid.items_are) ∙ laid.next)
+      (comes_by laid.kind laid.is laid.ops laid.at (ap (λ k. e.address (place_items_on p r.core.place k)) (sym laid.items_are) ∙ laid.next)
       (ap (λ k. iterate (plain_turn p) k r) (sym laid.items_are) ∙ h))
 
 -- ---- on the way

@@ -12,11 +12,11 @@ use Rattle.rv_decode.specs.declared.instr.Instr.TheVariants.{Upper, Jal, Jalr, B
 use Rattle.rv_decode.specs.declared.instr.ImmOp.TheVariants.{Addi, Slti, Sltiu, Xori, Ori, Andi, Slli, Srli, Srai}
 use Rattle.rv_decode.specs.declared.instr.LoadOp.TheVariants.{Lb, Lh, Lw, Lbu, Lhu}
 use Rattle.rv_decode.specs.declared.instr.StoreOp.TheVariants.{Sb, Sh, Sw}
-use Rattle.zc_decode.specs.Lists.{base_of, registers_of}
+use Rattle.zc_decode.specs.Lists.{stack_adjust_base, registers_of}
 use Rattle.zc_decode.specs.declared.short.Short.{Short}
 use Rattle.zc_decode.specs.declared.short.Short.TheVariants.{MoveAs, MoveSa}
-use Rattle.frame_match.specs.Matches.{all_found, are_accesses, before, behind, either_pair, endings, frame_at, frame_by, has_accesses, is_access, is_begun, is_frame, is_from_saved, is_saved, is_to_saved, lists, longer_of, longest_of, moves_in, pair_of, pop_by, pop_in, pop_of, pops_in, push_in, push_of, pushes_in, slots_below}
-use Rattle.frame_match.specs.Read.{down_by, is_return, is_return_instr, is_zero, is_zero_instr, lowered, move_of, moved, raised, slot_from, slot_of, sp_move_of, up_by}
+use Rattle.frame_match.specs.Matches.{all_found, are_accesses, before, ending_items, either_pair, endings, frame_at, frame_by, has_accesses, is_access, is_begun, is_frame, is_from_saved, is_saved, is_to_saved, lists, longer_of, longest_of, moves_in, pair_of, pop_by, pop_in, pop_of, pops_in, push_in, push_of, pushes_in, slots_below}
+use Rattle.frame_match.specs.Read.{down_by, is_return, is_return_instr, is_zero, is_zero_instr, lowered, move_of, moved, raised, slot_at_offset, slot_of, sp_move_of, up_by}
 use Rattle.frame_match.specs.declared.found.Ending.{Ending}
 use Rattle.frame_match.specs.declared.found.Ending.TheVariants.{GoesOn, Returns, ZeroBeforeRaise, ZeroBeforeReturn, ZeroFirst}
 use Rattle.frame_match.specs.declared.found.Found.{Found}
@@ -24,7 +24,7 @@ use Rattle.frame_match.specs.declared.found.Move.{Move}
 use Rattle.frame_match.specs.declared.slot.Access.{Access}
 use Rattle.frame_match.specs.declared.slot.Access.TheVariants.{Saves, Restores}
 use Rattle.frame_match.specs.declared.slot.Slot.{Slot}
-use Rattle.zc_link.specs.Invariants.Groups.{A0First, A1First, GroupKind, IsFrame, IsGroup, IsSaved, MovesFromSaved, MovesToSaved, PopOf, PushOf, SameSlots, group_half, group_ops, group_rest, loads_of, lower_sp, move_to, raise_sp, return_to_ra, stores_of, zero_a0}
+use Rattle.zc_link.specs.Invariants.Groups.{A0First, A1First, GroupKind, IsFrame, IsGroup, IsSaved, MovesFromSaved, MovesToSaved, PopOf, PushOf, SameSlots, group_half, group_ops, group_rest, slot_loads, lower_sp, move_to, raise_sp, return_to_ra, stores_of, zero_a0}
 use Rattle.zc_link.proofs.Slots.{IsOneOf, contained_one, one_contained}
 
 -- ---- what is asked of an instruction
@@ -160,7 +160,7 @@ move_is (WithImm Addi rd source imm) m h = by (int_eq imm (pos 0)) refl h
     by false is g = absurd cc
 
 -- an access of a slot of sp
-slot_is : (base : ℕ) (imm : ℤ) (r : ℕ) (d : Slot) → slot_from base imm r ≡ Some d → (base ≡ 2) × (imm ≡ pos d.offset) × (r ≡ d.register)
+slot_is : (base : ℕ) (imm : ℤ) (r : ℕ) (d : Slot) → slot_at_offset base imm r ≡ Some d → (base ≡ 2) × (imm ≡ pos d.offset) × (r ≡ d.register)
 slot_is base (negsuc n) r d h = absurd cc
 slot_is base (pos n) r d h = by (eqb base 2) refl h
   where
@@ -247,7 +247,7 @@ record IsAccessList (which : Access) (op : Slot → Instr) (ops : List Slot → 
 saves : IsAccessList Saves (λ d. Store Sw d.register 2 (pos d.offset)) stores_of
 saves = record { none = refl; more = λ d ds. refl; op_is = store_is; slot = λ d. refl }
 
-restores : IsAccessList Restores (λ d. Load Lw d.register 2 (pos d.offset)) loads_of
+restores : IsAccessList Restores (λ d. Load Lw d.register 2 (pos d.offset)) slot_loads
 restores = record { none = refl; more = λ d ds. refl; op_is = load_is; slot = λ d. refl }
 
 module _ {which : Access} {op : Slot → Instr} {ops : List Slot → List Instr} (is : IsAccessList which op ops) where
@@ -311,9 +311,9 @@ slots_long top (r ∷ rs) = ap suc (slots_long (top - 4) rs)
 frame_from :
     (list frame : ℕ) (order : List Slot) → 4 ≤ list → list ≤ 15 → is_frame list frame ≡ true → SameSlots order (slots_below frame (registers_of list)) → IsFrame list frame order
 frame_from list frame order from to is same =
-    let q = and_parts (eqb (frame % 16) 0) (leb (base_of list) frame && leb frame 2032) is in
-    let t = and_parts (leb (base_of list) frame) (leb frame 2032) q.1 in
-    record { from = from; to = to; whole = eqb-true (frame % 16) 0 q.0; least = leb-true (base_of list) frame t.0; most = leb-true frame 2032 t.1; same = same }
+    let q = and_parts (eqb (frame % 16) 0) (leb (stack_adjust_base list) frame && leb frame 2032) is in
+    let t = and_parts (leb (stack_adjust_base list) frame) (leb frame 2032) q.1 in
+    record { from = from; to = to; whole = eqb-true (frame % 16) 0 q.0; least = leb-true (stack_adjust_base list) frame t.0; most = leb-true frame 2032 t.1; same = same }
 
 -- ---- what is found
 
@@ -407,14 +407,14 @@ ops_behind ZeroFirst frame = raise_sp frame ∷ return_to_ra ∷ []
 ops_behind ZeroBeforeRaise frame = zero_a0 ∷ raise_sp frame ∷ return_to_ra ∷ []
 ops_behind ZeroBeforeReturn frame = raise_sp frame ∷ zero_a0 ∷ return_to_ra ∷ []
 
-pop_is : (e : Ending) (list frame : ℕ) (order : List Slot) → group_ops (PopOf e list frame order) ≡ ops_ahead e ++ (loads_of order ++ ops_behind e frame)
-pop_is GoesOn list frame order = append-nil (loads_of order ++ raise_sp frame ∷ [])
-pop_is Returns list frame order = append_assoc (loads_of order) (raise_sp frame ∷ []) (return_to_ra ∷ [])
-pop_is ZeroFirst list frame order = ap (λ xs. zero_a0 ∷ xs) (append_assoc (loads_of order) (raise_sp frame ∷ []) (return_to_ra ∷ []))
-pop_is ZeroBeforeRaise list frame order = append_assoc (loads_of order) (zero_a0 ∷ raise_sp frame ∷ []) (return_to_ra ∷ [])
+pop_is : (e : Ending) (list frame : ℕ) (order : List Slot) → group_ops (PopOf e list frame order) ≡ ops_ahead e ++ (slot_loads order ++ ops_behind e frame)
+pop_is GoesOn list frame order = append-nil (slot_loads order ++ raise_sp frame ∷ [])
+pop_is Returns list frame order = append_assoc (slot_loads order) (raise_sp frame ∷ []) (return_to_ra ∷ [])
+pop_is ZeroFirst list frame order = ap (λ xs. zero_a0 ∷ xs) (append_assoc (slot_loads order) (raise_sp frame ∷ []) (return_to_ra ∷ []))
+pop_is ZeroBeforeRaise list frame order = append_assoc (slot_loads order) (zero_a0 ∷ raise_sp frame ∷ []) (return_to_ra ∷ [])
 pop_is ZeroBeforeReturn list frame order =
-    ap (λ xs. xs ++ return_to_ra ∷ []) (append_assoc (loads_of order) (raise_sp frame ∷ []) (zero_a0 ∷ []))
-    ∙ append_assoc (loads_of order) (raise_sp frame ∷ zero_a0 ∷ []) (return_to_ra ∷ [])
+    ap (λ xs. xs ++ return_to_ra ∷ []) (append_assoc (slot_loads order) (raise_sp frame ∷ []) (zero_a0 ∷ []))
+    ∙ append_assoc (slot_loads order) (raise_sp frame ∷ zero_a0 ∷ []) (return_to_ra ∷ [])
 
 ahead_long : (e : Ending) → length (ops_ahead e) ≡ before e
 ahead_long GoesOn = refl
@@ -423,7 +423,7 @@ ahead_long ZeroFirst = refl
 ahead_long ZeroBeforeRaise = refl
 ahead_long ZeroBeforeReturn = refl
 
-behind_long : (e : Ending) (frame : ℕ) → length (ops_behind e frame) ≡ behind e
+behind_long : (e : Ending) (frame : ℕ) → length (ops_behind e frame) ≡ ending_items e
 behind_long GoesOn frame = refl
 behind_long Returns frame = refl
 behind_long ZeroFirst frame = refl
@@ -461,7 +461,7 @@ if_some : (b : Bool) (o : Option ℕ) (frame : ℕ) → cond b o None ≡ Some f
 if_some true o frame h = (refl, h)
 if_some false o frame h = absurd cc
 
-behind_is : (e : Ending) (frame : ℕ) (xs : List Instr) → frame_by e (slice_get xs 0) (slice_get xs 1) (slice_get xs 2) ≡ Some frame → xs ≡ ops_behind e frame ++ drop (behind e) xs
+behind_is : (e : Ending) (frame : ℕ) (xs : List Instr) → frame_by e (slice_get xs 0) (slice_get xs 1) (slice_get xs 2) ≡ Some frame → xs ≡ ops_behind e frame ++ drop (ending_items e) xs
 behind_is GoesOn frame xs h = first_is xs (raise_sp frame) (raise_there (slice_get xs 0) frame h)
 behind_is Returns frame xs h =
     let q = if_some (is_return (slice_get xs 1)) (raised (slice_get xs 0)) frame h in
@@ -510,8 +510,8 @@ module _ (is : List Instr) where
           let zero_more : before e + length rs + 0 ≡ before e + length rs = omega arith in
           let frame_is : frame_by e (slice_get last 0) (slice_get last 1) (slice_get last 2) ≡ Some frame =
           (λ j. frame_by e ((get 0 ∙ ap (slice_get is) zero_more) j) (get 1 j) (get 2 j)) ∙ at in
-          let ops = loads_of o.order in
-          let tail = drop (behind e) last in
+          let ops = slot_loads o.order in
+          let tail = drop (ending_items e) last in
           let whole : is ≡ ops_ahead e ++ (ops ++ (ops_behind e frame ++ tail)) =
           ahead_is e is q.0 ∙ ap (λ xs. ops_ahead e ++ xs) (cut_at (length rs) inner ∙ ap₂ (λ xs ys. xs ++ ys) o.are (behind_is e frame last frame_is)) in
           let again : group_ops (PopOf e list frame o.order) ++ tail ≡ ops_ahead e ++ (ops ++ (ops_behind e frame ++ tail)) =

@@ -11,7 +11,7 @@ use Rattle.shrink_layout.specs.Units.{is_push, rest_instr}
 use Rattle.sym_machine.specs.Program.{Program}
 use Rattle.zc_decode.specs.declared.short.Short.{Short}
 use Rattle.zc_decode.specs.declared.short.Short.TheVariants.{MoveAs, MoveSa, Push}
-use Rattle.zc_link.specs.Invariants.Groups.{Ending, GoesOn, GroupKind, MovesFromSaved, MovesToSaved, PopOf, PushOf, Returns, ZeroBeforeRaise, ZeroBeforeReturn, ZeroFirst, adjust_of, group_commits, group_half, group_rest, lower_sp, pop_kind, raise_sp, rest_of}
+use Rattle.zc_link.specs.Invariants.Groups.{Ending, GoesOn, GroupKind, MovesFromSaved, MovesToSaved, PopOf, PushOf, Returns, ZeroBeforeRaise, ZeroBeforeReturn, ZeroFirst, frame_adjust, group_commits, group_half, group_rest, lower_sp, pop_kind, raise_sp, rest_of}
 use Rattle.zc_link.specs.Image.{Image}
 use Rattle.zc_link.specs.Pace.{commits_in}
 use Rattle.zc_link.specs.Invariants.Stretches.{GroupAt, HalfAt, PopAt, PushAt}
@@ -65,21 +65,21 @@ module _ (program : Program) (parts : Parts) (out : AreLaidOut program parts) wh
 
   push_there :
       (a list frame : ℕ) (bytes : List ℕ) → rest_of list frame ≡ 0 → StandAt program parts out a bytes
-      → SpellsHalf bytes (Push list (adjust_of list frame)) → PushAt here a list frame (a + 2)
+      → SpellsHalf bytes (Push list (frame_adjust list frame)) → PushAt here a list frame (a + 2)
   unfolding half_at_address
   push_there a list frame bytes none st h = record {
-    half = half_at_address program parts out a h.half bytes (Push list (adjust_of list frame)) st h.small h.are h.spells;
+    half = half_at_address program parts out a h.half bytes (Push list (frame_adjust list frame)) st h.small h.are h.spells;
     rest = inl (none, refl);
   }
 
   pop_there :
       (a : ℕ) (ending : Ending) (list frame : ℕ) (bytes : List ℕ) → rest_of list frame ≡ 0 → StandAt program parts out a bytes
-      → SpellsHalf bytes (pop_kind ending list (adjust_of list frame)) → PopAt here a ending list frame (a + 2)
+      → SpellsHalf bytes (pop_kind ending list (frame_adjust list frame)) → PopAt here a ending list frame (a + 2)
   unfolding half_at_address
   pop_there a ending list frame bytes none st h = record {
     middle = a;
     rest = inl (none, refl);
-    half = half_at_address program parts out a h.half bytes (pop_kind ending list (adjust_of list frame)) st h.small h.are h.spells;
+    half = half_at_address program parts out a h.half bytes (pop_kind ending list (frame_adjust list frame)) st h.small h.are h.spells;
     ends = refl;
   }
 
@@ -87,7 +87,7 @@ module _ (program : Program) (parts : Parts) (out : AreLaidOut program parts) wh
 
   module _ (a n list frame : ℕ) (half other : List ℕ) (some : 0 < rest_of list frame) where
     push_split :
-        StandAt program parts out a (half ++ other) → SpellsHalf half (Push list (adjust_of list frame))
+        StandAt program parts out a (half ++ other) → SpellsHalf half (Push list (frame_adjust list frame))
         → IsSpelled (n - 2) other (lower_sp (rest_of list frame)) → PushAt here a list frame (a + n)
     unfolding half_at_address
     push_split st h r =
@@ -96,12 +96,12 @@ module _ (program : Program) (parts : Parts) (out : AreLaidOut program parts) wh
         let is = spelled_at program parts out (a + 2) (n - 2) other (lower_sp (rest_of list frame)) behind r in
         let end : a + n ≡ a + 2 + is.at.size = omega (arith, is.long, spelled_some (n - 2) other (lower_sp (rest_of list frame)) r) in
         record {
-          half = half_at_address program parts out a h.half half (Push list (adjust_of list frame)) (stand_first program parts out a half other st) h.small h.are h.spells;
+          half = half_at_address program parts out a h.half half (Push list (frame_adjust list frame)) (stand_first program parts out a half other st) h.small h.are h.spells;
           rest = inr (some, record { here = is.here; same = is.same; at = is.at }, end);
         }
 
     pop_split :
-        (ending : Ending) → StandAt program parts out a (other ++ half) → SpellsHalf half (pop_kind ending list (adjust_of list frame))
+        (ending : Ending) → StandAt program parts out a (other ++ half) → SpellsHalf half (pop_kind ending list (frame_adjust list frame))
         → IsSpelled (n - 2) other (raise_sp (rest_of list frame)) → PopAt here a ending list frame (a + n)
     unfolding half_at_address
     pop_split ending st h r =
@@ -112,7 +112,7 @@ module _ (program : Program) (parts : Parts) (out : AreLaidOut program parts) wh
         record {
           middle = a + is.at.size;
           rest = inr (some, record { here = is.here; same = is.same; at = is.at }, refl);
-          half = half_at_address program parts out (a + is.at.size) h.half half (pop_kind ending list (adjust_of list frame)) behind h.small h.are h.spells;
+          half = half_at_address program parts out (a + is.at.size) h.half half (pop_kind ending list (frame_adjust list frame)) behind h.small h.are h.spells;
           ends = end;
         }
 
@@ -134,7 +134,7 @@ module _ (program : Program) (parts : Parts) (out : AreLaidOut program parts) wh
       let end : a + 2 ≡ a + n = omega (arith, size, whole_size g whole.0) in
       subst (PopAt here a ending list frame) end (pop_there a ending list frame bytes (sym rest ∙ whole.0) st (subst (SpellsHalf bytes) half whole.1))
   group_at g (PopOf ending list frame order) half rest a n bytes size st (inr (some, w)) =
-      let pop : is_push g.kind ≡ false = ap is_push half ∙ pop_no_push ending list (adjust_of list frame) in
+      let pop : is_push g.kind ≡ false = ap is_push half ∙ pop_no_push ending list (frame_adjust list frame) in
       let both : bytes ≡ w.other ++ w.half = w.both ∙ ap (λ b. cond b (w.half ++ w.other) (w.other ++ w.half)) pop in
       let other : rest_instr g ≡ raise_sp (rest_of list frame) = λ j. WithImm Addi 2 2 (cond (pop j) (negsuc (rest j - 1)) (pos (rest j))) in
       pop_split a n list frame w.half w.other (subst (λ m. 0 < m) rest some) ending (subst (StandAt program parts out a) both st)

@@ -15,7 +15,7 @@ use Rattle.rv_decode.specs.declared.instr.Instr.{Instr}
 use Rattle.rv_decode.specs.declared.instr.Instr.TheVariants.{Jal, Branch, WithImm, WithReg, Ecall}
 use Rattle.rv_decode.specs.declared.instr.RegOp.{RegOp}
 use Rattle.rv_decode.specs.declared.instr.RegOp.TheVariants.{Add, Sub, Sll, Slt, Sltu, Xor, Srl, Sra, Or, And, Mul, Mulh, Mulhsu, Mulhu, Div, Divu, Rem, Remu}
-use Rattle.block_cut.specs.Relocs.{base_of, instr_in}
+use Rattle.block_cut.specs.Relocs.{normal_base, instr_in}
 use Rattle.shrink_layout.specs.Pieces.{is_short}
 use Rattle.zc_decode.specs.Fields.{c_rd_of, c_rs2_of, cb_offset_of, high_reg_of, low_reg_of}
 use Rattle.zc_decode.specs.Halfwords.{decoded16, spelled}
@@ -159,7 +159,7 @@ pub record IsNormalOf (half : ℕ) (i : Instr) : Type 0 where
 pub normal_in : (bytes : List ℕ) (n : ℕ) (i : Instr) → instr_in 2 bytes n ≡ Some i → IsNormalOf (half_in bytes n) i
 normal_in bytes n i is = by (decoded16 (half_in bytes n)) refl is
   where
-    by : (o : Option Short) → decoded16 (half_in bytes n) ≡ o → base_of o ≡ Some i → IsNormalOf (half_in bytes n) i
+    by : (o : Option Short) → decoded16 (half_in bytes n) ≡ o → normal_base o ≡ Some i → IsNormalOf (half_in bytes n) i
     by None spells is = absurd cc
     by (Some (Base j)) spells is = record { spelled = j; spells = spells; normal = same_Some (normal_of j) i is }
     by (Some (Push list adjust)) spells is = absurd cc

@@ -15,7 +15,7 @@ use Rattle.elf32_read.specs.Header.{section_count}
 use Rattle.elf32_read.specs.Parts.{SectionParts, is_code_section}
 use Rattle.elf32_read.specs.Places.{is_ascending, is_outside}
 use Rattle.elf32_read.proofs.Faultless.{no_fault}
-use Rattle.elf32_write.specs.Loadable.{IsEntry}
+use Rattle.elf32_write.specs.Loadable.{IsPlaceEntry}
 use Rattle.psabi_sym.specs.Faults.{code_room, counted_bytes, gather_fault}
 use Rattle.psabi_sym.specs.Inputs.{ParsedInputs, parsed}
 use Rattle.psabi_sym.specs.Indexed.{IndexedSection, all_sections}
@@ -220,7 +220,7 @@ module _ (L : TextLayout) (none : gather_fault L.inputs ≡ None) (map : IsMap L
   -- ---- numbers
 
   -- a place in the list has numbers that fit in its fields
-  place_entry : (q : Place) (a : ℕ) → A q ≡ Some a → IsEntry (q, a)
+  place_entry : (q : Place) (a : ℕ) → A q ≡ Some a → IsPlaceEntry (q, a)
   place_entry q a at =
       let is = target_there p.objects q (laid.only q (ap is_some at)) in
       let two = code_is_section p.objects q is.section is.code in
@@ -244,8 +244,8 @@ module _ (L : TextLayout) (none : gather_fault L.inputs ≡ None) (map : IsMap L
       offset_inside s code whole (inr end) = omega (arith, end)
 
   -- so has each place of a list
-  pub entries : (places : List (Place × ℕ)) → All (λ e. A e.0 ≡ Some e.1) places → All IsEntry places
-  entries places placed = All-weaker (λ (e : Place × ℕ). A e.0 ≡ Some e.1) IsEntry (λ e at. place_entry e.0 e.1 at) places placed
+  pub entries : (places : List (Place × ℕ)) → All (λ e. A e.0 ≡ Some e.1) places → All IsPlaceEntry places
+  entries places placed = All-weaker (λ (e : Place × ℕ). A e.0 ≡ Some e.1) IsPlaceEntry (λ e at. place_entry e.0 e.1 at) places placed
 
   -- and none lies outside the text
   pub are_inside : (places : List (Place × ℕ)) → All (λ e. A e.0 ≡ Some e.1) places → list_any (is_outside L.inputs.map) places ≡ false

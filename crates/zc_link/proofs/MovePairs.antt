@@ -23,7 +23,7 @@ use Rattle.zc_link.specs.Image.{Image}
 use Rattle.zc_link.specs.IsSimulation.{Comes}
 use Rattle.zc_link.specs.Invariants.Room.{Room}
 use Rattle.zc_link.specs.Sound.{Alike}
-use Rattle.zc_link.specs.Invariants.Stretches.{AreOps, HalfAt, place_on}
+use Rattle.zc_link.specs.Invariants.Stretches.{AreOps, HalfAt, place_items_on}
 use Rattle.zc_link.proofs.Commits.{zc_turns-one}
 use Rattle.zc_link.proofs.Effects.{Effects, KeepsRest, keeps_both, keeps_same, sum_is}
 use Rattle.zc_link.proofs.FrameCuts.{LooksLike, alike_ready, looks_alike, spoiled_alike}
@@ -163,29 +163,29 @@ module _ {p : Program} {Named : Place → Type 0} {e : Image} (room : Room p e) 
     items_follow : (y : ZcCore) → Alike p Named e r.core y → Follow p Named e (move_ops order a b) r' y
     items_follow y al = all_follow room (move_ops order a b) r r' y ops (moves_straight order a b low_a low_b) h al
 
-    items_came : CameTo (place_on p r.core.place (length (move_ops order a b))) r r'
+    items_came : CameTo (place_items_on p r.core.place (length (move_ops order a b))) r r'
     items_came =
         let is = move_ops order a b in
         on_way p is (length is) r r' (omega arith) ops (moves_straight order a b low_a low_b) from.sound.alike.running h
 
   pub to_saved_comes :
       {end : ℕ} (order : MoveOrder) (first second : ℕ) → IsSaved first → IsSaved second → second ≢ first → HalfAt e z.core.pc (MoveSa first second) end
-      → AreOps p r.core.place (move_ops order (first, 10) (second, 11)) → e.address (place_on p r.core.place (length (move_ops order (first, 10) (second, 11)))) ≡ Some end
+      → AreOps p r.core.place (move_ops order (first, 10) (second, 11)) → e.address (place_items_on p r.core.place (length (move_ops order (first, 10) (second, 11)))) ≡ Some end
       → iterate (plain_turn p) (length (move_ops order (first, 10) (second, 11))) r ≡ Ok r' → Comes p Named e cuts 1 z r'
   to_saved_comes order first second is_first is_second other at ops next h =
       let low_a : 10 < 32 = omega arith in
       let low_b : 11 < 32 = omega arith in
       let is = move_ops order (first, 10) (second, 11) in
       to_saved_end order first second is_first is_second other at (items_follow order (first, 10) (second, 11) low_a low_b ops h)
-      (place_on p r.core.place (length is)) (items_came order (first, 10) (second, 11) low_a low_b ops h) next
+      (place_items_on p r.core.place (length is)) (items_came order (first, 10) (second, 11) low_a low_b ops h) next
 
   pub from_saved_comes :
       {end : ℕ} (order : MoveOrder) (first second : ℕ) → IsSaved first → IsSaved second → HalfAt e z.core.pc (MoveAs first second) end
-      → AreOps p r.core.place (move_ops order (10, first) (11, second)) → e.address (place_on p r.core.place (length (move_ops order (10, first) (11, second)))) ≡ Some end
+      → AreOps p r.core.place (move_ops order (10, first) (11, second)) → e.address (place_items_on p r.core.place (length (move_ops order (10, first) (11, second)))) ≡ Some end
       → iterate (plain_turn p) (length (move_ops order (10, first) (11, second))) r ≡ Ok r' → Comes p Named e cuts 1 z r'
   from_saved_comes order first second is_first is_second at ops next h =
       let low_a = (saved_facts first is_first).low in
       let low_b = (saved_facts second is_second).low in
       let is = move_ops order (10, first) (11, second) in
       from_saved_end order first second is_first is_second at (items_follow order (10, first) (11, second) low_a low_b ops h)
-      (place_on p r.core.place (length is)) (items_came order (10, first) (11, second) low_a low_b ops h) next
+      (place_items_on p r.core.place (length is)) (items_came order (10, first) (11, second) low_a low_b ops h) next

@@ -18,7 +18,7 @@ use Rattle.zc_decode.specs.declared.short.Short.TheVariants.{Base}
 use Rattle.zc_machine.specs.Fetch.{fetched_at}
 use Rattle.zc_machine.specs.Run.{zc_turn, zc_turns}
 use Rattle.zc_machine.proofs.TurnLaws.{zc_turns-more}
-use Rattle.zc_link.specs.Invariants.Groups.{Ending, Slot, adjust_of, loads_of, pop_kind, pop_ops, raise_sp, rest_of, slots_below}
+use Rattle.zc_link.specs.Invariants.Groups.{Ending, Slot, frame_adjust, slot_loads, pop_kind, pop_ops, raise_sp, rest_of, slots_below}
 use Rattle.zc_link.specs.Image.{Image, loaded_core}
 use Rattle.zc_link.specs.Invariants.Room.{Room}
 use Rattle.zc_link.specs.Sound.{Alike}
@@ -50,7 +50,7 @@ pub record BeforePop (low list frame rest : ℕ) (z y : ZcCore) : Type 0 where
 -- the pop's effect from such a state, and with the registers that it leaves the state is alike with the program's
 pub record PopDone (p : Program) (Named : Place → Type 0) (e : Image) (ending : Ending) (list frame size : ℕ) (s' : PlainCore) (y : ZcCore) : Type 0 where
   pub regs : List ℕ
-  pub does : short_effect (pop_kind ending list (adjust_of list frame)) size y ≡ Commits (ended ending (onward y size regs))
+  pub does : short_effect (pop_kind ending list (frame_adjust list frame)) size y ≡ Commits (ended ending (onward y size regs))
   pub alike : Alike p Named e s' (record y { regs = final_regs ending regs })
 
 -- the state behind all interrupts, right before the pop's own commit, which is the k-th of the group
@@ -58,7 +58,7 @@ pub record Before (p : Program) (Named : Place → Type 0) (e : Image) (ending :
   pub now : ZcCore
   pub at : now.pc ≡ pc
   pub done : PopDone p Named e ending list frame size s' now
-  pub runs : (y : ZcCore) → short_effect (pop_kind ending list (adjust_of list frame)) size now ≡ Commits y → zc_turns cuts k z ≡ Ok (record z { core = y })
+  pub runs : (y : ZcCore) → short_effect (pop_kind ending list (frame_adjust list frame)) size now ≡ Commits y → zc_turns cuts k z ≡ Ok (record z { core = y })
 
 -- the slots of a pop have no sp
 pub no_sp : {list frame : ℕ} {order : List Slot} → FrameFacts list frame order → AvoidSp (slots_below frame (registers_of list))
@@ -80,7 +80,7 @@ module _ {p : Program} {Named : Place → Type 0} {e : Image} (room : Room p e) 
       (s : PlainCore) (z zp : ZcCore) → Alike p Named e s z → p.map.stack_low ≤ reg_in zp 2 → Effects (pop_ops frame order) z zp
       → (reg_in z 2 + frame < 2 ^ 32) × (reg_in zp 2 ≡ reg_in z 2 + frame)
   pop_top s z zp al low ef =
-      let parts = effects_apart (loads_of order) (raise_sp frame ∷ []) z zp ef in
+      let parts = effects_apart (slot_loads order) (raise_sp frame ∷ []) z zp ef in
       let ye : ZcCore = parts.0 in
       let ld = loads_sp order z ye (λ d m. (facts.register d m).no_sp) parts.1 in
       let last = sum_is 2 2 (pos frame) ye zp parts.2 in
@@ -96,7 +96,7 @@ module _ {p : Program} {Named : Place → Type 0} {e : Image} (room : Room p e) 
       (small, omega (arith, sp, is, small))
 
   pop_done :
-      (ending : Ending) (size rest : ℕ) (s s' : PlainCore) (z zp zf y : ZcCore) → rest + adjust_of list frame ≡ frame → Alike p Named e s z → Alike p Named e s' zf
+      (ending : Ending) (size rest : ℕ) (s s' : PlainCore) (z zp zf y : ZcCore) → rest + frame_adjust list frame ≡ frame → Alike p Named e s z → Alike p Named e s' zf
       → Effects (pop_ops frame order) z zp → Final ending zp zf → BeforePop p.map.stack_low list frame rest z y → PopDone p Named e ending list frame size s' y
   pop_done ending size rest s s' z zp zf y sum al alf ef fin rd =
       let n = reg_in z 2 in
@@ -141,7 +141,7 @@ module _ {p : Program} {Named : Place → Type 0} {e : Image} (room : Room p e) 
     slots = slots_below frame (registers_of list)
 
     abbrev short : Short
-    short = pop_kind ending list (adjust_of list frame)
+    short = pop_kind ending list (frame_adjust list frame)
 
     sp_f : reg_in run.zf 2 ≡ reg_in run.zp 2
     sp_f = run.final.registers 2 ∙ final_sp ending run.zp.regs

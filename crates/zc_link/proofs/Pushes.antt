@@ -19,12 +19,12 @@ use Rattle.zc_decode.specs.declared.short.Short.TheVariants.{Base, Push}
 use Rattle.zc_machine.specs.Fetch.{fetched_at}
 use Rattle.zc_machine.specs.Run.{zc_turn}
 use Rattle.zc_machine.proofs.TurnLaws.{zc_turns-more}
-use Rattle.zc_link.specs.Invariants.Groups.{Slot, adjust_of, frame_commits, lower_sp, push_ops, rest_of, stores_of}
+use Rattle.zc_link.specs.Invariants.Groups.{Slot, frame_adjust, frame_commits, lower_sp, push_ops, rest_of, stores_of}
 use Rattle.zc_link.specs.Image.{Image, loaded_core}
 use Rattle.zc_link.specs.IsSimulation.{Comes}
 use Rattle.zc_link.specs.Invariants.Room.{Room}
 use Rattle.zc_link.specs.Sound.{Alike}
-use Rattle.zc_link.specs.Invariants.Stretches.{AreOps, FormAt, OneAt, PushAt, place_on}
+use Rattle.zc_link.specs.Invariants.Stretches.{AreOps, FormAt, OneAt, PushAt, place_items_on}
 use Rattle.zc_link.proofs.Commits.{zc_turns-one}
 use Rattle.zc_link.proofs.Effects.{Effects, commits_same, reached_by}
 use Rattle.zc_link.proofs.FrameCuts.{IsReady, LooksLike, alike_ready, behind, looks_alike, push_kept, spoiled_alike}
@@ -77,7 +77,7 @@ pub record Pushed (p : Program) (Named : Place → Type 0) (e : Image) (list fra
   pub alike : Alike p Named e r'.core zf
   pub before : List ℕ
   pub long : length before ≡ 32
-  pub regs : after.regs ≡ set_reg before 2 (reg_in z.core 2 - adjust_of list frame)
+  pub regs : after.regs ≡ set_reg before 2 (reg_in z.core 2 - frame_adjust list frame)
   pub regs_f : zf.regs ≡ set_reg before 2 (reg_in z.core 2 - frame)
   pub bytes : (x : ℕ) → byte_in after x ≡ byte_in zf x
   pub extents : extents_of after.memory ≡ extents_of zf.memory
@@ -88,12 +88,12 @@ pub record Pushed (p : Program) (Named : Place → Type 0) (e : Image) (list fra
 
 module _ {p : Program} {Named : Place → Type 0} {e : Image} (room : Room p e) {list frame : ℕ} {order : List Slot} (facts : FrameFacts list frame order) where
   pub pushed :
-      (r r' : PlainState) (cuts : List Interrupt) → All IsInterrupt cuts → (z : ZcState) → (half : OneAt e z.core.pc (Push list (adjust_of list frame)))
+      (r r' : PlainState) (cuts : List Interrupt) → All IsInterrupt cuts → (z : ZcState) → (half : OneAt e z.core.pc (Push list (frame_adjust list frame)))
       → ((y : ZcCore) → Alike p Named e r.core y → Follow p Named e (push_ops frame order) r' y) → Alike p Named e r.core z.core
       → Pushed p Named e list frame half.size r' cuts z
   pushed r r' cuts are z half follow al =
       let n = reg_in z.core 2 in
-      let adjust = adjust_of list frame in
+      let adjust = frame_adjust list frame in
       let size = half.size in
       let f0 = follow z.core al in
       let deep = push_deep p.map.stack_low p.map.stack_high frame order z.core f0.after room.deep room.top facts.some facts.most al.core.count al.low al.high f0.alike.low f0.alike.high f0.effects in
@@ -131,7 +131,7 @@ module _ {p : Program} {Named : Place → Type 0} {e : Image} (room : Room p e) 
       {size : ℕ} {r' : PlainState} {cuts : List Interrupt} {z : ZcState} → rest_of list frame ≡ 0 → (ps : Pushed p Named e list frame size r' cuts z) → Alike p Named e r'.core ps.after
   whole_alike {z = z} none ps =
       let sum = facts.sum in
-      let all : adjust_of list frame ≡ frame = omega (arith, none, sum) in
+      let all : frame_adjust list frame ≡ frame = omega (arith, none, sum) in
       let regs : ps.after.regs ≡ ps.zf.regs = ps.regs ∙ ap (λ a. set_reg ps.before 2 (reg_in z.core 2 - a)) all ∙ sym ps.regs_f in
       let like : LooksLike p.map.stack_low 0 ps.zf ps.after = record {
         exit = ps.exit;
@@ -145,10 +145,10 @@ module _ {p : Program} {Named : Place → Type 0} {e : Image} (room : Room p e) 
       looks_alike room 0 (omega arith) (λ a l lt. absurd (omega (arith, lt))) like ps.alike
 
   module _
-      {r r' : PlainState} {cuts : ℕ → List Interrupt} {z : ZcState} (from : FromPlace p Named e r cuts z) (half : OneAt e z.core.pc (Push list (adjust_of list frame)))
+      {r r' : PlainState} {cuts : ℕ → List Interrupt} {z : ZcState} (from : FromPlace p Named e r cuts z) (half : OneAt e z.core.pc (Push list (frame_adjust list frame)))
       (ops : AreOps p r.core.place (push_ops frame order)) (h : iterate (plain_turn p) (length (push_ops frame order)) r ≡ Ok r') where
     abbrev behind_ops : Place
-    behind_ops = place_on p r.core.place (length (push_ops frame order))
+    behind_ops = place_items_on p r.core.place (length (push_ops frame order))
 
     abbrev first : Pushed p Named e list frame half.size r' (cuts 0) z
     first = pushed r r' (cuts 0) (from.are 0) z half (λ y al. all_follow room (push_ops frame order) r r' y ops (push_straight facts) h al) from.sound.alike
@@ -169,7 +169,7 @@ module _ {p : Program} {Named : Place → Type 0} {e : Image} (room : Room p e) 
     after_first = record z { core = first.after }
 
     abbrev middle_sp : ℕ
-    middle_sp = reg_in z.core 2 - adjust_of list frame
+    middle_sp = reg_in z.core 2 - frame_adjust list frame
 
     -- the state behind the push is one that interrupts may come to
     first_sp : reg_in first.after 2 ≡ middle_sp
@@ -243,7 +243,7 @@ module _ {p : Program} {Named : Place → Type 0} {e : Image} (room : Room p e) 
 
   pub push_comes :
       {r r' : PlainState} {cuts : ℕ → List Interrupt} {z : ZcState} {end : ℕ} → FromPlace p Named e r cuts z → PushAt e z.core.pc list frame end
-      → AreOps p r.core.place (push_ops frame order) → e.address (place_on p r.core.place (length (push_ops frame order))) ≡ Some end
+      → AreOps p r.core.place (push_ops frame order) → e.address (place_items_on p r.core.place (length (push_ops frame order))) ≡ Some end
       → iterate (plain_turn p) (length (push_ops frame order)) r ≡ Ok r' → Comes p Named e cuts (frame_commits list frame) z r'
   push_comes {r} {r'} {cuts} {z} {end} from at ops next h = ⊎_elim
       (λ whole. subst (λ k. Comes p Named e cuts k z r') (sym (one_commit list frame whole.0)) (whole_comes from at.half ops h whole.0 (next ∙ ap Some whole.1)))

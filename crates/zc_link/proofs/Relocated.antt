@@ -19,7 +19,7 @@ use Rattle.block_cut.specs.Leaders.{is_jalr}
 use Rattle.sym_machine.specs.declared.word.SymWord.{SymWord}
 use Rattle.sym_machine.specs.declared.word.Value.TheVariants.{PcHi}
 use Rattle.sym_machine.specs.AddressParts.{high_word, low_sum, pc_low_sum, pc_target}
-use Rattle.sym_machine.specs.Change.{Change, Goes, base_of, by_sum, upper_does}
+use Rattle.sym_machine.specs.Change.{Change, Goes, base_register, by_sum, upper_does}
 use Rattle.sym_machine.specs.Program.{Program}
 use Rattle.sym_machine.specs.State.{PlainCore, reg_of}
 use Rattle.sym_machine.specs.Words.{value_word}
@@ -34,7 +34,7 @@ use Rattle.zc_link.proofs.Addresses.{high_names, high_stands, low_names, low_sta
 use Rattle.zc_link.proofs.Instrs.{GoesOn, Moves, jalr_moves, load_goes, moves_on, register_goes, store_goes}
 
 -- the register that a sum begins with is one of the 32
-base_low : (i : Instr) (k : ℤ) → HasRegisters (with_imm i k) → base_of i < 32
+base_low : (i : Instr) (k : ℤ) → HasRegisters (with_imm i k) → base_register i < 32
 base_low (instr.Upper op rd imm) k registers = omega arith
 base_low (instr.Jal rd distance) k registers = omega arith
 base_low (instr.Jalr rd base imm) k registers = registers.1
@@ -113,7 +113,7 @@ module _ {p : Program} {Named : Place → Type 0} {e : Image} {s : PlainCore} {z
     -- any sum, by its word
     pub sum_moves :
         (i : Instr) (k : ℤ) (w : SymWord) → HasRegisters (with_imm i k) → (is_jalr i ≡ true → Named next)
-        → WordStands (value_in p e.address) w (add32 (reg_in z (base_of i)) k) → NamesWord Named w → by_sum i w s next ≡ Goes c
+        → WordStands (value_in p e.address) w (add32 (reg_in z (base_register i)) k) → NamesWord Named w → by_sum i w s next ≡ Goes c
         → Moves p Named e (with_imm i k) size c s z
     sum_moves (instr.Upper op rd imm) k w registers named stands names h = absurd cc
     sum_moves (instr.Jal rd distance) k w registers named stands names h = absurd cc
@@ -131,9 +131,9 @@ module _ {p : Program} {Named : Place → Type 0} {e : Image} {s : PlainCore} {z
     -- with the lower part of an address
     pub lo_moves :
         (i : Instr) (t : Target) (x : ℕ) → target_value e.address t ≡ Some x → NamesTarget Named t → HasRegisters (with_imm i (lo12_of x))
-        → (is_jalr i ≡ true → Named next) → by_sum i (low_sum t (reg_of s (base_of i))) s next ≡ Goes c → Moves p Named e (with_imm i (lo12_of x)) size c s z
+        → (is_jalr i ≡ true → Named next) → by_sum i (low_sum t (reg_of s (base_register i))) s next ≡ Goes c → Moves p Named e (with_imm i (lo12_of x)) size c s z
     lo_moves i t x is names registers named h =
-        let base = base_of i in
+        let base = base_register i in
         let low = base_low i (lo12_of x) registers in
         sum_moves i (lo12_of x) (low_sum t (reg_of s base)) registers named
         (low_stands room t (reg_of s base) (reg_in z base) x (ready.core.words base) is (ready.registers base low))
@@ -143,10 +143,10 @@ module _ {p : Program} {Named : Place → Type 0} {e : Image} {s : PlainCore} {z
     pub pc_lo_moves :
         (i : Instr) (from : Place) (t : Target) (a x : ℕ) → pc_target (p.item from) ≡ Some t → ((u : Target) → pc_target (p.item from) ≡ Some u → NamesTarget Named u)
         → e.address from ≡ Some a → target_value e.address t ≡ Some x → HasRegisters (with_imm i (lo12_of (way a x)))
-        → (is_jalr i ≡ true → Named next) → by_sum i (pc_low_sum from (pc_target (p.item from)) (reg_of s (base_of i))) s next ≡ Goes c
+        → (is_jalr i ≡ true → Named next) → by_sum i (pc_low_sum from (pc_target (p.item from)) (reg_of s (base_register i))) s next ≡ Goes c
         → Moves p Named e (with_imm i (lo12_of (way a x))) size c s z
     pc_lo_moves i from t a x leads names at is registers named h =
-        let base = base_of i in
+        let base = base_register i in
         let low = base_low i (lo12_of (way a x)) registers in
         sum_moves i (lo12_of (way a x)) (pc_low_sum from (pc_target (p.item from)) (reg_of s base)) registers named
         (pc_low_stands room from t a x (reg_of s base) (reg_in z base) (ready.core.words base) leads at is (ready.registers base low))

@@ -20,12 +20,12 @@ use Rattle.sym_machine.proofs.RunLaws.{stepped}
 use Rattle.sym_machine.proofs.StepLaws.{Ended}
 use Rattle.zc_machine.specs.Fetch.{fetched_at}
 use Rattle.rv_decode.specs.declared.instr.Instr.{Instr}
-use Rattle.zc_link.specs.Invariants.Groups.{Ending, GoesOn, Returns, Slot, ZeroBeforeRaise, ZeroBeforeReturn, ZeroFirst, adjust_of, frame_commits, loads_of, ops_before_return, pop_kind, pop_ops, raise_sp, return_ops, return_to_ra, zero_a0}
+use Rattle.zc_link.specs.Invariants.Groups.{Ending, GoesOn, Returns, Slot, ZeroBeforeRaise, ZeroBeforeReturn, ZeroFirst, frame_adjust, frame_commits, slot_loads, ops_before_return, pop_kind, pop_ops, raise_sp, return_ops, return_to_ra, zero_a0}
 use Rattle.zc_link.specs.Image.{Image, loaded_core}
 use Rattle.zc_link.specs.IsSimulation.{Comes}
 use Rattle.zc_link.specs.Invariants.Room.{Room}
 use Rattle.zc_link.specs.Sound.{Alike, Ready}
-use Rattle.zc_link.specs.Invariants.Stretches.{AreOps, OneAt, PopAt, place_on}
+use Rattle.zc_link.specs.Invariants.Stretches.{AreOps, OneAt, PopAt, place_items_on}
 use Rattle.zc_link.proofs.Addresses.{code_is}
 use Rattle.zc_link.proofs.Ends.{ends_alike}
 use Rattle.zc_link.proofs.Frames.{ended}
@@ -39,18 +39,18 @@ use Rattle.zc_link.proofs.Zeroed.{WithoutZero, final_regs, without_zero}
 
 -- ---- the items
 
-loads_straight : (ds : List Slot) → AreStraight (loads_of ds)
+loads_straight : (ds : List Slot) → AreStraight (slot_loads ds)
 loads_straight [] = tt
 loads_straight (d ∷ ds) = (omega arith, loads_straight ds)
 
 pop_straight : (frame : ℕ) (order : List Slot) → AreStraight (pop_ops frame order)
-pop_straight frame order = straight_both (loads_of order) (raise_sp frame ∷ []) (loads_straight order) (omega arith, tt)
+pop_straight frame order = straight_both (slot_loads order) (raise_sp frame ∷ []) (loads_straight order) (omega arith, tt)
 
 pub before_straight : (ending : Ending) (frame : ℕ) (order : List Slot) → AreStraight (ops_before_return ending frame order)
 before_straight GoesOn frame order = pop_straight frame order
 before_straight Returns frame order = pop_straight frame order
 before_straight ZeroFirst frame order = (omega arith, pop_straight frame order)
-before_straight ZeroBeforeRaise frame order = straight_both (loads_of order) (zero_a0 ∷ raise_sp frame ∷ []) (loads_straight order) (omega arith, (omega arith, tt))
+before_straight ZeroBeforeRaise frame order = straight_both (slot_loads order) (zero_a0 ∷ raise_sp frame ∷ []) (loads_straight order) (omega arith, (omega arith, tt))
 before_straight ZeroBeforeReturn frame order = straight_both (pop_ops frame order) (zero_a0 ∷ []) (pop_straight frame order) (omega arith, tt)
 
 -- the steps of two lists of items, one after the other
@@ -119,7 +119,7 @@ module _ {p : Program} {Named : Place → Type 0} {e : Image} (room : Room p e) 
   -- ---- the end of the group
 
   module _
-      {list frame k pc : ℕ} {q : Place} {r r' : PlainState} {cuts : ℕ → List Interrupt} {z : ZcState} (from : FromPlace p Named e r cuts z) (ending : Ending) (half : OneAt e pc (pop_kind ending list (adjust_of list frame)))
+      {list frame k pc : ℕ} {q : Place} {r r' : PlainState} {cuts : ℕ → List Interrupt} {z : ZcState} (from : FromPlace p Named e r cuts z) (ending : Ending) (half : OneAt e pc (pop_kind ending list (frame_adjust list frame)))
       {m : PlainState} (came : CameTo q r m) (b : Before p Named e ending list frame half.size k pc m.core cuts z) where
     -- a pop that goes on
     pub goes_ends :
@@ -159,13 +159,13 @@ module _ {p : Program} {Named : Place → Type 0} {e : Image} (room : Room p e) 
   module _ {r r' : PlainState} {cuts : ℕ → List Interrupt} {z : ZcState} (from : FromPlace p Named e r cuts z) where
     -- by how it ends
     ends_by :
-        (ending : Ending) (k pc : ℕ) (half : OneAt e pc (pop_kind ending list (adjust_of list frame))) (m : PlainState)
-        → CameTo (place_on p r.core.place (length (ops_before_return ending frame order))) r m → Before p Named e ending list frame half.size k pc m.core cuts z
-        → AreOps p (place_on p r.core.place (length (ops_before_return ending frame order))) (return_ops ending) → iterate (plain_turn p) (length (return_ops ending)) m ≡ Ok r'
-        → e.address (place_on p r.core.place (length (ops_before_return ending frame order ++ return_ops ending))) ≡ Some (pc + half.size) → Comes p Named e cuts k z r'
+        (ending : Ending) (k pc : ℕ) (half : OneAt e pc (pop_kind ending list (frame_adjust list frame))) (m : PlainState)
+        → CameTo (place_items_on p r.core.place (length (ops_before_return ending frame order))) r m → Before p Named e ending list frame half.size k pc m.core cuts z
+        → AreOps p (place_items_on p r.core.place (length (ops_before_return ending frame order))) (return_ops ending) → iterate (plain_turn p) (length (return_ops ending)) m ≡ Ok r'
+        → e.address (place_items_on p r.core.place (length (ops_before_return ending frame order ++ return_ops ending))) ≡ Some (pc + half.size) → Comes p Named e cuts k z r'
     ends_by GoesOn k pc half m came b ops h next =
         goes_ends room from GoesOn half came b refl refl (let same : m ≡ r' = cc in same)
-        (ap (λ is. e.address (place_on p r.core.place (length is))) (sym (append-nil (pop_ops frame order))) ∙ next)
+        (ap (λ is. e.address (place_items_on p r.core.place (length is))) (sym (append-nil (pop_ops frame order))) ∙ next)
     ends_by Returns k pc half m came b ops h next = return_ends room from Returns half came b refl ops.0 h
     ends_by ZeroFirst k pc half m came b ops h next = return_ends room from ZeroFirst half came b refl ops.0 h
     ends_by ZeroBeforeRaise k pc half m came b ops h next = return_ends room from ZeroBeforeRaise half came b refl ops.0 h
@@ -173,17 +173,17 @@ module _ {p : Program} {Named : Place → Type 0} {e : Image} (room : Room p e) 
 
     pub pop_comes :
         {end : ℕ} (ending : Ending) → PopAt e z.core.pc ending list frame end → AreOps p r.core.place (ops_before_return ending frame order ++ return_ops ending)
-        → e.address (place_on p r.core.place (length (ops_before_return ending frame order ++ return_ops ending))) ≡ Some end
+        → e.address (place_items_on p r.core.place (length (ops_before_return ending frame order ++ return_ops ending))) ≡ Some end
         → iterate (plain_turn p) (length (ops_before_return ending frame order ++ return_ops ending)) r ≡ Ok r' → Comes p Named e cuts (frame_commits list frame) z r'
     pop_comes ending at ops next h = ⊎_elim
         (λ whole.
-        let half : OneAt e z.core.pc (pop_kind ending list (adjust_of list frame)) =
+        let half : OneAt e z.core.pc (pop_kind ending list (frame_adjust list frame)) =
         record { size = at.half.size; here = ap (fetched_at (loaded_core e)) (sym whole.1) ∙ at.half.here; small = (let s = at.half.small in let m = whole.1 in omega (arith, s, m)) } in
         subst (λ k. Comes p Named e cuts k z r') (sym (one_commit list frame whole.0))
         (ends_by ending 1 z.core.pc half m came (whole_before room facts run whole.0 half) last steps.2 (next ∙ ap Some (at.ends ∙ ap (λ a. a + at.half.size) whole.1))))
         (λ split.
         let form = split.1 in
-        let half : OneAt e (z.core.pc + form.at.size) (pop_kind ending list (adjust_of list frame)) =
+        let half : OneAt e (z.core.pc + form.at.size) (pop_kind ending list (frame_adjust list frame)) =
         record { size = at.half.size; here = ap (fetched_at (loaded_core e)) (sym split.2) ∙ at.half.here; small = (let s = at.half.small in let m = split.2 in omega (arith, s, m)) } in
         subst (λ k. Comes p Named e cuts k z r') (sym (two_commits list frame split.0))
         (ends_by ending 2 (z.core.pc + form.at.size) half m came (split_before room facts run form half) last steps.2 (next ∙ ap Some (at.ends ∙ ap (λ a. a + at.half.size) split.2))))
@@ -201,10 +201,10 @@ module _ {p : Program} {Named : Place → Type 0} {e : Image} (room : Room p e) 
         own : AreOps p r.core.place is
         own = ops_first p r.core.place is (return_ops ending) ops
 
-        last : AreOps p (place_on p r.core.place (length is)) (return_ops ending)
+        last : AreOps p (place_items_on p r.core.place (length is)) (return_ops ending)
         last = ops_last p r.core.place is (return_ops ending) ops
 
-        came : CameTo (place_on p r.core.place (length is)) r m
+        came : CameTo (place_items_on p r.core.place (length is)) r m
         came = on_way p is (length is) r m (omega arith) own (before_straight ending frame order) from.sound.alike.running steps.1
 
         f : Follow p Named e is m z.core

@@ -3,8 +3,8 @@
 use Rattle.std.proofs.Common.{◌≡◌, ◌≢◌, ℕ, zero, suc, ◌+◌, ◌-◌, ◌*◌, ◌<◌, ◌≤◌, List, [], ◌∷◌, length, Bool, true, false, not, refl, sym, ap, ◌∙◌, arith, eqb, ltb, leb, slice_index_or, inl, inr}
 use Rattle.std.specs.Prelude.{◌⊎◌, ◌&&◌, Contains}
 use Rattle.std.proofs.lemmas.Bool.{agree_below_at, and_parts, eq-eqb, eqb-false, false≢true, leb-true, ltb-true}
-use Rattle.zc_decode.specs.Lists.{base_of, registers_of}
-use Rattle.zc_link.specs.Invariants.Groups.{IsFrame, SameSlots, Slot, adjust_of, rest_of, slots_below}
+use Rattle.zc_decode.specs.Lists.{stack_adjust_base, registers_of}
+use Rattle.zc_link.specs.Invariants.Groups.{IsFrame, SameSlots, Slot, frame_adjust, rest_of, slots_below}
 
 -- ---- membership, by cases
 
@@ -67,13 +67,13 @@ avoid k (r ∷ rs) = not (eqb r k) && avoid k rs
 -- so it is for each list of pushes and pops, whose slots have room in its base
 fits : ℕ → Bool
 fits list =
-    fall 32 (registers_of list) && (avoid 10 (registers_of list) && (leb (4 * length (registers_of list)) (base_of list) && leb 16 (base_of list)))
+    fall 32 (registers_of list) && (avoid 10 (registers_of list) && (leb (4 * length (registers_of list)) (stack_adjust_base list) && leb 16 (stack_adjust_base list)))
 
 record ListFits (list : ℕ) : Type 0 where
   falling : fall 32 (registers_of list) ≡ true
   no_a0 : avoid 10 (registers_of list) ≡ true
-  room : 4 * length (registers_of list) ≤ base_of list
-  base : 16 ≤ base_of list
+  room : 4 * length (registers_of list) ≤ stack_adjust_base list
+  base : 16 ≤ stack_adjust_base list
 
 list_fits : (list : ℕ) → 4 ≤ list → list ≤ 15 → ListFits list
 unfolding fits
@@ -82,16 +82,16 @@ list_fits list from to =
     let same : 4 + k ≡ list = omega (arith, from) in
     let h : fits (4 + k) ≡ true = agree_below_at (λ n. fits (4 + n)) (λ n. true) 12 k refl (omega (arith, from, to)) in
     let g : fits list ≡ true = ap fits (sym same) ∙ h in
-    let room = leb (4 * length (registers_of list)) (base_of list) in
-    let base = leb 16 (base_of list) in
+    let room = leb (4 * length (registers_of list)) (stack_adjust_base list) in
+    let base = leb 16 (stack_adjust_base list) in
     let q = and_parts (fall 32 (registers_of list)) (avoid 10 (registers_of list) && (room && base)) g in
     let t = and_parts (avoid 10 (registers_of list)) (room && base) q.1 in
     let u = and_parts room base t.1 in
     record {
       falling = q.0;
       no_a0 = t.0;
-      room = leb-true (4 * length (registers_of list)) (base_of list) u.0;
-      base = leb-true 16 (base_of list) u.1;
+      room = leb-true (4 * length (registers_of list)) (stack_adjust_base list) u.0;
+      base = leb-true 16 (stack_adjust_base list) u.1;
     }
 
 -- ---- slots
@@ -173,9 +173,9 @@ pub record FrameFacts (list frame : ℕ) (order : List Slot) : Type 0 where
   pub room : 4 * length (registers_of list) ≤ frame
   pub some : 16 ≤ frame
   pub most : frame ≤ 2032
-  pub sum : rest_of list frame + adjust_of list frame ≡ frame
+  pub sum : rest_of list frame + frame_adjust list frame ≡ frame
   pub under : (d : Slot) → IsOneOf d order → d.offset + 4 ≤ frame
-  pub over : (d : Slot) → IsOneOf d order → frame ≤ d.offset + adjust_of list frame
+  pub over : (d : Slot) → IsOneOf d order → frame ≤ d.offset + frame_adjust list frame
   pub register : (d : Slot) → IsOneOf d order → IsSlotRegister 32 d.register
   pub no_a0 : (d : Slot) → IsOneOf d order → d.register ≢ 10
   pub once :
@@ -190,7 +190,7 @@ frame_facts list frame order fr =
     let base = fit.base in
     let least = fr.least in
     let all : 4 * length rs ≤ frame = omega (arith, room, least) in
-    let part : 4 * length rs ≤ adjust_of list frame = omega (arith, room, least) in
+    let part : 4 * length rs ≤ frame_adjust list frame = omega (arith, room, least) in
     record {
       same = same;
       room = all;

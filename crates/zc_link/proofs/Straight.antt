@@ -23,7 +23,7 @@ use Rattle.zc_link.specs.Image.{Image}
 use Rattle.zc_link.specs.Invariants.Room.{Room}
 use Rattle.zc_link.specs.Sound.{Alike, Ready}
 use Rattle.zc_link.specs.Stands.{WordStands}
-use Rattle.zc_link.specs.Invariants.Stretches.{AreOps, place_on}
+use Rattle.zc_link.specs.Invariants.Stretches.{AreOps, place_items_on}
 use Rattle.zc_link.specs.Values.{value_in}
 use Rattle.zc_link.proofs.Effects.{Effects}
 use Rattle.zc_link.proofs.Ends.{ends_alike}
@@ -59,7 +59,7 @@ ops_first p q [] js ops = tt
 ops_first p q (i ∷ is) js ops = (ops.0, ops_first p (p.next q) is js ops.1)
 
 -- and behind them
-pub ops_last : (p : Program) (q : Place) (is js : List Instr) → AreOps p q (is ++ js) → AreOps p (place_on p q (length is)) js
+pub ops_last : (p : Program) (q : Place) (is js : List Instr) → AreOps p q (is ++ js) → AreOps p (place_items_on p q (length is)) js
 ops_last p q [] js ops = ops
 ops_last p q (i ∷ is) js ops = ops_last p (p.next q) is js ops.1
 
@@ -146,7 +146,7 @@ step_of p i r r1 low item running h =
 -- several steps
 pub on_way :
     (p : Program) (is : List Instr) (k : ℕ) (r r' : PlainState) → k ≤ length is → AreOps p r.core.place is → AreStraight is → r.core.exit ≡ None
-    → iterate (plain_turn p) k r ≡ Ok r' → CameTo (place_on p r.core.place k) r r'
+    → iterate (plain_turn p) k r ≡ Ok r' → CameTo (place_items_on p r.core.place k) r r'
 on_way p is zero r r' few ops low running h =
     let same : r ≡ r' = cc in
     record { place = ap (λ x. x.core.place) (sym same); events = ap (λ x. x.events) (sym same); input = ap (λ x. x.core.input) (sym same); running = ap (λ x. x.core.exit) (sym same) ∙ running }
@@ -156,7 +156,7 @@ on_way p (i ∷ is) (suc k) r r' few ops low running h =
     let came = (step_of p i r first.0 low.0 ops.0 running first.1).came in
     let rest = on_way p is k first.0 r' (omega (arith, few)) (subst (λ q. AreOps p q is) (sym came.place) ops.1) low.1 came.running first.2 in
     record {
-      place = rest.place ∙ ap (λ q. place_on p q k) came.place;
+      place = rest.place ∙ ap (λ q. place_items_on p q k) came.place;
       events = rest.events ∙ came.events;
       input = rest.input ∙ came.input;
       running = rest.running;

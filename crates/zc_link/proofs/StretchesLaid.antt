@@ -38,7 +38,7 @@ use Rattle.zc_link.specs.Front.{image_entry}
 use Rattle.zc_link.specs.Image.{Image}
 use Rattle.zc_link.specs.LaidOut.{IsLaidOut, linked_by}
 use Rattle.zc_link.specs.Pace.{Alone, CallOf, LongOf, commits_in, stretch_of}
-use Rattle.zc_link.specs.Invariants.Stretches.{AloneLaid, ByCall, ByJump, CallLaid, GoesTo, GroupLaid, ItemLaid, LongLaid, OneLaid, StretchLaid, TableLaid, place_on}
+use Rattle.zc_link.specs.Invariants.Stretches.{AloneLaid, ByCall, ByJump, CallLaid, GoesTo, GroupLaid, ItemLaid, LongLaid, OneLaid, StretchLaid, TableLaid, place_items_on}
 use Rattle.zc_link.specs.TextLayout.{TextLayout, behind, size_in, stretch_in}
 use Rattle.zc_link.specs.Written.{HoldsFront, HoldsPlace, HoldsUnit, IsLongBranch, IsLongCall, IsOpWritten, IsSpelled, IsWritten, SpellsMeant, WithWay}
 use Rattle.zc_link.specs.Meant.{meant}
@@ -369,9 +369,9 @@ module _ (L : TextLayout) (is_map : IsMap L.inputs.map) (laid : IsLaidOut L) (pr
       }))
 
   -- the places after a place
-  places_on : (k : ℕ) (q : Place) → place_on program q k ≡ after_items p.objects k q
+  places_on : (k : ℕ) (q : Place) → place_items_on program q k ≡ after_items p.objects k q
   places_on zero q = refl
-  places_on (suc k) q = ap (λ (f : Place → Place). place_on program (f q) k) shows.next ∙ places_on k (next_at p.objects q)
+  places_on (suc k) q = ap (λ (f : Place → Place). place_items_on program (f q) k) shows.next ∙ places_on k (next_at p.objects q)
 
   -- a group
   group_laid :

@@ -26,7 +26,7 @@ use Rattle.psabi_sym.specs.declared.section_row.SectionRole.{SectionRole}
 use Rattle.psabi_sym.specs.declared.section_row.SectionRole.TheVariants.{Code, InClass, Dropped}
 use Rattle.psabi_sym.proofs.ContentLaws.{address_in-ge}
 use Rattle.psabi_sym.proofs.FaultLaws.{neither}
-use Rattle.block_cut.specs.DataWords.{data_word, data_words, words_in}
+use Rattle.block_cut.specs.DataWords.{data_word, data_words, data_words_in}
 use Rattle.block_cut.specs.Faults.{first_fault, reloc_fault}
 use Rattle.block_cut.specs.Relocs.{overlaps_another, is_ignored, is_placed, is_word}
 use Rattle.block_cut.specs.declared.data_word.DataWord.{DataWord}
@@ -184,20 +184,20 @@ module _ (inputs : Inputs) (none : first_fault inputs ≡ None) (P : DataWord �
   Each = (o i at : ℕ) (s : SectionParts) (r : Reloc) → section_at p1.objects o i ≡ Some s → eqb s.kind 8 ≡ false → data_address p1 o i ≡ Some at → is_word (kind_of r.kind) ≡ true → IsGood p1 (listed o i s) r
       → ((test : Reloc → Bool) → test r ≡ true → list_any test s.relocs ≡ true) → P (data_word p1 (listed o i s) at r)
 
-  listed_words : Each → (o i : ℕ) (s : SectionParts) → section_at p1.objects o i ≡ Some s → All P (words_in p1 (listed o i s))
+  listed_words : Each → (o i : ℕ) (s : SectionParts) → section_at p1.objects o i ≡ Some s → All P (data_words_in p1 (listed o i s))
   listed_words each o i s found =
       all_placed P (eqb s.kind 8) (data_address p1 o i) (λ at. map (data_word p1 (listed o i s) at) (filter (λ r. is_word (kind_of r.kind)) s.relocs))
       (λ content at is.
       all_kept P (reloc_fault p1 (listed o i s)) (λ r. is_word (kind_of r.kind)) (data_word p1 (listed o i s) at) s.relocs
       (λ r word fine among. each o i at s r found content is word (good p1 (listed o i s) r fine) among) s.relocs (section_none inputs none o i s found) (λ test h. h))
 
-  flat_all : (ls : List IndexedSection) → All (λ l. All P (words_in p1 l)) ls → All P (flat_map (words_in p1) ls)
+  flat_all : (ls : List IndexedSection) → All (λ l. All P (data_words_in p1 l)) ls → All P (flat_map (data_words_in p1) ls)
   flat_all [] all = All-nil P
-  flat_all (l ∷ ls) all = All-append P (words_in p1 l) (flat_map (words_in p1) ls) (All-head (λ m. All P (words_in p1 m)) l ls all) (flat_all ls (All-tail (λ m. All P (words_in p1 m)) l ls all))
+  flat_all (l ∷ ls) all = All-append P (data_words_in p1 l) (flat_map (data_words_in p1) ls) (All-head (λ m. All P (data_words_in p1 m)) l ls all) (flat_all ls (All-tail (λ m. All P (data_words_in p1 m)) l ls all))
 
   pub all_words : Each → All P (data_words p1)
   unfolding data_words
-  all_words each = flat_all (all_sections p1.objects) (all_listed (λ l. All P (words_in p1 l)) p1.objects
+  all_words each = flat_all (all_sections p1.objects) (all_listed (λ l. All P (data_words_in p1 l)) p1.objects
       (λ o i object s at is. listed_words each o i s (ap (option_and_then (λ (x : ObjectParts). slice_get x.sections i)) at ∙ is)))
 
 -- a word lies among the bytes that files hold

@@ -7,7 +7,7 @@ use Rattle.rv_decode.specs.Effect.{Commits, onward, reaching}
 use Rattle.rv_decode.specs.Memory.{Region}
 use Rattle.rv_decode.specs.State.{ZcCore, reg_in, set_reg, word_at}
 use Rattle.rv_decode.proofs.RegisterLaws.{length-set_reg, reads, reads-set_reg_other, reads-set_reg_same, set_reg_both}
-use Rattle.zc_link.specs.Invariants.Groups.{Ending, GoesOn, Returns, Slot, ZeroBeforeRaise, ZeroBeforeReturn, ZeroFirst, loads_of, ops_before_return, pop_ops, raise_sp, zero_a0}
+use Rattle.zc_link.specs.Invariants.Groups.{Ending, GoesOn, Returns, Slot, ZeroBeforeRaise, ZeroBeforeReturn, ZeroFirst, slot_loads, ops_before_return, pop_ops, raise_sp, zero_a0}
 use Rattle.zc_link.proofs.Effects.{Effects, KeepsRest, effects_apart, effects_both, loads_sp, reached_by, reaches, sum_is}
 use Rattle.zc_link.proofs.Slots.{IsOneOf}
 
@@ -79,8 +79,8 @@ other_set y z rd v size_y size_z t other = record {
 }
 
 loads_zero :
-    (ds : List Slot) (y yz zz : ZcCore) → ((d : Slot) → IsOneOf d ds → d.register ≢ 10) → HasZero y yz → Effects (loads_of ds) yz zz
-    → (z : ZcCore) × Effects (loads_of ds) y z × HasZero z zz
+    (ds : List Slot) (y yz zz : ZcCore) → ((d : Slot) → IsOneOf d ds → d.register ≢ 10) → HasZero y yz → Effects (slot_loads ds) yz zz
+    → (z : ZcCore) × Effects (slot_loads ds) y z × HasZero z zz
 loads_zero [] y yz zz low t h = (y, refl, subst (λ x. HasZero y x) (sym h) t)
 loads_zero (d ∷ ds) y yz zz low t h =
     let a : ℕ = add32 (reg_in y 2) (pos d.offset) in
@@ -143,28 +143,28 @@ module _ (frame : ℕ) (order : List Slot) (no_a0 : (d : Slot) → IsOneOf d ord
   zero_first : (zf : ZcCore) → Effects (zero_a0 ∷ pop_ops frame order) z zf → (zp : ZcCore) × Effects (pop_ops frame order) z zp × HasZero zp zf
   zero_first zf h =
       let t = zero_itself z h.1 long (h.0, h.1, h.2, refl) in
-      let parts = effects_apart (loads_of order) (raise_sp frame ∷ []) h.1 zf h.3 in
+      let parts = effects_apart (slot_loads order) (raise_sp frame ∷ []) h.1 zf h.3 in
       let a = loads_zero order z h.1 parts.0 no_a0 t parts.1 in
       let b = raise_zero frame a.0 parts.0 zf a.2 parts.2 in
-      (b.0, effects_both (loads_of order) (raise_sp frame ∷ []) z a.0 b.0 a.1 b.1, b.2)
+      (b.0, effects_both (slot_loads order) (raise_sp frame ∷ []) z a.0 b.0 a.1 b.1, b.2)
 
   -- before sp is raised
-  zero_between : (zf : ZcCore) → Effects (loads_of order ++ zero_a0 ∷ raise_sp frame ∷ []) z zf → (zp : ZcCore) × Effects (pop_ops frame order) z zp × HasZero zp zf
+  zero_between : (zf : ZcCore) → Effects (slot_loads order ++ zero_a0 ∷ raise_sp frame ∷ []) z zf → (zp : ZcCore) × Effects (pop_ops frame order) z zp × HasZero zp zf
   zero_between zf h =
-      let parts = effects_apart (loads_of order) (zero_a0 ∷ raise_sp frame ∷ []) z zf h in
+      let parts = effects_apart (slot_loads order) (zero_a0 ∷ raise_sp frame ∷ []) z zf h in
       let ye : ZcCore = parts.0 in
       let rest = parts.2 in
       let ld = loads_sp order z ye no_sp parts.1 in
       let t = zero_itself ye rest.1 (ld.1 ∙ long) (rest.0, rest.1, rest.2, refl) in
       let b = raise_zero frame ye rest.1 zf t rest.3 in
-      (b.0, effects_both (loads_of order) (raise_sp frame ∷ []) z ye b.0 parts.1 b.1, b.2)
+      (b.0, effects_both (slot_loads order) (raise_sp frame ∷ []) z ye b.0 parts.1 b.1, b.2)
 
   -- and last
   zero_last : (zf : ZcCore) → Effects (pop_ops frame order ++ zero_a0 ∷ []) z zf → (zp : ZcCore) × Effects (pop_ops frame order) z zp × HasZero zp zf
   zero_last zf h =
       let parts = effects_apart (pop_ops frame order) (zero_a0 ∷ []) z zf h in
       let zp : ZcCore = parts.0 in
-      let inner = effects_apart (loads_of order) (raise_sp frame ∷ []) z zp parts.1 in
+      let inner = effects_apart (slot_loads order) (raise_sp frame ∷ []) z zp parts.1 in
       let ye : ZcCore = inner.0 in
       let ld = loads_sp order z ye no_sp inner.1 in
       let last = sum_is 2 2 (pos frame) ye zp inner.2 in

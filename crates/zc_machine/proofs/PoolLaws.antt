@@ -8,7 +8,7 @@ use Rattle.std.proofs.lemmas.List.Folds.{sum_by-replicate}
 use Rattle.rv_decode.specs.Memory.{blank, cells_changed, written}
 use Rattle.rv_decode.proofs.MemoryLaws.{get_or-cells_changed, length-cells_changed, untouched}
 use Rattle.zc_machine.specs.Pages.{Paged}
-use Rattle.zc_machine.specs.Invariants.Pool.{ArePages, IsPool, byte_of_pages, cells_of_pages}
+use Rattle.zc_machine.specs.Invariants.Pool.{AreCellPages, IsPool, byte_of_pages, pooled_bytes}
 use Rattle.zc_machine.proofs.WriteLaws.{written_moved}
 
 -- what comes after an index in its page
@@ -18,27 +18,27 @@ in_page x k lt = (omega (arith, lt), omega (arith, lt))
 -- ---- what is read
 
 module _ (table pool : List ℕ) (from size : ℕ) where
-  pub length-cells : length (cells_of_pages table pool from size) ≡ size
+  pub length-cells : length (pooled_bytes table pool from size) ≡ size
   length-cells = length-map-range_with_len (byte_of_pages table pool) from size
 
   -- of pages that are seen as so many cells
-  pub size_seen : (seen : Paged) → record { skip = from; cells = cells_of_pages table pool from size } ≡ seen → size ≡ length seen.cells
+  pub size_seen : (seen : Paged) → record { skip = from; cells = pooled_bytes table pool from size } ≡ seen → size ≡ length seen.cells
   size_seen seen is = sym length-cells ∙ ap (λ (p : Paged). length p.cells) is
 
-  pub get_or-cells : (k d : ℕ) → k < size → get_or (cells_of_pages table pool from size) k d ≡ byte_of_pages table pool (from + k)
+  pub get_or-cells : (k d : ℕ) → k < size → get_or (pooled_bytes table pool from size) k d ≡ byte_of_pages table pool (from + k)
   get_or-cells k d lt = get_or-map-range_with_len (byte_of_pages table pool) from size k (from + k) d lt refl
 
   -- cells up to the end of their page are bytes of the pool, one after another
   pub cells_read :
       (index page count : ℕ) → page ≡ slice_index table ((from + index) / 4096) → 4096 * page + 4096 ≤ length pool → index + count ≤ size → (from + index) % 4096 + count ≤ 4096
-      → take count (drop (4096 * page + (from + index) % 4096) pool) ≡ take count (drop index (cells_of_pages table pool from size))
+      → take count (drop (4096 * page + (from + index) % 4096) pool) ≡ take count (drop index (pooled_bytes table pool from size))
   cells_read index page count is inside within one = same_lists _ _ (left ∙ sym right) each
     where
       at : ℕ
       at = from + index
 
       cells : List ℕ
-      cells = cells_of_pages table pool from size
+      cells = pooled_bytes table pool from size
 
       left : length (take count (drop (4096 * page + at % 4096) pool)) ≡ count
       left = omega (arith, length-take count (drop (4096 * page + at % 4096) pool), length-drop (4096 * page + at % 4096) pool, inside, one)
@@ -62,7 +62,7 @@ module _ (table pool : List ℕ) (from size : ℕ) where
 
 -- the page of the pool that an entry names, as the code reads it
 pub page_read :
-    (table pool : List ℕ) (capacity skip size index page : ℕ) → ArePages table pool capacity skip size → index < size → page ≡ get_or table ((skip + index) / 4096) page
+    (table pool : List ℕ) (capacity skip size index page : ℕ) → AreCellPages table pool capacity skip size → index < size → page ≡ get_or table ((skip + index) / 4096) page
     → (page ≡ slice_index table ((skip + index) / 4096)) × (4096 * page + 4096 ≤ length pool)
 page_read table pool capacity skip size index page are within is =
     let named = get_or_read table ((skip + index) / 4096) page (omega (arith, within, are.covered)) is 0 in
@@ -93,11 +93,11 @@ none_written count capacity room few = record {
   few = omega (arith, length-zeros count, few);
 }
 
-pub blank_cells : (count from size : ℕ) → cells_of_pages (replicate count 0) (replicate 4096 0) from size ≡ blank size 0
+pub blank_cells : (count from size : ℕ) → pooled_bytes (replicate count 0) (replicate 4096 0) from size ≡ blank size 0
 unfolding blank
 blank_cells count from size = same_lists _ _ (length-cells (replicate count 0) (replicate 4096 0) from size ∙ sym (length-zeros size)) each
   where
-    each : (k d : ℕ) → k < length (cells_of_pages (replicate count 0) (replicate 4096 0) from size) → get_or (cells_of_pages (replicate count 0) (replicate 4096 0) from size) k d ≡ get_or (replicate size 0) k d
+    each : (k d : ℕ) → k < length (pooled_bytes (replicate count 0) (replicate 4096 0) from size) → get_or (pooled_bytes (replicate count 0) (replicate 4096 0) from size) k d ≡ get_or (replicate size 0) k d
     each k d lt =
         let less : k < size = omega (arith, lt, length-cells (replicate count 0) (replicate 4096 0) from size) in
         get_or-cells (replicate count 0) (replicate 4096 0) from size k d less
@@ -146,14 +146,14 @@ module _ (table pool : List ℕ) (capacity at n page : ℕ) (given : ℕ → ℕ
 -- to the cells
 pub cells-written :
     (table pool table' pool' : List ℕ) (from size index n : ℕ) (given : ℕ → ℕ) → ((i : ℕ) → byte_of_pages table' pool' i ≡ written (from + index) n given i (byte_of_pages table pool i))
-    → cells_of_pages table' pool' from size ≡ cells_changed (written index n given) 0 (cells_of_pages table pool from size)
+    → pooled_bytes table' pool' from size ≡ cells_changed (written index n given) 0 (pooled_bytes table pool from size)
 cells-written table pool table' pool' from size index n given bytes =
     same_lists _ _ (length-cells table' pool' from size ∙ sym (length-cells_changed (written index n given) 0 cells ∙ length-cells table pool from size)) each
   where
     cells : List ℕ
-    cells = cells_of_pages table pool from size
+    cells = pooled_bytes table pool from size
 
-    each : (k d : ℕ) → k < length (cells_of_pages table' pool' from size) → get_or (cells_of_pages table' pool' from size) k d ≡ get_or (cells_changed (written index n given) 0 cells) k d
+    each : (k d : ℕ) → k < length (pooled_bytes table' pool' from size) → get_or (pooled_bytes table' pool' from size) k d ≡ get_or (cells_changed (written index n given) 0 cells) k d
     each k d lt =
         let less : k < size = omega (arith, lt, length-cells table' pool' from size) in
         get_or-cells table' pool' from size k d less

@@ -13,7 +13,7 @@ use Rattle.zc_machine.specs.declared.answer.Step.{Step}
 use Rattle.zc_machine.specs.declared.answer.Step.TheVariants as answer
 use Rattle.zc_machine.specs.declared.reason.Reason.{Reason}
 use Rattle.zc_machine.specs.declared.run.RunEnd.TheVariants as end
-use Rattle.zc_machine.specs.Advance.{Advanced, RunsTo}
+use Rattle.zc_machine.specs.Advance.{CameToCommit, RunsToMachine}
 use Rattle.zc_machine.specs.Answer.{answer_of, core_after, exited, has_read, has_written}
 use Rattle.zc_machine.specs.Buffer.{bytes_at}
 use Rattle.zc_machine.specs.Run.{committed, first_state, machine_after, turn}
@@ -109,13 +109,13 @@ happened {z = z} same here commits exit = record { made = here ∙ ap (λ h. h z
 -- ---- commits alone
 
 -- a machine comes to itself
-pub RunsTo-refl : (happens : ℕ → ZcCore → ZcCore) (z : ZcCore) → RunsTo happens z z
+pub RunsTo-refl : (happens : ℕ → ZcCore → ZcCore) (z : ZcCore) → RunsToMachine happens z z
 RunsTo-refl happens z = record { exit = refl; on = omega arith; runs = λ first input left events so_far. so_far }
 
 -- and by one commit more from wherever it came to
 pub RunsTo-more :
-    (happens : ℕ → ZcCore → ZcCore) (z0 z z' z2 : ZcCore) → z0.exit ≡ None → RunsTo happens z0 z → Happened happens z z' → answer.Committed ≡ answer_of (zc_step z')
-    → z2 ≡ core_after (zc_step z') z' → RunsTo happens z0 z2 × (z2.commits ≡ z.commits + 1)
+    (happens : ℕ → ZcCore → ZcCore) (z0 z z' z2 : ZcCore) → z0.exit ≡ None → RunsToMachine happens z0 z → Happened happens z z' → answer.Committed ≡ answer_of (zc_step z')
+    → z2 ≡ core_after (zc_step z') z' → RunsToMachine happens z0 z2 × (z2.commits ≡ z.commits + 1)
 unfolding machine_after
 RunsTo-more happens z0 z z' z2 running so_far had answers is =
     let q = committed_step z' (zc_step z') (step_shows z') answers in
@@ -139,7 +139,7 @@ RunsTo-more happens z0 z z' z2 running so_far had answers is =
 -- a run that has come to a machine comes to where that comes by commits alone, and has written no more
 pub Came-on :
     (first : ZcCore) (input : List ℕ) (happens : ℕ → ZcCore → ZcCore) (z z2 : ZcCore) (left : List ℕ) (before now : Desk) → Came first input happens z left before now
-    → RunsTo happens z z2 → Came first input happens z2 left before now
+    → RunsToMachine happens z z2 → Came first input happens z2 left before now
 Came-on first input happens z z2 left before now came on = record {
   events = came.events;
   so_far = on.runs first input left came.events came.so_far;
@@ -163,9 +163,9 @@ pub record Stepped (first : ZcCore) (input : List ℕ) (happens : ℕ → ZcCore
 
 pub stepped :
     {first : ZcCore} {input : List ℕ} {made happens : ℕ → ZcCore → ZcCore} {z z2 : ZcCore} {left : List ℕ} {before now : Desk} {k steps : ℕ} {step : Step} → made ≡ happens
-    → Came first input happens z left before now → Advanced made z z2 k steps step → Stepped first input happens z z2 left before now k steps step
+    → Came first input happens z left before now → CameToCommit made z z2 k steps step → Stepped first input happens z z2 left before now k steps step
 stepped {first = first} {input = input} {happens = happens} {z = z} {z2 = z2} {left = left} {before = before} {now = now} {k = k} {steps = steps} {step = step} same came by =
-    let adv : Advanced happens z z2 k steps step = subst (λ h. Advanced h z z2 k steps step) same by in
+    let adv : CameToCommit happens z z2 k steps step = subst (λ h. CameToCommit h z z2 k steps step) same by in
     record {
       last = adv.last;
       acted = adv.acted;

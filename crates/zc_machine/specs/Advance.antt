@@ -8,7 +8,7 @@ use Rattle.zc_machine.specs.declared.answer.Step.{Step}
 use Rattle.zc_machine.specs.declared.answer.Step.TheVariants as answer
 
 -- whichever run has come to this machine comes to the other one, and makes no environment call on the way
-pub record RunsTo (happens : ℕ → ZcCore → ZcCore) (z z2 : ZcCore) : Type 0 where
+pub record RunsToMachine (happens : ℕ → ZcCore → ZcCore) (z z2 : ZcCore) : Type 0 where
   pub exit : z2.exit ≡ z.exit
   pub on : z.commits ≤ z2.commits
   pub runs : (first : ZcCore) (input left : List ℕ) (events : List Event)
@@ -18,9 +18,9 @@ pub record RunsTo (happens : ℕ → ZcCore → ZcCore) (z z2 : ZcCore) : Type 0
 -- the machine came to its commit with number k, counted from 0 and one of the first so many, and made the step there, after
 -- what happens before it: this is the step's answer, and how it left the machine; if it committed, that was the last of so
 -- many
-pub record Advanced (happens : ℕ → ZcCore → ZcCore) (z z2 : ZcCore) (k steps : ℕ) (given : Step) : Type 0 where
+pub record CameToCommit (happens : ℕ → ZcCore → ZcCore) (z z2 : ZcCore) (k steps : ℕ) (given : Step) : Type 0 where
   pub last : ZcCore
-  pub runs : RunsTo happens z last
+  pub runs : RunsToMachine happens z last
   pub count : last.commits ≡ k
   pub within : k < steps
   pub acted : ZcCore

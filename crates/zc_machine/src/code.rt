@@ -4,7 +4,7 @@ ghost use Rattle.std.specs.Prelude.{◌≡◌, ◌+◌, ◌<◌, ◌≤◌, IfOk
 ghost use Rattle.zc_machine.specs.Answer.{fetched_as};
 ghost use Rattle.zc_machine.specs.Cells.{instruction};
 ghost use Rattle.zc_machine.specs.Fetch.{Found};
-ghost use Rattle.zc_machine.specs.Invariants.Kept.{IsOf, extended};
+ghost use Rattle.zc_machine.specs.Invariants.Kept.{IsDecodedFrom, extended_to_index};
 
 use crate::cells::instruction;
 use crate::reason::Reason;
@@ -32,13 +32,13 @@ pub struct Code {
 
 impl Model for Code {
     ghost use Rattle.std.specs.Prelude.{ℕ, List, vec_capacity};
-    ghost use Rattle.zc_machine.specs.Invariants.Kept.{IsKept};
+    ghost use Rattle.zc_machine.specs.Invariants.Kept.{IsCodeCache};
 
     ghost Value = { List ℕ };
 
     ghost view = { λ c. c.bytes.items };
 
-    ghost invariant = { λ c. IsKept c.bytes.items c.kept.items (vec_capacity c.kept) };
+    ghost invariant = { λ c. IsCodeCache c.bytes.items c.kept.items (vec_capacity c.kept) };
 }
 
 impl Code {
@@ -70,7 +70,7 @@ impl Code {
     /// What is kept of the halfword at an offset, if there is an entry for it.
     #[inline(always)]
     pub fn entry(&self, offset: u32) -> Option<&Kept>
-        ensures { IfSome result (λ entry. IsOf entry.now (drop offset self.now)) }
+        ensures { IfSome result (λ entry. IsDecodedFrom entry.now (drop offset self.now)) }
     {
         if offset % 2 != 0 {
             return None;
@@ -132,7 +132,7 @@ impl Code {
 // Gives a list entries that say nothing, up to one with this index.
 fn extend(kept: &mut Vec<Kept>, index: usize)
     requires { index < vec_capacity kept.old }
-    ensures entries { kept.new.items ≡ extended kept.old.items index }
+    ensures entries { kept.new.items ≡ extended_to_index kept.old.items index }
     ensures room { vec_capacity kept.old ≤ vec_capacity kept.new }
 {
     if kept.len() <= index {

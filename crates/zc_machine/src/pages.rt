@@ -26,13 +26,13 @@ pub struct Pages {
 impl Model for Pages {
     ghost use Rattle.std.specs.Prelude.{vec_capacity};
     ghost use Rattle.zc_machine.specs.Pages.{Paged};
-    ghost use Rattle.zc_machine.specs.Invariants.Pool.{ArePages, cells_of_pages};
+    ghost use Rattle.zc_machine.specs.Invariants.Pool.{AreCellPages, pooled_bytes};
 
     ghost Value = { Paged };
 
-    ghost view = { λ p. record { skip = p.skip; cells = cells_of_pages p.table.items p.pool.items p.skip p.size } };
+    ghost view = { λ p. record { skip = p.skip; cells = pooled_bytes p.table.items p.pool.items p.skip p.size } };
 
-    ghost invariant = { λ p. ArePages p.table.items p.pool.items (vec_capacity p.pool) p.skip p.size };
+    ghost invariant = { λ p. AreCellPages p.table.items p.pool.items (vec_capacity p.pool) p.skip p.size };
 }
 
 impl Pages {

@@ -1,7 +1,7 @@
 // Runs of the machine.
 
 ghost use Rattle.std.specs.Prelude.{◌≡◌, ℕ, ◌+◌, ◌<◌, None};
-ghost use Rattle.zc_machine.specs.Advance.{Advanced};
+ghost use Rattle.zc_machine.specs.Advance.{CameToCommit};
 ghost use Rattle.zc_machine.specs.Run.{interrupts_by};
 ghost use Rattle.zc_machine.specs.RunEnd.{Ran, course_of, zc_course};
 ghost use Rattle.zc_outside.specs.Desk.{OnlyWrites};
@@ -92,7 +92,7 @@ fn advance<B: BetweenCommits>(machine: &mut Machine, between: &mut B, steps: u64
     requires running { machine.old.exit ≡ None }
     requires below { machine.old.commits < steps }
     requires at { B.HasComeTo between.old machine.old.commits }
-    ensures advanced { (k : ℕ) × Advanced (B.happens between.old) machine.old machine.new k steps result
+    ensures advanced { (k : ℕ) × CameToCommit (B.happens between.old) machine.old machine.new k steps result
         × B.HasComeTo between.new (k + 1) }
     ensures same { B.happens between.new ≡ B.happens between.old }
 {

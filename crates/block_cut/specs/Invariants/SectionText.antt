@@ -36,8 +36,8 @@ abbrev pub number_on : SectionParts → ℕ → ℕ
 number_on s n = if starts_on s n || n == length s.bytes then length (starts_before s n) + 1 else 0
 
 -- those of a section; what isn't code has none
-abbrev pub numbers_in : SectionParts → List ℕ
-numbers_in s = if is_code_section s then by_halfword (number_on s) s else []
+abbrev pub numbers_of_section : SectionParts → List ℕ
+numbers_of_section s = if is_code_section s then by_halfword (number_on s) s else []
 
 -- the bytes that say what an item with a relocation of this kind is; those of padding say nothing
 abbrev pub read_length : Option RelocKind → ℕ
@@ -65,4 +65,4 @@ no_tables = record { numbers = []; places = [] }
 
 -- the numbers of its places, and these
 unfoldable pub section_tables : ParsedInputs → IndexedSection → SectionTables
-section_tables inputs l = record { numbers = numbers_in l.section; places = code_places inputs l }
+section_tables inputs l = record { numbers = numbers_of_section l.section; places = code_places inputs l }

@@ -10,13 +10,13 @@ use Rattle.frame_match.specs.declared.slot.Access.{Access}
 use Rattle.frame_match.specs.declared.slot.Access.TheVariants.{Saves, Restores}
 use Rattle.frame_match.specs.Matches.{before, frame_at, is_begun, is_frame, longer_of, pop_of, push_of}
 use Rattle.frame_match.specs.Read.{lowered}
-use Rattle.frame_match.specs.Invariants.Frames.{list_of, Fills, IsKnown}
+use Rattle.frame_match.specs.Invariants.Frames.{list_leaving_out, Fills, IsKnown}
 
 -- ---- frames
 
 -- the list that leaves out so many registers may have a frame, whose slots are used from an index on
 pub record IsFramed (which : Access) (bytes left_out : ℕ) (is : List Instr) (from : ℕ) : Type 0 where
-  pub fits : is_frame (list_of left_out) bytes ≡ true
+  pub fits : is_frame (list_leaving_out left_out) bytes ≡ true
   pub there : Fills which bytes left_out is from
 
 -- ---- pushes
@@ -27,7 +27,7 @@ pub record IsPush (is : List Instr) (g : Found) : Type 0 where
   pub bytes : ℕ
   pub lowers : lowered (slice_get is 0) ≡ Some bytes
   pub framed : IsFramed Saves bytes left_out is 1
-  pub found_is : g ≡ push_of (list_of left_out) bytes
+  pub found_is : g ≡ push_of (list_leaving_out left_out) bytes
 
 -- ---- pops
 
@@ -41,7 +41,7 @@ pub record IsPop (is : List Instr) (g : Found) : Type 0 where
   pub begun : is_begun ending is ≡ true
   pub raises : frame_at ending is (before ending + count) ≡ Some bytes
   pub framed : IsFramed Restores bytes left_out is (before ending)
-  pub found_is : g ≡ pop_of ending (list_of left_out) bytes
+  pub found_is : g ≡ pop_of ending (list_leaving_out left_out) bytes
 
 -- the end that a pop's instructions behind its loads are, if they are that one
 abbrev pub tail_as : Ending → List Instr → ℕ → Option Tail

@@ -9,7 +9,7 @@ use Rattle.block_cut.specs.Items.{is_start_at}
 use Rattle.block_cut.specs.Places.{IsPlaceNumber}
 use Rattle.block_cut.specs.declared.code_place.CodePlace.{CodePlace}
 use Rattle.block_cut.specs.declared.place_number.PlaceNumber.{PlaceNumber}
-use Rattle.frame_match.specs.Groups.{first_of, groups_of, roles_from, roles_in, Spot}
+use Rattle.frame_match.specs.Groups.{starting_group, groups_of, roles_from, roles_in, Spot}
 use Rattle.frame_match.specs.Invariants.Runs.{spots_of}
 use Rattle.frame_match.specs.declared.group.Group.{Group}
 use Rattle.frame_match.specs.declared.mark.Mark.{Mark}
@@ -30,7 +30,7 @@ marks_from n (Inside ∷ rs) = Within ∷ marks_from n rs
 -- those of sections, one after another
 abbrev pub section_marks : ℕ → List (List Role) → List (List Mark)
 section_marks n [] = []
-section_marks n (rs ∷ rss) = marks_from n rs ∷ section_marks (n + length (flat_map first_of rs)) rss
+section_marks n (rs ∷ rss) = marks_from n rs ∷ section_marks (n + length (flat_map starting_group rs)) rss
 
 -- those of all code
 abbrev pub all_marks : ParsedInputs → List (List Mark)
@@ -43,7 +43,7 @@ abbrev pub marks_after : Walk → List Spot → List Mark
 marks_after w ss = w.marks.items ++ marks_from (length w.groups.items) (roles_from w.left ss)
 
 abbrev pub groups_after : Walk → List Spot → List Group
-groups_after w ss = w.groups.items ++ flat_map first_of (roles_from w.left ss)
+groups_after w ss = w.groups.items ++ flat_map starting_group (roles_from w.left ss)
 
 -- one item on, it comes to the same
 pub record WalksOn (inputs : ParsedInputs) (l : IndexedSection) (ps : List CodePlace) (old new : Walk) : Type 0 where

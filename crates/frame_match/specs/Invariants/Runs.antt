@@ -22,8 +22,8 @@ ops_of [] = []
 ops_of (p ∷ ps) = op_then (op_in p) (ops_of ps)
 
 -- each place has one
-abbrev pub AreOps : List CodePlace → Type 0
-AreOps ps = (k : ℕ) (p : CodePlace) → slice_get ps k ≡ Some p → is_some (op_in p) ≡ true
+abbrev pub HaveOps : List CodePlace → Type 0
+HaveOps ps = (k : ℕ) (p : CodePlace) → slice_get ps k ≡ Some p → is_some (op_in p) ≡ true
 
 -- a push, a pop or moves may begin with an instruction: it restores a register, moves one, lowers sp or sets a0 to 0
 abbrev pub may_begin : Instr → Bool
@@ -45,9 +45,9 @@ spots_of inputs l ps = map (λ p. spot_on inputs l p.offset) ps
 -- ---- how far instructions go
 
 -- the instructions that the first of some items begins
-abbrev pub run_of : List Spot → List Instr
-run_of [] = []
-run_of (s ∷ ss) = ops_from s ss
+abbrev pub run_from : List Spot → List Instr
+run_from [] = []
+run_from (s ∷ ss) = ops_from s ss
 
 -- an item's instruction stands behind those before it, or is the first
 abbrev pub joins : Bool → Spot → Bool

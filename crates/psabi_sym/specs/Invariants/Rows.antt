@@ -58,8 +58,8 @@ abbrev pub row_start : List SectionRow → ℕ → DataClass → ℕ
 row_start rows low class = aligned_up 16 (fold (row_end rows) low (classes_before class))
 
 -- the table has the address of each section of data
-abbrev pub ArePlaced : List SectionRow → ℕ → List ℕ → Type 0
-ArePlaced rows low addresses =
+abbrev pub AreAddressed : List SectionRow → ℕ → List ℕ → Type 0
+AreAddressed rows low addresses =
     (k : ℕ) (r : SectionRow) (class : DataClass) → slice_get rows k ≡ Some r → r.role ≡ InClass class → same_class class Common ≡ false
     → slice_index addresses k ≡ row_address class (row_start rows low class) rows k r
 

@@ -10,7 +10,7 @@ use Rattle.psabi_sym.specs.Names.{goes_by_name}
 use Rattle.psabi_sym.specs.Invariants.Numbered.{IsNumbered}
 use Rattle.psabi_sym.specs.Resolve.{name_definition}
 use Rattle.psabi_sym.specs.Start.{IsStart}
-use Rattle.psabi_sym.specs.Invariants.Rows.{ArePlaced, name_number, section_row, section_starts, symbol_starts}
+use Rattle.psabi_sym.specs.Invariants.Rows.{AreAddressed, name_number, section_row, section_starts, symbol_starts}
 use Rattle.psabi_sym.specs.declared.data_class.DataClass.TheVariants.{SmallData, Common}
 use Rattle.psabi_sym.specs.declared.meaning.Meaning.{Meaning}
 use Rattle.psabi_sym.specs.declared.meaning.Meaning.TheVariants.{Nothing}
@@ -28,7 +28,7 @@ pub record AreNamed (inputs : ParsedInputs) (symbols : List SymbolRow) (meanings
 
 -- the addresses of sections, what names stand for, and where data ends
 pub record AreDefined (inputs : ParsedInputs) (sections : List SectionRow) (addresses : List ℕ) (symbols : List SymbolRow) (meanings : List Meaning) (file_end end : ℕ) : Type 0 where
-  pub placed : ArePlaced sections inputs.map.data_low addresses
+  pub placed : AreAddressed sections inputs.map.data_low addresses
   pub count : length addresses ≡ length sections
   pub named : AreNamed inputs symbols meanings
   pub file_end_is : file_end ≡ class_end inputs SmallData

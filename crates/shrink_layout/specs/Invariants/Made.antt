@@ -29,8 +29,8 @@ pub record IsItemPlace (inputs : ParsedInputs) (q : Place) (number : PlaceNumber
   pub is : item ≡ item_at inputs q
 
 -- items start at these places of the section with a number, from its first on
-abbrev pub AreHeld : ParsedInputs → ℕ → IndexedSection → List CodePlace → Type 0
-AreHeld inputs k l places =
+abbrev pub AreItemPlaces : ParsedInputs → ℕ → IndexedSection → List CodePlace → Type 0
+AreItemPlaces inputs k l places =
     (i : ℕ) (p : CodePlace) → slice_get places i ≡ Some p
     → IsItemPlace inputs (place_of l p.offset) (record { section = k; index = i }) p.item
 
@@ -38,7 +38,7 @@ AreHeld inputs k l places =
 pub record AreStartsOf (inputs : ParsedInputs) (s : SectionPlaces) : Type 0 where
   pub at : slice_get (all_sections inputs.objects) s.number ≡ Some s.section
   pub code : is_code_section s.section.section ≡ true
-  pub held : AreHeld inputs s.number s.section s.places.now
+  pub held : AreItemPlaces inputs s.number s.section s.places.now
   pub are : places_held s.section s.places.now ≡ places_of s.section
   pub few : length s.places.now < 2 ^ 32
 

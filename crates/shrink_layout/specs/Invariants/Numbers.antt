@@ -20,13 +20,13 @@ use Rattle.shrink_layout.specs.Units.{CodeUnit, OneGroup, OneItem, OneSite}
 -- ---- numbers
 
 -- how many pieces the sections before the one with a number among all have
-abbrev pub count_before : List ObjectParts → ℕ → ℕ
-count_before objects k = sum_by piece_count (take k (all_sections objects))
+abbrev pub section_pieces_before : List ObjectParts → ℕ → ℕ
+section_pieces_before objects k = sum_by piece_count (take k (all_sections objects))
 
 -- how many pieces stand before the first place of that section: what is in front of all code, the sections before it,
 -- and its padding
 abbrev pub first_number : List ObjectParts → ℕ → ℕ
-first_number objects k = 1 + count_before objects k + 1
+first_number objects k = 1 + section_pieces_before objects k + 1
 
 -- those of all sections
 abbrev pub AreFirstNumbers : List ObjectParts → List ℕ → Type 0

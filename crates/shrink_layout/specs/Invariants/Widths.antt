@@ -29,8 +29,8 @@ pub record AreStarts (addresses : List ℕ) (count : ℕ) (starts : List ℕ) : 
 -- ---- pieces that changed
 
 -- how many pieces before the one with number k changed
-abbrev pub count_before : Widths → ℕ → ℕ
-count_before w k = slice_index w.changes.items (k / block_size) + slice_index w.within.items k
+abbrev pub changed_before : Widths → ℕ → ℕ
+changed_before w k = slice_index w.changes.items (k / block_size) + slice_index w.within.items k
 
 -- the next count is as large, or larger by one
 abbrev pub IsRise : ℕ → ℕ → Type 0
@@ -42,12 +42,12 @@ pub record AreCounted (w : Widths) : Type 0 where
   pub within_count : length w.within.items ≡ length w.sums + 1
   pub none : slice_index w.changes.items 0 ≡ 0
   pub start : (b : ℕ) → b * block_size ≤ length w.sums → slice_index w.within.items (b * block_size) ≡ 0
-  pub rise : (k : ℕ) → k < length w.sums → IsRise (count_before w k) (count_before w (k + 1))
-  pub total : count_before w (length w.sums) ≤ slice_index w.changes.items (length w.sums / block_size + 1)
+  pub rise : (k : ℕ) → k < length w.sums → IsRise (changed_before w k) (changed_before w (k + 1))
+  pub total : changed_before w (length w.sums) ≤ slice_index w.changes.items (length w.sums / block_size + 1)
 
 -- the piece with number k didn't change, nor did one between it and its target
 abbrev pub IsUntouched : Widths → Piece → ℕ → Type 0
-IsUntouched w p k = count_before w (min (target p) k) ≡ count_before w (max (target p) (k + 1))
+IsUntouched w p k = changed_before w (min (target p) k) ≡ changed_before w (max (target p) (k + 1))
 
 -- such pieces fit, from number first on
 abbrev pub OthersFitFrom : ℕ → List Piece → List ℕ → Widths → Type 0
@@ -80,7 +80,7 @@ pub record IsCleared (old new : List ℕ) (first : ℕ) : Type 0 where
   pub after : (k : ℕ) → first + block_size ≤ k → slice_index new k ≡ slice_index old k
 
 -- a block was moved as a whole, which takes so many bytes
-pub record IsMoved (old new : Widths) (block taken : ℕ) : Type 0 where
+pub record IsBlockMoved (old new : Widths) (block taken : ℕ) : Type 0 where
   pub sums : new.sums ≡ old.sums
   pub starts : new.starts.items ≡ slice_set old.starts.items (block + 1) (slice_index old.starts.items block + taken)
   pub changes : new.changes.items ≡ slice_set old.changes.items (block + 1) (slice_index old.changes.items block)
@@ -118,6 +118,6 @@ pub record IsLaid (text : ℕ) (pieces : List Piece) (sizes : List ℕ) (old new
   pub within_before : (k : ℕ) → k < first → slice_index new.within.items k ≡ slice_index old.within.items k
   pub within_after : (k : ℕ) → first + block_size ≤ k → slice_index new.within.items k ≡ slice_index old.within.items k
   pub start : slice_index new.within.items first ≡ 0
-  pub rise : (k : ℕ) → first ≤ k → k < end → IsRise (count_before new k) (count_before new (k + 1))
-      × (count_before new k ≡ count_before new (k + 1) → slice_index new.sums k ≡ slice_index old.sums k)
-  pub total : count_before new end ≡ slice_index new.changes.items (block + 1)
+  pub rise : (k : ℕ) → first ≤ k → k < end → IsRise (changed_before new k) (changed_before new (k + 1))
+      × (changed_before new k ≡ changed_before new (k + 1) → slice_index new.sums k ≡ slice_index old.sums k)
+  pub total : changed_before new end ≡ slice_index new.changes.items (block + 1)

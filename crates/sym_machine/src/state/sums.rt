@@ -6,7 +6,7 @@ ghost use Rattle.psabi_sym.specs.Inputs.{parsed};
 ghost use Rattle.sym_machine.specs.Answer.{Makes};
 ghost use Rattle.sym_machine.specs.AddressParts as parts;
 ghost use Rattle.sym_machine.specs.Words as words;
-ghost use Rattle.sym_machine.specs.Change.{base_of, by_sum};
+ghost use Rattle.sym_machine.specs.Change.{base_register, by_sum};
 ghost use Rattle.sym_machine.specs.Kept.{word_of};
 ghost use Rattle.sym_machine.specs.Objects.{program_of};
 ghost use Rattle.sym_machine.specs.State.{reg_of};
@@ -51,7 +51,7 @@ impl State {
     ) -> Result<SymStep, AllocError>
         requires { self.old.core.exit ≡ None }
         ensures { Makes result (applied self.old.map self.old.core (by_sum instr.now (parts.low_sum target
-            (reg_of self.old.core (base_of instr.now))) self.old.core next)) self.old.core self.new.core }
+            (reg_of self.old.core (base_register instr.now))) self.old.core next)) self.old.core self.new.core }
     {
         let word = low_sum(target, &self.base(instr));
         self.step_sum(instr, &word, next)
@@ -68,7 +68,7 @@ impl State {
         requires { self.old.core.exit ≡ None }
         ensures { Makes result (applied self.old.map self.old.core (by_sum instr.now (parts.pc_low_sum q
             (parts.pc_target ((program_of (parsed cut.now)).item q)) (reg_of self.old.core
-            (base_of instr.now))) self.old.core next)) self.old.core self.new.core }
+            (base_register instr.now))) self.old.core next)) self.old.core self.new.core }
     {
         let word = pc_low_sum(cut, q, &self.base(instr));
         self.step_sum(instr, &word, next)
@@ -76,7 +76,7 @@ impl State {
 
     // The word in the register that the sum of an instruction begins with.
     fn base(&self, instr: &Instr) -> Held
-        ensures { word_of result ≡ reg_of self.now.core (base_of instr.now) }
+        ensures { word_of result ≡ reg_of self.now.core (base_register instr.now) }
     {
         match instr {
             Instr::Jalr { base, .. }

@@ -10,7 +10,7 @@ pub use Rattle.frame_match.specs.Matches.{pop_kind, rest_of, slots_below}
 pub use Rattle.frame_match.specs.declared.found.Ending.{Ending}
 pub use Rattle.frame_match.specs.declared.found.Ending.TheVariants.{GoesOn, Returns, ZeroBeforeRaise, ZeroBeforeReturn, ZeroFirst}
 pub use Rattle.frame_match.specs.declared.slot.Slot.{Slot}
-use Rattle.zc_decode.specs.Lists.{base_of, registers_of}
+use Rattle.zc_decode.specs.Lists.{stack_adjust_base, registers_of}
 use Rattle.zc_decode.specs.declared.short.Short.{Short}
 use Rattle.zc_decode.specs.declared.short.Short.TheVariants.{MoveAs, MoveSa, Push}
 
@@ -26,13 +26,13 @@ pub record IsFrame (list frame : ℕ) (order : List Slot) : Type 0 where
   pub from : 4 ≤ list
   pub to : list ≤ 15
   pub whole : frame % 16 ≡ 0
-  pub least : base_of list ≤ frame
+  pub least : stack_adjust_base list ≤ frame
   pub most : frame ≤ 2032
   pub same : SameSlots order (slots_below frame (registers_of list))
 
 -- what one halfword moves sp by
-abbrev pub adjust_of : ℕ → ℕ → ℕ
-adjust_of list frame = frame - rest_of list frame
+abbrev pub frame_adjust : ℕ → ℕ → ℕ
+frame_adjust list frame = frame - rest_of list frame
 
 -- ---- instructions
 
@@ -48,9 +48,9 @@ abbrev pub stores_of : List Slot → List Instr
 stores_of [] = []
 stores_of (d ∷ ds) = Store Sw d.register 2 (pos d.offset) ∷ stores_of ds
 
-abbrev pub loads_of : List Slot → List Instr
-loads_of [] = []
-loads_of (d ∷ ds) = Load Lw d.register 2 (pos d.offset) ∷ loads_of ds
+abbrev pub slot_loads : List Slot → List Instr
+slot_loads [] = []
+slot_loads (d ∷ ds) = Load Lw d.register 2 (pos d.offset) ∷ slot_loads ds
 
 -- `addi a0,x0,0`
 abbrev pub zero_a0 : Instr
@@ -72,14 +72,14 @@ push_ops frame order = lower_sp frame ∷ stores_of order
 
 -- the registers are loaded, and then sp is raised
 abbrev pub pop_ops : ℕ → List Slot → List Instr
-pop_ops frame order = loads_of order ++ raise_sp frame ∷ []
+pop_ops frame order = slot_loads order ++ raise_sp frame ∷ []
 
 -- the items of a pop but its return
 abbrev pub ops_before_return : Ending → ℕ → List Slot → List Instr
 ops_before_return GoesOn frame order = pop_ops frame order
 ops_before_return Returns frame order = pop_ops frame order
 ops_before_return ZeroFirst frame order = zero_a0 ∷ pop_ops frame order
-ops_before_return ZeroBeforeRaise frame order = loads_of order ++ zero_a0 ∷ raise_sp frame ∷ []
+ops_before_return ZeroBeforeRaise frame order = slot_loads order ++ zero_a0 ∷ raise_sp frame ∷ []
 ops_before_return ZeroBeforeReturn frame order = pop_ops frame order ++ zero_a0 ∷ []
 
 -- the return, if there is one
@@ -141,8 +141,8 @@ group_commits (MovesFromSaved order first second) = 1
 
 -- the halfword that is written for it
 abbrev pub group_half : GroupKind → Short
-group_half (PushOf list frame order) = Push list (adjust_of list frame)
-group_half (PopOf ending list frame order) = pop_kind ending list (adjust_of list frame)
+group_half (PushOf list frame order) = Push list (frame_adjust list frame)
+group_half (PopOf ending list frame order) = pop_kind ending list (frame_adjust list frame)
 group_half (MovesToSaved order first second) = MoveSa first second
 group_half (MovesFromSaved order first second) = MoveAs first second
 

@@ -20,7 +20,7 @@ use Rattle.zc_decode.specs.Halfwords.{decoded16}
 use Rattle.zc_decode.specs.declared.short.Short.{Short}
 use Rattle.zc_decode.specs.declared.short.Short.TheVariants.{Base, MoveAs, MoveSa, Push, TableJump}
 use Rattle.zc_machine.specs.Fetch.{Found, fetched_at}
-use Rattle.zc_link.specs.Invariants.Groups.{Ending, GroupKind, IsGroup, MovesFromSaved, MovesToSaved, PopOf, PushOf, adjust_of, group_commits, group_ops, lower_sp, pop_kind, raise_sp, rest_of}
+use Rattle.zc_link.specs.Invariants.Groups.{Ending, GroupKind, IsGroup, MovesFromSaved, MovesToSaved, PopOf, PushOf, frame_adjust, group_commits, group_ops, lower_sp, pop_kind, raise_sp, rest_of}
 use Rattle.zc_link.specs.Image.{Image, loaded_core}
 use Rattle.zc_link.specs.LaidOut.{linked_by}
 use Rattle.zc_link.specs.Meant.{meant}
@@ -117,9 +117,9 @@ pub record LongLaid (p : Program) (e : Image) (q : Place) (a : ℕ) (op : Branch
 -- ---- groups
 
 -- the place so many items on
-abbrev pub place_on : Program → Place → ℕ → Place
-place_on p q zero = q
-place_on p q (suc k) = place_on p (p.next q) k
+abbrev pub place_items_on : Program → Place → ℕ → Place
+place_items_on p q zero = q
+place_items_on p q (suc k) = place_items_on p (p.next q) k
 
 -- from a place on the items are these instructions, without relocation
 abbrev pub AreOps : Program → Place → List Instr → Type 0
@@ -138,14 +138,14 @@ RestAt e a rest i end = ((rest ≡ 0) × (end ≡ a)) ⊎ ((0 < rest) × (form :
 
 -- a push stands there: a halfword, and then the rest of its frame
 pub record PushAt (e : Image) (a list frame end : ℕ) : Type 0 where
-  pub half : OneAt e a (Push list (adjust_of list frame))
+  pub half : OneAt e a (Push list (frame_adjust list frame))
   pub rest : RestAt e (a + half.size) (rest_of list frame) (lower_sp (rest_of list frame)) end
 
 -- a pop stands there: the rest of its frame, and then a halfword
 pub record PopAt (e : Image) (a : ℕ) (ending : Ending) (list frame end : ℕ) : Type 0 where
   pub middle : ℕ
   pub rest : RestAt e a (rest_of list frame) (raise_sp (rest_of list frame)) middle
-  pub half : OneAt e middle (pop_kind ending list (adjust_of list frame))
+  pub half : OneAt e middle (pop_kind ending list (frame_adjust list frame))
   pub ends : end ≡ middle + half.size
 
 -- one halfword stands there
@@ -169,8 +169,8 @@ pub record GroupLaid (p : Program) (e : Image) (q : Place) (a items commits : �
   pub commits_are : commits ≡ group_commits kind
   pub end : ℕ
   pub at : GroupAt e a kind end
-  pub inside : (k : ℕ) → 0 < k → k < items → e.address (place_on p q k) ≡ None
-  pub next : e.address (place_on p q items) ≡ Some end
+  pub inside : (k : ℕ) → 0 < k → k < items → e.address (place_items_on p q k) ≡ None
+  pub next : e.address (place_items_on p q items) ≡ Some end
 
 -- ---- the jump table
 

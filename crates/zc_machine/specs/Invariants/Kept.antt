@@ -8,17 +8,17 @@ use Rattle.zc_machine.specs.declared.code.Kept.{Kept}
 use Rattle.zc_machine.specs.declared.code.Kept.TheVariants.{Known, Unknown}
 
 -- the entries, and as many after them that say nothing as it takes to have one with this index
-abbrev pub extended : List Kept → ℕ → List Kept
-extended kept index = kept ++ replicate (index + 1 - length kept) Unknown
+abbrev pub extended_to_index : List Kept → ℕ → List Kept
+extended_to_index kept index = kept ++ replicate (index + 1 - length kept) Unknown
 
 -- what an entry says is what the bytes from its halfword on begin with
-abbrev pub IsOf : Kept → List ℕ → Type 0
-IsOf Unknown bytes = Unit {0}
-IsOf (Known size short) bytes = instruction bytes ≡ Found short size
+abbrev pub IsDecodedFrom : Kept → List ℕ → Type 0
+IsDecodedFrom Unknown bytes = Unit {0}
+IsDecodedFrom (Known size short) bytes = instruction bytes ≡ Found short size
 
 -- so is each entry; and there is room for an entry of each halfword
-pub record IsKept (bytes : List ℕ) (kept : List Kept) (capacity : ℕ) : Type 0 where
-  pub right : (k : ℕ) → IsOf (slice_index_or kept k Unknown) (drop (2 * k) bytes)
+pub record IsCodeCache (bytes : List ℕ) (kept : List Kept) (capacity : ℕ) : Type 0 where
+  pub right : (k : ℕ) → IsDecodedFrom (slice_index_or kept k Unknown) (drop (2 * k) bytes)
   pub room : length bytes / 2 ≤ capacity
 
 -- what an entry says of an address is what stands there, in code

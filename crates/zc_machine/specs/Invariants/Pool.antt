@@ -7,8 +7,8 @@ abbrev pub byte_of_pages : List ℕ → List ℕ → ℕ → ℕ
 byte_of_pages table pool i = slice_index pool (4096 * slice_index table (i / 4096) + i % 4096)
 
 -- so many cells from an index on
-abbrev pub cells_of_pages : List ℕ → List ℕ → ℕ → ℕ → List ℕ
-cells_of_pages table pool from size = map (byte_of_pages table pool) (range_with_len from size)
+abbrev pub pooled_bytes : List ℕ → List ℕ → ℕ → ℕ → List ℕ
+pooled_bytes table pool from size = map (byte_of_pages table pool) (range_with_len from size)
 
 -- each entry names a page of the pool, and no two entries name one page but that of zeros; a pool of this capacity has room
 -- for a page for each entry that names none of its own
@@ -21,7 +21,7 @@ pub record IsPool (table pool : List ℕ) (capacity : ℕ) : Type 0 where
   pub few : length table ≤ 2 ^ 52
 
 -- the pages of so many cells, with so many bytes before them in the first page
-pub record ArePages (table pool : List ℕ) (capacity skip size : ℕ) : Type 0 where
+pub record AreCellPages (table pool : List ℕ) (capacity skip size : ℕ) : Type 0 where
   pub in_pool : IsPool table pool capacity
   pub first : skip < 4096
   pub covered : skip + size ≤ 4096 * length table

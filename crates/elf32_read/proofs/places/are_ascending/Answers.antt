@@ -2,14 +2,14 @@ use Rattle.std.proofs.Common.{◌+◌, ◌-◌, ◌/◌, length, map, sym, ap, �
 use Rattle.std.specs.Prelude.{◌&&◌}
 use Rattle.std.specs.List.{range_with_len}
 use Rattle.zc_base.specs.Places.{is_before}
-use Rattle.elf32_read.specs.Places.{entry_at, is_ascending}
+use Rattle.elf32_read.specs.Places.{place_entry_at, is_ascending}
 use Rattle.elf32_read.proofs.Ascending.{is_ascending_step}
 use Rattle.elf32_read.proofs.places.are_ascending.Goals as goal
 
 -- the entry at hand does not come before the next
 pub returns-then-not-is_before : goal.returns-then-not-is_before
 returns-then-not-is_before c =
-    let f = entry_at c.args.entries.now in
+    let f = place_entry_at c.args.entries.now in
     let i = c.loop-i.i in
     let n = length c.args.entries.now / 12 in
     let rest = is_ascending (map f (range_with_len (i + 1) (n - (i + 1)))) in
@@ -19,7 +19,7 @@ returns-then-not-is_before c =
 -- it does
 pub loop-i-preserved : goal.loop-i-preserved
 loop-i-preserved c =
-    let f = entry_at c.args.entries.now in
+    let f = place_entry_at c.args.entries.now in
     let i = c.loop-i.i in
     let n = length c.args.entries.now / 12 in
     let rest = is_ascending (map f (range_with_len (i + 1) (n - (i + 1)))) in

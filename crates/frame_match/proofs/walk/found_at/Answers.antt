@@ -1,7 +1,7 @@
 -- Where a group may begin, the code looks at as many instructions as one may have, which come to the same.
 use Rattle.std.proofs.Common.{◌∙◌, sym}
 use Rattle.psabi_sym.specs.Inputs.{parsed}
-use Rattle.frame_match.specs.Invariants.Runs.{run_of, spots_of}
+use Rattle.frame_match.specs.Invariants.Runs.{run_from, spots_of}
 use Rattle.frame_match.proofs.BeginLaws.{nothing_at}
 use Rattle.frame_match.proofs.ReachLaws.{longest_same}
 use Rattle.frame_match.proofs.walk.found_at.Goals as goal
@@ -13,4 +13,4 @@ returns-else-begins c =
 pub returns-then-begins : goal.returns-then-begins
 returns-then-begins c =
     c.longest.ensures
-    ∙ longest_same c.new.result (run_of (spots_of (parsed c.args.cut.now) c.args.section.now c.args.places.now)) c.new.ensures
+    ∙ longest_same c.new.result (run_from (spots_of (parsed c.args.cut.now) c.args.section.now c.args.places.now)) c.new.ensures

@@ -3,7 +3,7 @@ use Rattle.std.specs.List.{flat_map, slice_get}
 use Rattle.std.proofs.lemmas.Option.{same_Some}
 use Rattle.psabi_sym.specs.Inputs.{Inputs, parsed}
 use Rattle.psabi_sym.specs.Indexed.{all_sections}
-use Rattle.frame_match.specs.Groups.{first_of}
+use Rattle.frame_match.specs.Groups.{starting_group}
 use Rattle.frame_match.specs.Invariants.Marks.{marks_from}
 use Rattle.frame_match.proofs.SectionLaws.{walked_places, walked_roles, walked_room}
 use Rattle.frame_match.proofs.walk.walk_section.Goals as goal
@@ -27,7 +27,7 @@ returns-clause-groups c l at =
     let here = ap (λ (x : Inputs). slice_get (all_sections (parsed x).objects) c.args.section) (sym c.objects.ensures.same) ∙ c.section.ensures in
     let own : c.section.result ≡ l = same_Some _ _ (sym here ∙ at) in
     let roles = walked_roles (parsed c.args.cut.now) l c.section.result c.places.result.now c.starts_of-places.result.now (c.places.ensures l at) c.starts_of-places.ensures own in
-    c.in_ok-go_over.ensures.groups ∙ ap (λ rs. c.args.groups.items ++ flat_map first_of rs) roles
+    c.in_ok-go_over.ensures.groups ∙ ap (λ rs. c.args.groups.items ++ flat_map starting_group rs) roles
 
 pub go_over-requires-clause-room : goal.go_over-requires-clause-room
 go_over-requires-clause-room c =

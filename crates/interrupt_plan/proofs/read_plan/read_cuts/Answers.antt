@@ -1,7 +1,7 @@
 use Rattle.std.proofs.Common.{◌≡◌, ◌+◌, ◌≤◌, [], ◌∷◌, ◌++◌, length, ap, inr, sym, ◌∙◌, length-append, arith}
 use Rattle.std.proofs.lemmas.Bool.{cond-true}
 use Rattle.text_lines.specs.Lines.{lines_of}
-use Rattle.interrupt_plan.specs.Text.{entries_in}
+use Rattle.interrupt_plan.specs.Text.{entries_of_lines}
 use Rattle.interrupt_plan.proofs.EntryLaws.{in_order_pushed, last_pushed, step_bad, step_late, step_more, with_entries}
 use Rattle.interrupt_plan.proofs.read_plan.read_cuts.Goals as goal
 
@@ -29,8 +29,8 @@ loop-rest-preserved c =
     record {
       so_far = c.loop-rest.invariant.so_far
           ∙ step_more es c.loop-rest.number c.loop-rest.low c.loop-rest.rest.now c.in-Some.line.now c.in-Some.behind.now c.in-Some.ensures.lines e (sym c.in_ok-cut.ensures ∙ c.in-Some-2.is) on
-          ∙ ap (λ n. with_entries (es ++ (e ∷ [])) (entries_in (c.loop-rest.number + 1) n (lines_of c.in-Some.behind.now))) at
-          ∙ ap (λ l. with_entries l (entries_in (c.loop-rest.number + 1) c.cut.inside.at (lines_of c.in-Some.behind.now))) (sym more);
+          ∙ ap (λ n. with_entries (es ++ (e ∷ [])) (entries_of_lines (c.loop-rest.number + 1) n (lines_of c.in-Some.behind.now))) at
+          ∙ ap (λ l. with_entries l (entries_of_lines (c.loop-rest.number + 1) c.cut.inside.at (lines_of c.in-Some.behind.now))) (sym more);
       count = omega (arith, size, one, c.loop-rest.invariant.count);
       room = omega (arith, size, one, line, parts, c.loop-rest.invariant.room);
       in_order = in_order_pushed es c.push.new.self.items e c.loop-rest.low more c.loop-rest.invariant.in_order c.loop-rest.invariant.last on;

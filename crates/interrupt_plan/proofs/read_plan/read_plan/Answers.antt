@@ -7,7 +7,7 @@ use Rattle.text_lines.specs.Lines.{lines_of}
 use Rattle.interrupt_plan.specs.Plan.{Entry}
 use Rattle.interrupt_plan.specs.declared.fault.PlanFault.{PlanFault}
 use Rattle.interrupt_plan.specs.declared.fault.PlanFault.TheVariants.{BadLine, OutOfMemory, TooLarge}
-use Rattle.interrupt_plan.specs.Text.{entries_in, plan_in}
+use Rattle.interrupt_plan.specs.Text.{entries_of_lines, plan_in}
 use Rattle.interrupt_plan.proofs.FaultLaws.{fault_read}
 use Rattle.interrupt_plan.proofs.TextLaws.{behind_title, bytes_read, other_title, refused, same_plan, text_read, too_large, within_limit}
 use Rattle.interrupt_plan.proofs.read_plan.read_plan.Goals as goal
@@ -61,7 +61,7 @@ carried text found fault is (inr bad) = inr (is ∙ bad)
 
 bad_line : (c : goal.After-from_residual) → (c.in_err-cuts.field-0.0 ≡ OutOfMemory) ⊎ (plan_in c.args.text.now ≡ Err c.in_err-cuts.field-0.0)
 bad_line c =
-    carried c.args.text.now (entries_in 2 0 (lines_of c.in-Some.lines.now)) c.in_err-cuts.field-0.0
+    carried c.args.text.now (entries_of_lines 2 0 (lines_of c.in-Some.lines.now)) c.in_err-cuts.field-0.0
     (within_limit c.args.text.now (c.in-Some.title.now ∷ lines_of c.in-Some.lines.now) c.if-text-gt-PLAN_LIMIT.false c.in-Some.ensures.lines
     ∙ behind_title c.in-Some.title.now c.in-Some.lines.now (agrees c.in-Some.title.now c.as_slice.result.now c.as_slice.ensures c.if-ne.ensures))
     c.in_err-cuts.ensures.err

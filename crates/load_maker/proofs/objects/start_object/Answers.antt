@@ -1,7 +1,7 @@
 use Rattle.std.proofs.Common.{◌≡◌, ap, ◌∙◌, arith}
 use Rattle.std.proofs.lemmas.List.Elements.{All-same}
 use Rattle.std.proofs.lemmas.Result.{IfOk-weaker}
-use Rattle.load_maker.specs.First.{IsFirst}
+use Rattle.load_maker.specs.First.{IsStartObject}
 use Rattle.load_maker.specs.Objects.{start_statements}
 use Rattle.load_maker.specs.Statements.{IsInRange, code_size}
 use Rattle.load_maker.proofs.CodeLaws.{right_range}
@@ -20,5 +20,5 @@ start_parts-requires-clause-size c = omega (arith, ap code_size (c.deref.ensures
 pub returns : goal.returns
 returns c =
     let statements = c.deref.result.now in
-    IfOk-weaker c.start_parts.result (λ parts. parts ≡ parts_of statements) (IsFirst c.args.number c.args.functions)
+    IfOk-weaker c.start_parts.result (λ parts. parts ≡ parts_of statements) (IsStartObject c.args.number c.args.functions)
     (first_folded c.args.number c.args.functions statements (c.deref.ensures.value ∙ c.in_ok-statements.ensures)) c.start_parts.ensures

@@ -1,8 +1,8 @@
 use Rattle.std.proofs.Common.{sym, ◌∙◌}
-use Rattle.pick_check.specs.Text.{slot_of}
+use Rattle.pick_check.specs.Text.{slot_in_line}
 use Rattle.pick_check.proofs.FirstLaws.{first_line}
 use Rattle.pick_check.proofs.first.first_slot.Goals as goal
 
 pub returns-clause-read : goal.returns-clause-read
 returns-clause-read c =
-    sym (first_line slot_of c.args.text.now c.in_ok-line.line.now c.in_ok-line.rest.now c.in_ok-line.ensures.lines ∙ sym c.in_ok-read_slot.ensures)
+    sym (first_line slot_in_line c.args.text.now c.in_ok-line.line.now c.in_ok-line.rest.now c.in_ok-line.ensures.lines ∙ sym c.in_ok-read_slot.ensures)

@@ -2,7 +2,7 @@ use Rattle.std.proofs.Common.{◌+◌, ◌-◌, ◌*◌, ◌/◌, ◌%◌, ◌<�
 use Rattle.std.specs.Prelude.{slice_index}
 use Rattle.shrink_layout.specs.declared.widths.Widths.{Widths}
 use Rattle.shrink_layout.specs.Invariants.Blocks.{block_size}
-use Rattle.shrink_layout.specs.Invariants.Widths.{IsMoved}
+use Rattle.shrink_layout.specs.Invariants.Widths.{IsBlockMoved}
 use Rattle.shrink_layout.proofs.AddressLaws.{first_address}
 use Rattle.shrink_layout.proofs.ChangeLaws.{index_is, placed_long}
 use Rattle.shrink_layout.proofs.LaidLaws.{moved_laid, moved_text}
@@ -80,7 +80,7 @@ loop-block-preserved c =
     let turned : IsMovedOn pieces sizes old w' (block + 1) (min (length pieces) ((block + 1) * block_size)) (slice_index w.starts.items (block + 1)) = elim c.if-can_move.branch [
       | then-can_move v ↦
           let can = v.if-can_move.ensures in
-          let moved = subst (λ m. IsMoved w v.move_block.new.widths block (m - here)) next v.move_block.ensures in
+          let moved = subst (λ m. IsBlockMoved w v.move_block.new.widths block (m - here)) next v.move_block.ensures in
           subst (λ (x : Widths). IsMovedOn pieces sizes old x (block + 1) (min (length pieces) ((block + 1) * block_size)) (slice_index w.starts.items (block + 1))) (sym v.widths-is)
           (moved_whole pieces sizes old w blocks block here grown in_blocks now multiple (can.kept refl) refl (can.some refl) (can.alike refl ∙ ap (λ m. m % multiple) at) v.move_block.new.widths moved)
       | else-can_move v ↦

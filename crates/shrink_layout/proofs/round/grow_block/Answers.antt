@@ -4,7 +4,7 @@ use Rattle.shrink_layout.specs.declared.piece.Piece.{Piece}
 use Rattle.shrink_layout.specs.declared.piece.Piece.TheVariants.{Fixed}
 use Rattle.shrink_layout.specs.declared.widths.Widths.{Widths}
 use Rattle.shrink_layout.specs.Invariants.Blocks.{HaveGrownIn, IsSpanned, ReachesAll, block_size, nth_piece}
-use Rattle.shrink_layout.specs.Invariants.Widths.{AreStarts, CanBeTested, IsUntouched, addresses_in, count_before}
+use Rattle.shrink_layout.specs.Invariants.Widths.{AreStarts, CanBeTested, IsUntouched, addresses_in, changed_before}
 use Rattle.shrink_layout.specs.Forms.{holds, near_limit, target}
 use Rattle.shrink_layout.specs.Layout.{holds_at}
 use Rattle.shrink_layout.proofs.ChangeLaws.{by_long, by_next, by_top}
@@ -82,7 +82,7 @@ loop-k-preserved c =
               | else-changed-via-else-changed x ↦
                   let low : v.min.result ≡ min (target p) k = omega (arith, v.min.ensures, v.target-to.ensures) in
                   let high : v.max.result ≡ max (target p) (k + 1) = omega (arith, v.max.ensures, v.target-to.ensures) in
-                  let untouched : IsUntouched w p k = ap (count_before w) (sym low) ∙ v.changed.ensures x.if-changed.false ∙ ap (count_before w) high in
+                  let untouched : IsUntouched w p k = ap (changed_before w) (sym low) ∙ v.changed.ensures x.if-changed.false ∙ ap (changed_before w) high in
                   ap (holds_at a k p) kept ∙ c.requires.others k from_first in_pieces untouched
             ] in
             test_fits a pieces old sizes all k c.loop-k.fitted fitted' kept fits (v.sizes-is ∙ u.sizes-is) (v.fitted-is ∙ u.fitted-is)

@@ -1,5 +1,5 @@
 use Rattle.std.proofs.Common.{◌≡◌, ◌<◌, ◌-◌}
-use Rattle.zc_machine.specs.Advance.{RunsTo}
+use Rattle.zc_machine.specs.Advance.{RunsToMachine}
 use Rattle.zc_machine.proofs.run.advance.Given as goal
 
 abbrev pub invariant-loop-machine : goal.invariant-loop-machine
@@ -7,7 +7,7 @@ invariant-loop-machine g l = record {
   within : l.machine.commits < l.steps;
   at : g.B.BetweenCommits.HasComeTo l.between l.machine.commits;
   same : g.B.BetweenCommits.happens l.between ≡ g.B.BetweenCommits.happens l.initial.between;
-  runs : RunsTo (g.B.BetweenCommits.happens l.initial.between) l.initial.machine l.machine;
+  runs : RunsToMachine (g.B.BetweenCommits.happens l.initial.between) l.initial.machine l.machine;
 }
 
 abbrev pub decreases-loop-machine : goal.decreases-loop-machine

@@ -10,7 +10,7 @@ use Rattle.psabi_sym.specs.Indexed.{all_sections}
 use Rattle.psabi_sym.proofs.SectionNumbers.{listed_at}
 use Rattle.elf32_read.specs.Parts.{is_code_section}
 use Rattle.block_cut.specs.Invariants.CodeTargets.{code_leads}
-use Rattle.block_cut.specs.DataWords.{words_in}
+use Rattle.block_cut.specs.DataWords.{data_words_in}
 use Rattle.block_cut.specs.Faults.{relocs_fault, section_fault}
 use Rattle.block_cut.specs.Leaders.{is_place, section_leads}
 use Rattle.block_cut.specs.Resolved.{placed_relocs, resolved_fault}
@@ -85,7 +85,7 @@ loop-k-preserved c =
     ∙ ap (λ o. option_map {U = ℕ × Fault} (λ (f : Fault). (l.object, f)) o) ((λ j. first_some (map (resolved_fault inputs.objects (sym c.index.ensures j)) (sym c.deref.ensures.value j))) ∙ sym c.section_fault.ensures ∙ c.in_default.is) in
     record {
       faultless = none_next (section_fault inputs) all k l at c.loop-k.invariant.faultless here;
-      words = c.in_ok-add_section_words.ensures ∙ ap (λ ws. ws ++ words_in inputs l) c.loop-k.invariant.words ∙ sym (words_next inputs k l at);
+      words = c.in_ok-add_section_words.ensures ∙ ap (λ ws. ws ++ data_words_in inputs l) c.loop-k.invariant.words ∙ sym (words_next inputs k l at);
       leaders = λ q.
           let before = list_any (code_leads inputs q) all in
           let rest = list_any (section_leads inputs q) (take k all) in
@@ -110,6 +110,6 @@ returns-clause-targets c =
     let all = all_sections inputs.objects in
     let whole = take_all c.loop-k.k all (omega (arith, c.section_count-k-end.ensures.count)) in
     record {
-      words_are = c.loop-k.invariant.words ∙ ap (flat_map (words_in inputs)) whole;
+      words_are = c.loop-k.invariant.words ∙ ap (flat_map (data_words_in inputs)) whole;
       leaders_are = λ q. c.loop-k.invariant.leaders q ∙ ap (λ ls. list_any (code_leads inputs q) all || list_any (section_leads inputs q) ls) whole ∙ code_led inputs q all;
     }

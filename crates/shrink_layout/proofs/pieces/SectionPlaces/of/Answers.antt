@@ -4,7 +4,7 @@ use Rattle.elf32_read.specs.Parts.{is_code_section}
 use Rattle.psabi_sym.specs.Inputs.{parsed}
 use Rattle.psabi_sym.specs.Indexed.{all_sections}
 use Rattle.block_cut.specs.Items.{places_of}
-use Rattle.shrink_layout.specs.Invariants.Made.{AreHeld, places_held}
+use Rattle.shrink_layout.specs.Invariants.Made.{AreItemPlaces, places_held}
 use Rattle.shrink_layout.proofs.HeldLaws.{starts_held}
 use Rattle.shrink_layout.proofs.SavingLaws.{take_most}
 use Rattle.shrink_layout.proofs.SectionLaws.{count_few, count_next, held_all, no_code, places_count, some_at, some_code}
@@ -29,7 +29,7 @@ returns-clause-some c =
     record {
       at = there.1 ∙ ap Some (sym own);
       code = ap (λ m. is_code_section m.section) own ∙ code;
-      held = subst₂ (AreHeld (parsed inputs) k) (sym own) (sym starts) (starts_held inputs none k l there.1 code);
+      held = subst₂ (AreItemPlaces (parsed inputs) k) (sym own) (sym starts) (starts_held inputs none k l there.1 code);
       are = (λ i. places_held (own i) (starts i)) ∙ held_all inputs none k l there.1 code ∙ ap places_of (sym own);
       few = omega (
         arith,

@@ -2,7 +2,7 @@ use Rattle.std.proofs.Common.{◌≡◌, List, length, ap, sym, subst, ◌∙◌
 use Rattle.std.specs.Prelude.{IfSome}
 use Rattle.sym_machine.specs.declared.word.SymByte.{SymByte}
 use Rattle.sym_machine.specs.declared.word.SymWord.{SymWord}
-use Rattle.sym_machine.specs.Pages.{word_in}
+use Rattle.sym_machine.specs.Pages.{cell_word}
 use Rattle.sym_machine.specs.Words.{number_word}
 use Rattle.sym_machine.specs.Stack.{Strips}
 use Rattle.sym_machine.proofs.StackLaws.{length-stack, open_word}
@@ -19,5 +19,5 @@ returns-then-is_open c =
     let now = c.args.self.now in
     let cells : c.self.inside.cells ≡ now.cells = ap (λ (s : Strips). s.cells) c.self.view_is in
     subst (λ (w : SymWord). IfSome c.word_at.result (λ n. number_word n ≡ w))
-    (ap (λ (l : List SymByte). word_in l c.args.i) cells
+    (ap (λ (l : List SymByte). cell_word l c.args.i) cells
     ∙ open_word now c.args.i (omega (arith, c.requires, length-stack now)) (omega (arith, c.if-i.true)) (sym c.is_open.ensures ∙ c.if-is_open.true)) c.word_at.ensures

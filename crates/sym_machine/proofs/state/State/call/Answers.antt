@@ -6,7 +6,7 @@ use Rattle.sym_machine.specs.declared.answer.SymStep.TheVariants as answer
 use Rattle.sym_machine.specs.declared.why.Why.TheVariants.{StackPointer}
 use Rattle.sym_machine.specs.Answer.{StepAnswers}
 use Rattle.sym_machine.specs.Change.{Does, Goes, call_to}
-use Rattle.sym_machine.specs.Kept.{IsWorking, Working, words_of}
+use Rattle.sym_machine.specs.Kept.{IsWorking, Working, register_words}
 use Rattle.sym_machine.specs.State.{PlainCore}
 use Rattle.sym_machine.specs.Step.{PlainStep, Stuck, applied}
 use Rattle.sym_machine.proofs.StateLaws.{call_forgets_sp, call_goes, call_links_sp, calls, calls_off, calls_on, core_of, forgotten, working_set}
@@ -35,7 +35,7 @@ invariant_of-self c =
     let i = c.self.inside in
     let is = c.self.invariant.0 in
     let is' = working_set i.registers i.memory i.memory c.number-2.result forgotten is is.kept refl c.if-part-eq0.false c.if-part-eq2.false in
-    let Is : Inside → Type 0 = λ n. IsWorking (words_of n.registers) n.memory × (n.taken ≤ length n.input.items) in
+    let Is : Inside → Type 0 = λ n. IsWorking (register_words n.registers) n.memory × (n.taken ≤ length n.input.items) in
     elim c.if-link-ne0.branch [
       | then-link-ne0 w ↦
           subst Is (sym w.self-inside-is) (

@@ -6,7 +6,7 @@ use Rattle.sym_machine.specs.declared.held.Held.{Held}
 use Rattle.sym_machine.specs.declared.held.Held.TheVariants as held
 use Rattle.sym_machine.specs.Answer.{RunsOn}
 use Rattle.sym_machine.specs.Change.{Goes, sets}
-use Rattle.sym_machine.specs.Kept.{Working, word_of, words_of}
+use Rattle.sym_machine.specs.Kept.{Working, word_of, register_words}
 use Rattle.sym_machine.specs.Step.{applied}
 use Rattle.sym_machine.specs.Words.{number_word, undef_word}
 use Rattle.sym_machine.proofs.StateLaws.{core_of, gives_sp, working_sp}
@@ -23,7 +23,7 @@ returns-clause-sp c =
     let i = c.self.inside in
     let w : Held = held.Number c.args.sp in
     ap (λ l. get_or l 2 undef_word) (map-set word_of i.registers 2 w)
-    ∙ get_or-set_same (words_of i.registers) 2 (word_of w) undef_word (omega (arith, c.self.invariant.0.registers_are.count))
+    ∙ get_or-set_same (register_words i.registers) 2 (word_of w) undef_word (omega (arith, c.self.invariant.0.registers_are.count))
 
 pub returns-clause-made : goal.returns-clause-made
 returns-clause-made c =

@@ -1,5 +1,5 @@
 use Rattle.std.proofs.Common.{◌≡◌, ℕ, ◌+◌, ◌-◌, ◌*◌, ◌%◌, length, min, take, drop, sym, ap, ap₂, subst, ◌∙◌, arith}
-use Rattle.zc_machine.specs.Invariants.Pool.{cells_of_pages}
+use Rattle.zc_machine.specs.Invariants.Pool.{pooled_bytes}
 use Rattle.zc_machine.specs.Pages.{Paged}
 use Rattle.zc_machine.proofs.PoolLaws.{cells_read, length-cells, page_read, size_seen}
 use Rattle.zc_machine.proofs.pages.Pages.cells_from.Goals as goal
@@ -54,7 +54,7 @@ returns c =
     let index = c.args.index in
     let start : ℕ = 4096 * c.index.result.now + (p.skip + index) % 4096 in
     let count = c.min-count.result in
-    let cells = cells_of_pages p.table.items p.pool.items p.skip p.size in
+    let cells = pooled_bytes p.table.items p.pool.items p.skip p.size in
     let size = length-cells p.table.items p.pool.items p.skip p.size in
     let seen = size_seen p.table.items p.pool.items p.skip p.size c.args.self.now c.self.view_is in
     let page = page_read p.table.items p.pool.items p.pool.cap p.skip p.size index c.index.result.now c.self.invariant (omega (arith, seen, c.requires)) c.index.ensures in

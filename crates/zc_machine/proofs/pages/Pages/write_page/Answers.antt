@@ -1,7 +1,7 @@
 use Rattle.std.proofs.Common.{◌≡◌, ℕ, ◌+◌, length, slice_index, ap, ◌∙◌, arith}
 use Rattle.std.proofs.lemmas.List.{with_items_is}
 use Rattle.rv_decode.specs.Memory.{cells_changed, written}
-use Rattle.zc_machine.specs.Invariants.Pool.{byte_of_pages, cells_of_pages}
+use Rattle.zc_machine.specs.Invariants.Pool.{byte_of_pages, pooled_bytes}
 use Rattle.zc_machine.specs.Pages.{Paged}
 use Rattle.zc_machine.proofs.PoolLaws.{cells-written, size_seen}
 use Rattle.zc_machine.proofs.pages.Pages.write_page.Goals as goal
@@ -27,6 +27,6 @@ returns c =
     let table = with_items_is p.table c.write_to.new.table size in
     let bytes = λ (i : ℕ). c.write_to.ensures.bytes i ∙ ap (λ t. written (p.skip + c.args.index) n given i (byte_of_pages t p.pool.items i)) c.as_mut_slice.ensures.value in
     let cells =
-    ap (λ t. cells_of_pages t c.write_to.new.pool.items p.skip p.size) table
+    ap (λ t. pooled_bytes t c.write_to.new.pool.items p.skip p.size) table
     ∙ cells-written p.table.items p.pool.items c.write_to.new.table c.write_to.new.pool.items p.skip p.size c.args.index n given bytes in
     (λ i. record { skip = p.skip; cells = cells i }) ∙ ap (λ (q : Paged). record q { cells = cells_changed change 0 q.cells }) c.self.view_is

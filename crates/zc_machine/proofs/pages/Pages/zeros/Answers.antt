@@ -1,6 +1,6 @@
 use Rattle.std.proofs.Common.{◌≡◌, ◌-◌, ◌++◌, [], replicate, take, ap, ap₂, ◌∙◌, arith}
 use Rattle.std.proofs.lemmas.List.{take_all}
-use Rattle.zc_machine.specs.Invariants.Pool.{cells_of_pages}
+use Rattle.zc_machine.specs.Invariants.Pool.{pooled_bytes}
 use Rattle.zc_machine.proofs.PoolLaws.{blank_cells}
 use Rattle.zc_machine.proofs.pages.Pages.zeros.Goals as goal
 
@@ -17,5 +17,5 @@ returns c =
     c.in_ok-resize-2.ensures.items
     ∙ ap₂ (λ xs n. take 4096 xs ++ replicate (4096 - n) 0) empty.items empty.len
     ∙ ap (λ xs. xs ++ replicate 4096 0) (take_all 4096 [] (omega arith)) in
-    (λ i. record { skip = c.args.skip; cells = cells_of_pages (table i) (pool i) c.args.skip c.args.size })
+    (λ i. record { skip = c.args.skip; cells = pooled_bytes (table i) (pool i) c.args.skip c.args.size })
     ∙ (λ i. record { skip = c.args.skip; cells = blank_cells count c.args.skip c.args.size i })

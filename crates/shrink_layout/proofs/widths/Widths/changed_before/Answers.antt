@@ -1,7 +1,7 @@
 use Rattle.std.proofs.Common.{◌/◌, arith}
 use Rattle.shrink_layout.specs.Invariants.Blocks.{block_size}
 use Rattle.shrink_layout.proofs.ChangeLaws.{count_most, index_is}
-use Rattle.shrink_layout.proofs.widths.Widths.count_before.Goals as goal
+use Rattle.shrink_layout.proofs.widths.Widths.changed_before.Goals as goal
 
 pub overflow_add-result : goal.overflow_add-result
 overflow_add-result c =

@@ -2,8 +2,8 @@ use Rattle.std.proofs.Common.{◌/◌, ◌%◌, ◌^◌, ◌++◌, ◌∷◌, []
 use Rattle.std.specs.List.{range_with_len}
 use Rattle.std.proofs.lemmas.Bool.{eq-eqb, ne_eqb}
 use Rattle.interrupt_plan.proofs.MadeLaws.{done_more}
-use Rattle.interrupt_plan.proofs.make_plan.done_of.Goals as goal
-use Rattle.interrupt_plan.proofs.make_plan.done_of.Goals.{then-bits-access-eq1+in_ok-push, else-bits-access-eq1}
+use Rattle.interrupt_plan.proofs.make_plan.drawn_accesses.Goals as goal
+use Rattle.interrupt_plan.proofs.make_plan.drawn_accesses.Goals.{then-bits-access-eq1+in_ok-push, else-bits-access-eq1}
 
 pub loop-access-preserved : goal.loop-access-preserved
 loop-access-preserved c =
