@@ -11,7 +11,7 @@ abbrev pub Found : {X : Type 0} → (X → Bool) → (ℕ → X) → ℕ → Opt
 Found p f n None = filter p (map f (range_with_len 0 n)) ≡ []
 Found p f n (Some i) = (i < n) × (filter p (map f (range_with_len 0 n)) ≡ f i ∷ [])
 
--- one more that passes: then none did before it
+-- one value more that passes, while none did before it
 pub found_more : {X : Type 0} (p : X → Bool) (f : ℕ → X) (count n : ℕ) (found : Option ℕ) → length (filter p (map f (range_with_len 0 count))) ≤ 1 → n < count → Found p f n found → p (f n) ≡ true → Found p f (n + 1) (Some n)
 found_more p f count n None once lt before passes =
     (omega arith, kept_more p f n passes ∙ ap (λ l. l ++ f n ∷ []) before)
@@ -21,7 +21,7 @@ found_more p f count n (Some i) once lt before passes =
     let all = kept_length p f count (n + 1) (omega arith) in
     absurd (omega (arith, two, one, all, once))
 
--- one more that doesn't
+-- one value more that doesn't pass
 pub found_same : {X : Type 0} (p : X → Bool) (f : ℕ → X) (n : ℕ) (found : Option ℕ) → Found p f n found → p (f n) ≡ false → Found p f (n + 1) found
 found_same p f n None before fails = kept_same p f n fails ∙ before
 found_same p f n (Some i) before fails = (omega (arith, before.0), kept_same p f n fails ∙ before.1)

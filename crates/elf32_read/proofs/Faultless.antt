@@ -277,7 +277,7 @@ module _ (bytes : List ℕ) (read : object_fault bytes ≡ None) where
   section_named i lt =
       not-false (has_end (section_names bytes) (header_of bytes i).name) (none_listed (is_unnamed_section bytes) (header_of bytes) (section_count bytes) i named_parts.0 lt)
 
-  -- and each symbol's, that of symbol 0 too
+  -- each symbol's name has an end, that of symbol 0 too
   pub symbol_named : (k : ℕ) → k < symbol_count bytes → has_end (symbol_names bytes) (symbol_entry_of bytes k).name ≡ true
   symbol_named k lt =
       not-false (has_end (symbol_names bytes) (symbol_entry_of bytes k).name) (none_listed (is_unnamed_symbol bytes) (symbol_entry_of bytes) (symbol_count bytes) k named_parts.1 lt)
@@ -286,7 +286,7 @@ module _ (bytes : List ℕ) (read : object_fault bytes ≡ None) where
   pub section_is_named : (name : List ℕ) (i : ℕ) → i < section_count bytes → list_any (λ byte. byte == 0) name ≡ false → pointwise nat_eq (section_parts bytes i).name name ≡ is_name_at name (section_names bytes) (header_of bytes i).name
   section_is_named name i lt whole = is_named (section_names bytes) name (header_of bytes i).name (section_named i lt) whole
 
-  -- so the parts of a section say whether it is kept
+  -- the parts of a section say whether it is kept
   pub is_kept_section-parts : (i : ℕ) → i < section_count bytes → is_kept_section (section_parts bytes i) ≡ is_kept bytes (header_of bytes i)
   is_kept_section-parts i lt = ap (λ b. has_flags 2 (header_of bytes i).flags && not b) (section_is_named (codes ".eh_frame") i lt refl)
 

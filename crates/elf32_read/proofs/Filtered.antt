@@ -32,10 +32,10 @@ kept_length p f (suc n) i le =
       | inr more ↦ let same : i ≡ suc n = omega arith in omega (arith, ap kept same)
     ]
 
--- how many are kept after one more, which is kept
+-- the number of values that are kept, after one more that is kept
 pub count_more : {X : Type 0} (p : X → Bool) (f : ℕ → X) (i : ℕ) → p (f i) ≡ true → length (filter p (map f (range_with_len 0 (i + 1)))) ≡ length (filter p (map f (range_with_len 0 i))) + 1
 count_more p f i keep = ap length (kept_more p f i keep) ∙ length-append (filter p (map f (range_with_len 0 i))) (f i ∷ [])
 
--- and after one that is dropped
+-- the number of values that are kept, after one more that is dropped
 pub count_same : {X : Type 0} (p : X → Bool) (f : ℕ → X) (i : ℕ) → p (f i) ≡ false → length (filter p (map f (range_with_len 0 (i + 1)))) ≡ length (filter p (map f (range_with_len 0 i)))
 count_same p f i drop = ap length (kept_same p f i drop)

@@ -14,7 +14,7 @@ is_content inside bytes i header content same is read =
     read ∙ ap (content_of inside) is ∙ ap (λ b. content_of b (header_of b i)) same
 
 module _ (content : List ℕ) where
-  -- how many there are
+  -- the number of relocations
   pub held_count : length content / 12 ≡ length (relocs_in content)
   held_count = sym (length-map-range_with_len (reloc_at content) 0 (length content / 12))
 
@@ -22,7 +22,7 @@ module _ (content : List ℕ) where
   pub held_within : (k : ℕ) → k < length (relocs_in content) → 12 * k + 12 ≤ length content
   held_within k lt = omega (arith, lt, held_count)
 
-  -- and is the one at its index
+  -- a relocation is the one at its index
   pub held_at : (k : ℕ) → k < length (relocs_in content) → slice_get (relocs_in content) k ≡ Some (reloc_at content k)
   held_at k lt =
       let few : k < length content / 12 = omega (arith, lt, held_count) in

@@ -12,7 +12,7 @@ use Rattle.elf32_read.proofs.Filtered.{count_more, count_same, kept_length}
 use Rattle.elf32_read.proofs.Listed.{no_index, some_in_range}
 use Rattle.elf32_read.proofs.Tests.{changes}
 
--- how many of the first n sections are a RELA for this one
+-- the number of RELA sections for this section among the first n
 abbrev pub relas_until : List ℕ → ℕ → ℕ → ℕ
 relas_until bytes k n = length (filter (changes k) (map (header_of bytes) (range_with_len 0 n)))
 

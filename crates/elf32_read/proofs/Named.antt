@@ -5,12 +5,12 @@ use Rattle.std.specs.Option.{option_to_list}
 use Rattle.std.proofs.lemmas.Bool.{le-ltb, lt-ltb}
 use Rattle.elf32_read.specs.Names.{has_end}
 
--- one is there
+-- a list of what is there has one element
 pub length-option_to_list : {X : Type 0} (found : Option X) → is_some found ≡ true → length (option_to_list found) ≡ 1
 length-option_to_list None some = absurd cc
 length-option_to_list (Some x) some = refl
 
--- none is there
+-- a list of nothing has no element
 pub option_to_list-none : {X : Type 0} (found : Option X) → is_some found ≡ false → option_to_list found ≡ []
 option_to_list-none None none = refl
 option_to_list-none (Some x) none = absurd cc
@@ -19,6 +19,6 @@ option_to_list-none (Some x) none = absurd cc
 pub ends_past : (names : List ℕ) (end at : ℕ) → ((k : ℕ) → has_end names k ≡ nat_lt k end) → end ≤ at → not (has_end names at) ≡ true
 ends_past names end at ends past = ap not (ends at ∙ le-ltb at end past)
 
--- and all others have one
+-- a name that begins before the end of all has an end
 pub ends_within : (names : List ℕ) (end at : ℕ) → ((k : ℕ) → has_end names k ≡ nat_lt k end) → at < end → not (has_end names at) ≡ false
 ends_within names end at ends within = ap not (ends at ∙ lt-ltb at end within)

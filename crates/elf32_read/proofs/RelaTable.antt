@@ -46,7 +46,7 @@ module _ (bytes : List ℕ) (once : has_two_relas bytes ≡ false) where
     dropped = before.dropped;
   }
 
-  -- one that is
+  -- the next section is a RELA for a kept section
   pub found_next : (table : List (Option ℕ)) (n : ℕ) (h : SectionHeader) → h ≡ header_of bytes n → n < section_count bytes → AreFound bytes table n → is_kept_rela bytes h ≡ true
       → AreFound bytes (set table h.info (Some n)) (n + 1)
   found_next table n h is inside before rela = record {

@@ -26,11 +26,11 @@ file_flags bytes = word_in bytes 36
 abbrev pub are_known_flags : ℕ → Bool
 are_known_flags flags = flags == 0 || flags == 0x1 || flags == 0x10 || flags == 0x11
 
--- e_phnum: how many program headers there are
+-- e_phnum: the number of program headers
 abbrev pub program_count : List ℕ → ℕ
 program_count bytes = half_in bytes 44
 
--- e_shnum: how many sections there are
+-- e_shnum: the number of sections
 abbrev pub section_count : List ℕ → ℕ
 section_count bytes = half_in bytes 48
 
@@ -67,7 +67,7 @@ header_of bytes i = let at = section_table bytes + 40 * i in record {
 abbrev pub headers_of : List ℕ → List SectionHeader
 headers_of bytes = map (header_of bytes) (range_with_len 0 (section_count bytes))
 
--- of all sections the one with this index passes a test, or none does
+-- the section with this index is the only one that passes a test, or none does
 abbrev pub IsOnly : (SectionHeader → Bool) → List ℕ → Option ℕ → Type 0
 IsOnly test bytes None = filter test (headers_of bytes) ≡ []
 IsOnly test bytes (Some i) = (i < section_count bytes) × (filter test (headers_of bytes) ≡ header_of bytes i ∷ [])

@@ -88,7 +88,7 @@ is_odd_code bytes h = is_kept_code bytes h && (has_flags 1 h.flags || not (h.kin
 abbrev pub is_kept_rela : List ℕ → SectionHeader → Bool
 is_kept_rela bytes h = h.kind == 4 && nat_lt h.info (section_count bytes) && is_kept bytes (header_of bytes h.info)
 
--- one whose entries don't have 12 bytes, or with a part of one at its end
+-- a RELA for a kept section whose entries don't have 12 bytes, or that ends with a part of one
 abbrev pub is_odd_rela : List ℕ → SectionHeader → Bool
 is_odd_rela bytes h = is_kept_rela bytes h && (not (h.entry_size == 12) || not (h.size % 12 == 0))
 
@@ -96,7 +96,7 @@ is_odd_rela bytes h = is_kept_rela bytes h && (not (h.entry_size == 12) || not (
 abbrev pub lacks_symbols : List ℕ → ℕ → Bool
 lacks_symbols bytes i = nat_le (section_count bytes) i || not ((header_of bytes i).kind == 2)
 
--- one whose symbols aren't those of the SYMTAB: sh_link names it
+-- a RELA for a kept section whose sh_link doesn't name the SYMTAB
 abbrev pub has_other_symbols : List ℕ → SectionHeader → Bool
 has_other_symbols bytes h = is_kept_rela bytes h && lacks_symbols bytes h.link
 
@@ -104,7 +104,7 @@ has_other_symbols bytes h = is_kept_rela bytes h && lacks_symbols bytes h.link
 abbrev pub is_changed_twice : List ℕ → ℕ → Bool
 is_changed_twice bytes i = is_kept bytes (header_of bytes i) && nat_lt 1 (length (relas_for bytes i))
 
--- there is such a section
+-- some kept section has two RELA sections
 abbrev pub has_two_relas : List ℕ → Bool
 has_two_relas bytes = list_any (is_changed_twice bytes) (range_with_len 0 (section_count bytes))
 

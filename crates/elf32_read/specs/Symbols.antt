@@ -16,11 +16,11 @@ symbol_tables bytes = filter (λ h. h.kind == 2) (headers_of bytes)
 abbrev pub symbol_table : List ℕ → Option SectionHeader
 symbol_table bytes = slice_get (symbol_tables bytes) 0
 
--- its index, if there is one
+-- the index of the SYMTAB, if there is one
 abbrev pub IsSymbolSection : List ℕ → Option ℕ → Type 0
 IsSymbolSection bytes i = IsOnly (λ h. h.kind == 2) bytes i
 
--- its entries, as they stand in the file
+-- the entries of the SYMTAB, as they are in the file
 abbrev pub symbol_content : List ℕ → List ℕ
 symbol_content bytes = option_map_or (content_of bytes) (symbol_table bytes) []
 
@@ -52,6 +52,6 @@ symbol_entries bytes = entries_in (symbol_content bytes)
 abbrev pub symbol_entry_of : List ℕ → ℕ → SymbolEntry
 symbol_entry_of bytes i = symbol_entry_at (symbol_content bytes) i
 
--- how many symbols there are, with symbol 0
+-- the number of symbols, with symbol 0
 abbrev pub symbol_count : List ℕ → ℕ
 symbol_count bytes = length (symbol_content bytes) / 16

@@ -159,7 +159,7 @@ pub fn program_header_size(bytes: &[u8]) -> u16
     u16_at(bytes, 42)
 }
 
-/// How many program headers there are, e_phnum.
+/// The number of program headers, e_phnum.
 pub fn program_count(bytes: &[u8]) -> u16
     requires { 52 ≤ length bytes.now }
     ensures { result ≡ program_count bytes.now }
@@ -175,7 +175,7 @@ pub fn section_header_size(bytes: &[u8]) -> u16
     u16_at(bytes, 46)
 }
 
-/// How many sections there are, e_shnum.
+/// The number of sections, e_shnum.
 pub fn section_count(bytes: &[u8]) -> u16
     requires { 52 ≤ length bytes.now }
     ensures { result ≡ section_count bytes.now }

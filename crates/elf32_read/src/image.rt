@@ -121,7 +121,7 @@ impl<'a> Image<'a> {
         entry_address(self.bytes)
     }
 
-    /// How many segments there are.
+    /// The number of segments.
     pub fn segment_count(&self) -> u32
         ensures count { result ≡ length (segments_of self.now.0) }
         ensures most { result ≤ 16 }
@@ -137,7 +137,7 @@ impl<'a> Image<'a> {
         segment_at(self.bytes, &self.loads.as_slice()[i as usize])
     }
 
-    /// How many places it lists.
+    /// The number of places that the image lists.
     pub fn place_count(&self) -> u32
         ensures { result ≡ length (place_list self.now.0) }
     {

@@ -8,7 +8,7 @@ ghost use Rattle.elf32_read.specs.declared.header.ProgramHeader.{ProgramHeader};
 use crate::header::{LOAD, ProgramHeader, program_count, program_header};
 use std::marker::Model;
 
-// How many segments an image may have.
+// The most segments that an image may have.
 const MOST_LOADS: usize = 16;
 
 const NONE: ProgramHeader = ProgramHeader {

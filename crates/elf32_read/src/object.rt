@@ -156,7 +156,7 @@ impl<'a> Object<'a> {
         has_rvc(self.flags())
     }
 
-    /// How many sections there are, with the first, which is NULL in most files.
+    /// The number of sections, with the first, which is NULL in most files.
     pub fn section_count(&self) -> u32
         ensures count { result ≡ section_count self.now }
         ensures most { result ≤ 4096 }
@@ -204,7 +204,7 @@ impl<'a> Object<'a> {
         self.symbol_section
     }
 
-    /// How many symbols there are, with symbol 0.
+    /// The number of symbols, with symbol 0.
     pub fn symbol_count(&self) -> u32
         ensures { result ≡ symbol_count self.now }
     {
@@ -272,7 +272,7 @@ impl<'a> Object<'a> {
         Relocs::new(self.sections.content(&header))
     }
 
-    /// How many relocations a section holds, by its own index.
+    /// The number of relocations that a section holds, by its own index.
     pub fn rela_count(&self, rela: u32) -> u32
         requires { rela < section_count self.now }
         ensures { result ≡ length (relocs_held self.now (header_of self.now rela)) }
@@ -289,7 +289,7 @@ impl<'a> Object<'a> {
         self.relocs_held(rela).get(k)
     }
 
-    /// How many relocations a section has; none if it is dropped. It looks through all headers.
+    /// The number of a section's relocations; none if it is dropped. It looks through all headers.
     pub fn reloc_count(&self, section: u32) -> u32
         requires { section < section_count self.now }
         ensures { result ≡ length (relocs_of self.now section) }

@@ -2,8 +2,8 @@
 
 /// A relocation with its addend, Elf32_Rela (System V gABI, "Relocation").
 ///
-/// It changes bytes of its section from `offset` on, in the way of `kind` (ELF32_R_TYPE; RISC-V ELF psABI, "Relocations"),
-/// to hold the address of the symbol with the index `symbol`, plus `addend`.
+/// A relocation: it changes bytes of its section from `offset` on, as `kind` says (ELF32_R_TYPE; RISC-V ELF psABI,
+/// "Relocations"), to hold the address of the symbol with the index `symbol`, plus `addend`.
 #[derive(Clone, Copy)]
 pub struct Reloc {
     pub offset: u32,

@@ -42,7 +42,7 @@ impl<'a> Relocs<'a> {
         Relocs { content: &[] }
     }
 
-    /// How many there are.
+    /// The number of relocations.
     pub fn len(&self) -> u32
         ensures { result ≡ length self.now }
     {

@@ -14,16 +14,16 @@ impl SectionFlags {
     /// The program may write to it.
     pub const WRITE: SectionFlags = SectionFlags { bits: 1 };
 
-    /// It lies in the program's memory.
+    /// The section lies in the program's memory.
     pub const ALLOC: SectionFlags = SectionFlags { bits: 2 };
 
-    /// It holds instructions.
+    /// The section holds instructions.
     pub const EXECINSTR: SectionFlags = SectionFlags { bits: 4 };
 
-    /// It holds data that each thread has of its own.
+    /// The section holds data that each thread has of its own.
     pub const TLS: SectionFlags = SectionFlags { bits: 0x400 };
 
-    /// Its content is compressed.
+    /// The section's content is compressed.
     pub const COMPRESSED: SectionFlags = SectionFlags { bits: 0x800 };
 
     const NAMED: &'static [Flag<SectionFlags>] = &[

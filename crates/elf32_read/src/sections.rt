@@ -71,7 +71,7 @@ impl<'a> Sections<'a> {
         self.bytes
     }
 
-    /// How many sections there are.
+    /// The number of sections.
     pub fn count(&self) -> u32
         ensures count { result ≡ section_count self.now }
         ensures small { result < 2 ^ 16 }

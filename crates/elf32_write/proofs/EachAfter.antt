@@ -11,7 +11,7 @@ use Rattle.elf32_write.specs.ObjectFile.{contents, headers_for, written_header}
 use Rattle.elf32_write.specs.SectionTable.{HoldsSections}
 use Rattle.elf32_write.specs.declared.section_table.SectionTable.{SectionTable}
 
--- of two lists, the second after the first
+-- a value for each element of two lists, those of the second after the first
 pub each_after-append : {X Y : Type 0} (f : List X → X → Y) (before xs ys : List X) → each_after f before (xs ++ ys) ≡ each_after f before xs ++ each_after f (before ++ xs) ys
 each_after-append f before [] ys = ap (λ b. each_after f b ys) (sym (append-nil before))
 each_after-append f before (x ∷ xs) ys =
@@ -19,7 +19,7 @@ each_after-append f before (x ∷ xs) ys =
     let joined : (before ++ x ∷ []) ++ xs ≡ before ++ (x ∷ xs) = append_assoc before (x ∷ []) xs in
     λ i. f before x ∷ (rest ∙ ap (λ b. each_after f (before ++ x ∷ []) xs ++ each_after f b ys) joined) i
 
--- of all after nothing, one more
+-- a value for each element, with one element more
 pub each_after_push : {X Y : Type 0} (f : List X → X → Y) (xs : List X) (x : X) → each_after f [] (xs ++ x ∷ []) ≡ each_after f [] xs ++ f xs x ∷ []
 each_after_push f xs x = each_after-append f [] xs (x ∷ [])
 

@@ -5,7 +5,7 @@ use Rattle.std.proofs.lemmas.List.{length_push, reverse-append, take_more, lengt
 use Rattle.elf32_read.specs.Parts.{SymbolParts}
 use Rattle.elf32_write.specs.Entries.{after_locals}
 
--- how many pass from the end back, with one more
+-- the number of elements that pass from the end back, with one element more
 suffix_len_push : {X : Type 0} (p : X → Bool) (xs : List X) (x : X) → suffix_len p (xs ++ x ∷ []) ≡ cond (p x) (1 + suffix_len p xs) 0
 suffix_len_push p xs x = ap (prefix_len p) (reverse-append xs (x ∷ []))
 

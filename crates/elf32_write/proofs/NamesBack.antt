@@ -25,7 +25,7 @@ until_zero (byte ∷ bytes) rest named =
     ap (λ b. take (cond (not b) (1 + prefix_len (λ byte. not (byte == 0)) (bytes ++ 0 ∷ rest)) 0) (byte ∷ bytes ++ 0 ∷ rest)) parts.0
     ∙ ap (λ n. take n (byte ∷ bytes ++ 0 ∷ rest)) one ∙ ap (λ l. byte ∷ l) more
 
--- and there is a zero
+-- after a name there is a zero
 zero_after : (name rest : List ℕ) → list_any (λ byte. byte == 0) (name ++ 0 ∷ rest) ≡ true
 zero_after [] rest = refl
 zero_after (byte ∷ bytes) rest =

@@ -17,7 +17,7 @@ enumerate_from-append n (x ∷ xs) ys =
     let same : n + 1 + length xs ≡ n + length (x ∷ xs) = omega arith in
     λ i. (n, x) ∷ (rest ∙ ap (λ k. enumerate_from (n + 1) xs ++ enumerate_from k ys) same) i
 
--- of two lists of sections
+-- the sections with relocations of two lists
 pub relocated-append : (xs ys : List SectionParts) → relocated (xs ++ ys) ≡ relocated xs ++ filter (λ e. nat_lt 0 (length e.1.relocs)) (enumerate_from (1 + length xs) ys)
 relocated-append xs ys =
     ap (filter (λ e. nat_lt 0 (length e.1.relocs))) (enumerate_from-append 1 xs ys)
@@ -45,6 +45,6 @@ length_relocated_more xs i s lt is =
     ap length (relocated_more xs i s lt is) ∙ length-append (relocated (take i xs)) (cond (nat_lt 0 (length s.relocs)) (e ∷ none) none)
     ∙ ap (λ n. length (relocated (take i xs)) + n) (both (nat_lt 0 (length s.relocs)))
 
--- those up to an index, and the others
+-- the sections with relocations up to an index, and the others
 pub relocated_split : (xs : List SectionParts) (i : ℕ) → (rest : List (ℕ × SectionParts)) × (relocated xs ≡ relocated (take i xs) ++ rest)
 relocated_split xs i = (_, ap relocated (sym (take-append-drop i xs)) ∙ relocated-append (take i xs) (drop i xs))

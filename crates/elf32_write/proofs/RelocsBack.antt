@@ -92,7 +92,7 @@ none_before i n (x ∷ xs) lt =
       | false ↦ more
     ]
 
--- one has it, if it has relocations
+-- a section has a RELA, if it has relocations
 one_at : (n : ℕ) (xs : List SectionParts) (k : ℕ) (d : SectionParts) → k < length xs → filter (is_at (n + k)) (filter has_relocs (enumerate_from n xs)) ≡ cond (has_relocs (n + k, get_or xs k d)) ((n + k, get_or xs k d) ∷ []) []
 unfolding has_relocs is_at
 one_at n [] k d lt = absurd (omega arith)

@@ -31,8 +31,8 @@ pub record IsSoundKept (flags : ℕ) (s : SectionParts) : Type 0 where
   pub align : is_bad_alignment (if has_flags 4 s.flags then 256 else 4096) s.align ≡ false
   pub code : is_code_section s ≡ true → IsSoundCode flags s
 
--- a section of an object with these e_flags, where this many symbols are counted with symbol 0: it isn't COMPRESSED (0x800), it
--- has as many bytes as its size, or none if it is NULL or NOBITS, and only if it is kept has it relocations
+-- a section of an object with these e_flags and this number of symbols, with symbol 0: it isn't COMPRESSED (0x800), it has as
+-- many bytes as its size, or none if it is NULL or NOBITS, and only if it is kept has it relocations
 pub record IsSoundSection (flags symbols : ℕ) (s : SectionParts) : Type 0 where
   pub name : is_name s.name ≡ true
   pub kind : can_be_given s.kind ≡ true

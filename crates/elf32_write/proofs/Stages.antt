@@ -53,7 +53,7 @@ pub room_given_stage : (xs : List SectionParts) (ys : List SymbolParts) → Cont
 unfolding with_relas
 room_given_stage xs ys room = room_within (given_sections xs) (rela_sections xs) (with_relas xs) refl (room_relas_stage xs ys room)
 
--- how many sections there are
+-- the number of sections
 pub length-file_sections : (xs : List SectionParts) (ys : List SymbolParts) → length (file_sections xs ys) ≡ length xs + length (relocated xs) + 3
 unfolding file_sections added_sections
 length-file_sections xs ys =
@@ -64,7 +64,7 @@ length-file_sections xs ys =
     let relas : length (rela_sections xs) ≡ length (relocated xs) = length-map (relocated xs) (rela_section (symtab_index xs)) in
     omega (arith, whole, three, given, relas)
 
--- the symbols have room, and so have their names
+-- the symbols and their names fit
 pub room_symbols : (xs : List SectionParts) (ys : List SymbolParts) → ContentsFit (file_sections xs ys) → length (flat_map symbol_bytes (written_entries ys)) < 2 ^ 32
 unfolding with_symbols
 room_symbols xs ys room = room_last (with_relas xs) (symtab_section (symtab_index xs) ys) (room_symbols_stage xs ys room)

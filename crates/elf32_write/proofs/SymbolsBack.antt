@@ -86,7 +86,7 @@ symbol_tables_cut parts listed =
     ap headers_for (split_symtab xs ys) ∙ ap (λ l. null_section ∷ l) (each_after-append written_header [] (with_relas xs) (s ∷ strtab ys ∷ shstrtab xs ∷ [])) in
     ap (filter has_symbols) (listed ∙ cut) ∙ filter-append has_symbols before rest
 
--- so if there is one SYMTAB at most, none stands before .symtab
+-- if there is one SYMTAB at most, none comes before .symtab
 pub single_table : (parts : ObjectParts) → headers_of (object_bytes parts) ≡ headers_for (all_of parts) → length (symbol_tables (object_bytes parts)) ≤ 1 → list_any (λ s. nat_eq s.kind 2) (with_relas parts.sections) ≡ false
 single_table parts listed few =
     let xs = parts.sections in

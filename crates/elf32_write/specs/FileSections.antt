@@ -50,7 +50,7 @@ names_of_sections sections = map (λ s. s.name) sections
 abbrev pub given_sections : List SectionParts → List FileSection
 given_sections sections = map given_section sections
 
--- and the relocations of those that have some
+-- the sections of relocations, for those sections that have some
 abbrev pub rela_sections : List SectionParts → List FileSection
 rela_sections sections = map (rela_section (symtab_index sections)) (relocated sections)
 

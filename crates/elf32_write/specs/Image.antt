@@ -8,7 +8,7 @@ use Rattle.elf32_read.specs.declared.header.ProgramHeader.{ProgramHeader}
 use Rattle.elf32_read.specs.declared.header.SectionHeader.{SectionHeader}
 use Rattle.elf32_write.specs.Parts.{Parts}
 
--- how many zeros make a length a multiple of 4
+-- the number of zeros that make a length a multiple of 4
 abbrev pub pad : ℕ → ℕ
 pad n = (4 - n % 4) % 4
 

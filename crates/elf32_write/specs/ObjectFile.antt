@@ -40,7 +40,7 @@ object_header table flags count =
     identification ++ flat_map half_bytes (1 ∷ 243 ∷ []) ++ flat_map word_bytes (1 ∷ 0 ∷ 0 ∷ table ∷ flags ∷ [])
     ++ flat_map half_bytes (52 ∷ 0 ∷ 0 ∷ 40 ∷ count ∷ (count - 1) ∷ [])
 
--- how many sections there are, with section 0
+-- the number of sections, with section 0
 abbrev pub section_total : ObjectParts → ℕ
 section_total parts = 1 + length (file_sections parts.sections parts.symbols)
 

@@ -4,7 +4,7 @@ use Rattle.elf32_write.specs.Image.{data_offset, places_offset, names_offset, se
 use Rattle.elf32_write.specs.Parts.{Parts}
 use Rattle.elf32_write.specs.declared.offsets.Offsets.{Offsets}
 
--- these are the offsets in the file of an image with these parts
+-- the offsets in the file of an image with these parts
 pub record AreOffsetsOf (parts : Parts) (offsets : Offsets) : Type 0 where
   pub data_part : offsets.data ≡ data_offset parts
   pub places : offsets.places ≡ places_offset parts

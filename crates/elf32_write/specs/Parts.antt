@@ -2,8 +2,8 @@
 use Rattle.std.specs.Prelude.{ℕ, List}
 use Rattle.zc_base.specs.declared.place.Place.{Place}
 
--- the entry, e_flags, the text and its address, the data's file bytes and their address, how many
--- zero bytes follow these in memory, and places of the objects' code, each with its address
+-- the entry, e_flags, the text and its address, the data's file bytes and their address, the number of zero bytes after these in
+-- memory, and places of the objects' code, each with its address
 pub record Parts : Type 0 where
   pub entry : ℕ
   pub flags : ℕ

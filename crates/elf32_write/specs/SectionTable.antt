@@ -16,7 +16,7 @@ last_section sections = strtab_section (codes ".shstrtab") (names_of_sections se
 abbrev pub file_section : List ℕ → SectionHeader → List ℕ → FileSection
 file_section name h content = record { name = name; kind = h.kind; flags = h.flags; size = h.size; link = h.link; info = h.info; align = h.align; entry_size = h.entry_size; content = content }
 
--- where one more section's content begins has room in a word, and so has what stands so many bytes after the names
+-- the offset where one more section's content begins fits in a word, and so does the offset `more` bytes after the names
 pub record HasOffsets (more : ℕ) (table : SectionTable) : Type 0 where
   pub contents_end : 52 + length table.contents.items < 2 ^ 32
   pub names_end : length table.names.items + more < 2 ^ 32
@@ -34,15 +34,15 @@ pub record ContentsFit (sections : List FileSection) : Type 0 where
 
 -- ---- all sections, as they are added
 
--- the given ones, and their relocations
+-- the sections that are given, and those of their relocations
 unfoldable pub with_relas : List SectionParts → List FileSection
 with_relas xs = given_sections xs ++ rela_sections xs
 
--- and the symbols
+-- these, and the section of the symbols
 unfoldable pub with_symbols : List SectionParts → List SymbolParts → List FileSection
 with_symbols xs ys = with_relas xs ++ symtab_section (symtab_index xs) ys ∷ []
 
--- and the names of the symbols: all but the last
+-- these, and the section of the symbols' names: all sections but the last
 unfoldable pub with_names : List SectionParts → List SymbolParts → List FileSection
 with_names xs ys = with_symbols xs ys ++ strtab_section (codes ".strtab") (strtab_names ys) ∷ []
 

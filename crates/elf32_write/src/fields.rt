@@ -48,7 +48,7 @@ pub fn push_words(out: &mut Vec<u8>, words: &[u32]) -> Result<(), AllocError>
     Ok(())
 }
 
-// How many zeros make a length a multiple of 4.
+// The number of zeros that make a length a multiple of 4.
 fn pad(n: usize) -> usize
     ensures { result ≡ pad n }
 {

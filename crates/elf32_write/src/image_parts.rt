@@ -5,9 +5,9 @@ use zc_base::place::Place;
 
 /// What an image is made of.
 ///
-/// `entry`, `text_at` and `data_at` are addresses: where the program starts, and where its text and
-/// its data lie. `zero` is how many zero bytes follow `data_bytes` in memory, and `flags` goes into
-/// e_flags. `places` lists places in the objects' code, in ascending order, each with its address.
+/// `entry`, `text_at` and `data_at` are addresses: where the program starts, and where its text and its data lie.
+/// `zero` is the number of zero bytes after `data_bytes` in memory, and `flags` goes into e_flags. `places` lists
+/// places in the objects' code, in ascending order, each with its address.
 #[derive(Drop)]
 pub struct ImageParts {
     pub entry: u32,

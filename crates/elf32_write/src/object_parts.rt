@@ -14,9 +14,9 @@ pub struct ObjectParts {
     pub symbols: Vec<PartSymbol>,
 }
 
-/// A section of an object: sh_type, sh_flags, sh_addralign and sh_size (System V gABI, "Sections"), its content, and the
-/// relocations that change it. `bytes` is empty for the kinds NULL and NOBITS. In clauses its `compressed` says nothing: whether
-/// an object is compressed is for its `flags` to say.
+/// A section of an object: sh_type, sh_flags, sh_addralign and sh_size (System V gABI, "Sections"), its content, and
+/// the relocations that change it. `bytes` is empty for the kinds NULL and NOBITS. As clauses see it, `compressed` is
+/// always false: only the object's `flags` say whether the object is compressed.
 #[derive(Drop)]
 pub struct PartSection {
     pub name: Vec<u8>,

@@ -176,7 +176,7 @@ impl SectionTable {
     }
 }
 
-/// How many of these sections have relocations.
+/// The number of these sections that have relocations.
 #[tactic(auto, using(crate::proofs::Relocated::length_relocated_more))]
 pub fn relocated_count(sections: &[PartSection]) -> usize
     ensures count { result ≡ length (relocated sections.now) }

@@ -16,7 +16,7 @@ use crate::symbol_table::{after_locals, symbol_table};
 use elf32_read::header::{RELOCATABLE, RISC_V, STRTAB, SYMTAB, SectionHeader};
 use std::alloc::{AllocError, Global};
 
-// Appends the file's header: where the section headers begin, e_flags, and how many sections there are.
+// Appends the file's header: where the section headers begin, e_flags, and the number of sections.
 #[tactic(auto, unfolding(crate::specs::ObjectFile::object_header))]
 fn push_object_header(
     out: &mut Vec<u8>,

@@ -13,7 +13,7 @@ use Rattle.rv_decode.specs.State.{ZcCore}
 abbrev pub stub_instrs : ℕ → ℤ → List Instr
 stub_instrs text distance = Upper Lui 5 (text / 4096) ∷ Csrrw 0 5 ∷ Jal 0 distance ∷ []
 
--- these bytes are the words that spell these instructions, one after another
+-- these bytes are the words of these instructions, one after another
 pub record AreWordsOf (instrs : List Instr) (bytes : List ℕ) : Type 0 where
   pub whole : length bytes ≡ 4 * length instrs
   pub octets : (k : ℕ) → slice_index bytes k < 256
@@ -31,6 +31,6 @@ abbrev pub after_stub : ℕ → ℤ → ZcCore → ZcCore
 after_stub text distance z =
     record z { pc = add32 (z.pc + 8) distance; regs = slice_set z.regs 5 text; jvt = text; commits = z.commits + 3 }
 
--- this is what the code does
+-- the stub's instructions, one after another, come to the state after the stub
 abbrev pub SetsBase : ℕ → ℤ → Type 0
 SetsBase text distance = (z : ZcCore) → length z.regs ≡ 32 → CommitInTurn (stub_instrs text distance) z (after_stub text distance z)

@@ -1,4 +1,4 @@
--- The lines of a plan are read from the front: the entries so far, and what the other lines spell.
+-- The lines of a plan are read from the front: the entries so far, and those of the other lines.
 use Rattle.std.proofs.Common.{◌≡◌, ℕ, ◌+◌, ◌-◌, ◌<◌, ◌≤◌, Some, None, Ok, Err, cond, Result, List, [], ◌∷◌, ◌++◌, length, get_or, ltb, eqb, refl, ap, sym, subst, ◌∙◌, append_assoc, length-append, arith}
 use Rattle.std.proofs.lemmas.Bool.{cond-false, cond-true, le-ltb, lt-ltb}
 use Rattle.std.proofs.lemmas.List.{get_or_push}

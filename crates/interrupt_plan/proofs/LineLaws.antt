@@ -1,4 +1,4 @@
--- A line's words are read from the front: what is read so far, and what the others spell.
+-- A line's words are read from the front: what is read so far, and what the others are.
 use Rattle.std.proofs.Common.{◌≡◌, ℕ, ◌+◌, Some, None, Option, List, [], ◌∷◌, ◌++◌, true, false, length, ap, ◌∙◌}
 use Rattle.std.specs.Option.{option_map, option_and_then}
 use Rattle.std.specs.Prelude.{bytes_eq, codes}

@@ -17,7 +17,7 @@ interrupts_at-bytes (e ∷ es) is k = either (eqb e.at k) (interrupts_at-bytes e
 
 -- ---- which entries come before commit k
 
--- those of earlier commits don't
+-- entries of earlier commits have no interrupt before commit k
 pub interrupts_at-drop : (n : ℕ) (plan : List Entry) (k : ℕ) → n ≤ length plan → ((j : ℕ) (d : Entry) → j < n → (get_or plan j d).at < k) → interrupts_at plan k ≡ interrupts_at (drop n plan) k
 interrupts_at-drop zero plan k within past = refl
 interrupts_at-drop (suc n) [] k within past = absurd (omega arith)
@@ -26,7 +26,7 @@ interrupts_at-drop (suc n) (e ∷ es) k within past =
     let other : eqb e.at k ≡ false = ne_eqb e.at k (λ same. omega arith) in
     cond-false (eqb e.at k) (e.cut ∷ interrupts_at es k) (interrupts_at es k) other ∙ interrupts_at-drop n es k (omega arith) (λ j d lt. past (suc j) d (omega arith))
 
--- nor do those of later ones
+-- entries of later commits have no interrupt before commit k
 none_later : (es : List Entry) (k : ℕ) → ((j : ℕ) (d : Entry) → j < length es → k < (get_or es j d).at) → interrupts_at es k ≡ []
 none_later [] k later = refl
 none_later (e ∷ es) k later =
@@ -38,7 +38,7 @@ pub interrupts_at-later : (n : ℕ) (plan : List Entry) (k : ℕ) → ((j : ℕ)
 interrupts_at-later n plan k later =
     none_later (drop n plan) k (λ j d lt. let size = length-drop n plan in rw (get_or-drop n plan j d) (later (n + j) d (omega arith) (omega arith)))
 
--- those of this one do, in order
+-- entries of commit k have their interrupts before it, in order
 pub interrupts_at-more : (n : ℕ) (plan : List Entry) (e : Entry) (k : ℕ) → n < length plan → get_or plan n e ≡ e → e.at ≡ k → interrupts_at (drop n plan) k ≡ e.cut ∷ interrupts_at (drop (n + 1) plan) k
 interrupts_at-more n plan e k lt is now =
     at_drop_more (λ es. interrupts_at es k) plan n e lt

@@ -171,7 +171,7 @@ pub text_read : (text : List ℕ) (plan : List Entry) → plan_in text ≡ Ok pl
 unfolding plan_in
 text_read text plan ok = text_of text (lines_of text) plan (join_with_byte-slice_split 10 text) (not_large text plan (ltb 8388608 (length text)) ok)
 
--- so a text that spells a plan isn't refused for what stands in it
+-- the text of a plan isn't refused for anything in it
 pub refused : (text : List ℕ) (fault : PlanFault) (plan : List Entry) → (fault ≡ OutOfMemory) ⊎ (plan_in text ≡ Err fault) → IsPlanText text plan → length text ≤ 8388608 → (◌≡◌ {A = Result (List Entry) PlanFault} (Err fault) (Ok plan)) ⊎ (◌≡◌ {A = Result (List Entry) PlanFault} (Err fault) (Err OutOfMemory))
 refused text fault plan (inl memory) is small = inr (ap Err memory)
 refused text fault plan (inr bad) is small = let good = plan_read text plan is small in absurd cc
@@ -180,6 +180,6 @@ refused text fault plan (inr bad) is small = let good = plan_read text plan is s
 pub same_plan : (text : List ℕ) (plan other : List Entry) → plan_in text ≡ Ok plan → IsPlanText text other → length text ≤ 8388608 → plan ≡ other
 same_plan text plan other ok is small = let good = plan_read text other is small in cc
 
--- its bytes are bytes
+-- what a plan writes are bytes
 pub bytes_read : (plan : List Entry) → All FitsEntry plan → IsPlan plan
 bytes_read plan fits = All-weaker FitsEntry (λ e. IsInterrupt e.cut) (λ e here. All-weaker FitsByte (λ d. d.1 < 256) (λ d small. small.1) e.cut.dirt here.2) plan fits

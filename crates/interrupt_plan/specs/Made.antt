@@ -8,12 +8,12 @@ use Rattle.interrupt_plan.specs.Plan.{Entry}
 abbrev pub drawn_accesses : ℕ → List ℕ
 drawn_accesses bits = filter (λ access. bits / 2 ^ access % 2 == 1) (range_with_len 0 13)
 
--- so many bytes in the page below the top of the standard stack; the address is drawn before the byte
+-- n bytes in the page below the top of the standard stack; the address is drawn before the byte
 abbrev pub dirt_from : ℕ → ℕ → List (ℕ × ℕ)
 dirt_from zero x = []
 dirt_from (suc n) x = (0x0FFF_F000 + drawn (stepped x) % 4096, drawn (stepped (stepped x)) % 256) ∷ dirt_from n (stepped (stepped x))
 
--- the state after them
+-- the state after n such bytes are drawn
 abbrev pub after_dirt : ℕ → ℕ → ℕ
 after_dirt zero x = x
 after_dirt (suc n) x = after_dirt n (stepped (stepped x))
@@ -25,7 +25,7 @@ cut_after at x = record {
   cut = record { done = drawn_accesses (drawn (stepped (stepped x))); dirt = dirt_from 4 (stepped (stepped x)) };
 }
 
--- so many interrupts
+-- n interrupts
 abbrev pub cuts_from : ℕ → ℕ → ℕ → List Entry
 cuts_from zero at x = []
 cuts_from (suc n) at x = cut_after at x ∷ cuts_from n (at + drawn (stepped x) % 64) (after_dirt 4 (stepped (stepped x)))

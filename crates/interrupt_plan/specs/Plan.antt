@@ -21,10 +21,10 @@ interrupts_at (e ∷ es) k = if e.at == k then e.cut ∷ interrupts_at es k else
 abbrev pub IsInterrupt : Interrupt → Type 0
 IsInterrupt c = All (λ d. d.1 < 256) c.dirt
 
--- the same of all interrupts before each commit
+-- what each interrupt before a commit writes are bytes
 abbrev pub AreInterrupts : (ℕ → List Interrupt) → Type 0
 AreInterrupts cuts = (k : ℕ) → All IsInterrupt (cuts k)
 
--- the same of a plan's
+-- what each interrupt of a plan writes are bytes
 abbrev pub IsPlan : List Entry → Type 0
 IsPlan plan = All (λ e. IsInterrupt e.cut) plan

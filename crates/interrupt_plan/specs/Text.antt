@@ -35,7 +35,7 @@ entry_line e = join_with_byte 32 (entry_words e)
 unfoldable pub plan_text : List Entry → List ℕ
 plan_text plan = codes "zcld plan 1" ++ 10 ∷ flat_map (λ e. entry_line e ++ 10 ∷ []) plan
 
--- its numbers fit their types
+-- the numbers of a byte that is written fit their types
 abbrev pub FitsByte : ℕ × ℕ → Type 0
 FitsByte d = (d.0 < 2 ^ 32) × (d.1 < 256)
 
@@ -121,11 +121,11 @@ entries_behind (title ∷ (next ∷ lines)) =
 entries_behind (rest ∷ []) = Err (BadLine 1)
 entries_behind [] = Err (BadLine 1)
 
--- the plan that a text spells, or the first fault that stands in it
+-- the plan that a text is, or the first fault in it
 unfoldable pub plan_in : List ℕ → Result (List Entry) PlanFault
 plan_in text = if nat_lt 8388608 (length text) then Err TooLarge else entries_behind (lines_of text)
 
--- a text within the limit that spells a plan is read as that plan, unless memory is wanting
+-- a text within the limit that is a plan is read as that plan, unless memory runs out
 abbrev pub ReadsEachPlan : List ℕ → Result (List Entry) PlanFault → Type 0
 ReadsEachPlan text result =
     (plan : List Entry) → IsPlanText text plan → length text ≤ 8388608 → (result ≡ Ok plan) ⊎ (result ≡ Err OutOfMemory)

@@ -11,7 +11,7 @@ use std::alloc::{AllocError, Global};
 use text_lines::number::read_number;
 use text_lines::split::split_word;
 
-/// The interrupt that a line spells.
+/// The interrupt of a line.
 pub fn read_cut(alloc: Global, line: &[u8]) -> Result<Option<PlanCut>, AllocError>
     ensures { IfOk result (λ cut. cut ≡ entry_of_words (words_of line.now)) }
 {

@@ -8,7 +8,7 @@ use crate::plan::{Plan, PlanCut};
 use std::alloc::{AllocError, Global};
 use zc_base::draws::Draws;
 
-/// The plan of so many interrupts that is drawn from a number, at most 63 commits apart.
+/// The plan of `count` interrupts that is drawn from a number, at most 63 commits apart.
 #[tactic(auto, unfolding(crate::specs::Made::made_plan), using(crate::proofs::MadeLaws::cuts_more))]
 pub fn make_plan(alloc: Global, number: u64, count: u32) -> Result<Plan, AllocError>
     requires { count ≤ 10000 }
@@ -52,7 +52,7 @@ fn drawn_accesses(alloc: Global, bits: u32) -> Result<Vec<u8>, AllocError>
     Ok(done)
 }
 
-// Draws so many bytes near the top of the standard stack.
+// Draws `count` bytes near the top of the standard stack.
 fn draw_dirt(alloc: Global, count: u32, draws: &mut Draws) -> Result<Vec<(u32, u8)>, AllocError>
     ensures dirt { IfOk result (λ dirt. dirt.items ≡ dirt_from count draws.old) }
     ensures after { OnOk result (draws.new ≡ after_dirt count draws.old) }

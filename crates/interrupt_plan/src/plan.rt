@@ -61,7 +61,7 @@ impl Plan {
         Plan { cuts }
     }
 
-    /// How many interrupts there are.
+    /// The number of interrupts.
     pub fn cut_count(&self) -> u32
         ensures count { result ≡ length self.now }
         ensures in_order { IsInOrder self.now }

@@ -16,7 +16,7 @@ use text_lines::split::split_line;
 /// The longest text that is read, in bytes.
 pub const PLAN_LIMIT: usize = 8_388_608;
 
-/// The plan that a text spells. Faults are named by their line: the first one in the text counts.
+/// The plan in a text. Faults are named by their line: the first one in the text counts.
 pub fn read_plan(alloc: Global, text: &[u8]) -> Result<Plan, PlanFault>
     ensures ok { IfOk result (λ plan. plan_in text.now ≡ Ok plan) }
     ensures err { IfErr result (λ fault. (fault ≡ PlanFault.OutOfMemory) ⊎ (plan_in text.now ≡ Err fault)) }
@@ -38,7 +38,7 @@ pub fn read_plan(alloc: Global, text: &[u8]) -> Result<Plan, PlanFault>
     Ok(Plan::new(cuts))
 }
 
-// The interrupts that the lines behind the first one spell.
+// The interrupts in the lines after the first one.
 fn read_cuts(alloc: Global, lines: &[u8]) -> Result<Vec<PlanCut>, PlanFault>
     requires { length lines.now ≤ PLAN_LIMIT }
     ensures ok { IfOk result (λ cuts. entries_of_lines 2 0 (lines_of lines.now) ≡ Ok cuts.items) }

@@ -6,7 +6,7 @@ ghost use Rattle.interrupt_plan.specs.Text.{access_of, dirt_of};
 use text_lines::hex::{read_hex_byte, read_hex_word};
 use text_lines::number::read_number;
 
-/// The access that a word spells.
+/// The access that a word names.
 pub fn read_access(word: &[u8]) -> Option<u8>
     ensures { result ≡ access_of word.now }
 {
@@ -15,7 +15,7 @@ pub fn read_access(word: &[u8]) -> Option<u8>
     Some(number as u8)
 }
 
-/// The byte that a word spells, behind its address.
+/// The byte that a word names, after its address.
 pub fn read_byte(word: &[u8]) -> Option<(u32, u8)>
     ensures { result ≡ dirt_of word.now }
 {

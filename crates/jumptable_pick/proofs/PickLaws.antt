@@ -87,7 +87,7 @@ module _ (savings : List Saving) (jumps calls : List Rank) (is : Ranked Jumps sa
   best_sound =
       better_sound savings _ _ (better_sound savings (table_of savings []) (jump_table jumps) (empty_sound savings) (jumps_assignment savings jumps is)) (calls_assignment savings jumps calls is is')
 
-  -- its net is the bound by the prices
+  -- the net of the best table is the bound by the prices
   best_bound : (best_table savings jumps calls).net ≡ max (jump_bound savings (saved_at 32 jumps - 4) - 12) (call_bound savings (saved_at 32 jumps) (saved_at 224 calls - 4) - 140)
   best_bound =
       let table = best_table savings jumps calls in

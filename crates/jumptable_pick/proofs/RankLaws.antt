@@ -113,7 +113,7 @@ above_one : (a : ℕ) (r : Rank) (rest : List Rank) (b : Bool) (fs : List Rank) 
 above_one a r rest true fs t is h = omega (arith, sum_by-cons rank_saving r fs, ltb-true a (rank_saving r) is, h)
 above_one a r rest false fs t is h = omega (arith, ltb-false a (rank_saving r) is, h)
 
--- those that save more than a save what all save above a, and a each
+-- the targets that save more than a save what all save above a, and a each
 pub above_sum : (a : ℕ) (ranks : List Rank) → sum_by rank_saving (filter (λ r. nat_lt a (rank_saving r)) ranks) ≡ sum_by (λ r. rank_saving r - a) ranks + a * length (filter (λ r. nat_lt a (rank_saving r)) ranks)
 above_sum a [] = omega arith
 above_sum a (r ∷ rest) =

@@ -9,7 +9,7 @@ abbrev pub slot_place : List Saving → ℕ → Option Place
 slot_place savings zero = None
 slot_place savings (suc index) = option_map (λ s. s.target) (slice_get savings index)
 
--- those of all slots, in their order
+-- the places of all slots, in their order
 abbrev pub slot_places : List Saving → List ℕ → List (Option Place)
 slot_places savings slots = map (slot_place savings) slots
 

@@ -8,7 +8,7 @@ use Rattle.jumptable_pick.specs.Ranking.{rank_saving}
 
 -- ---- slots
 
--- slots for the targets among the first so many that save more than a number of bytes
+-- slots for the first `most` targets, as far as they save more than `above` bytes
 abbrev pub chosen : ℕ → ℕ → List Rank → List ℕ
 chosen above most ranks = map (λ r. r.number) (filter (λ r. nat_lt above (rank_saving r)) (take most ranks))
 
@@ -50,12 +50,12 @@ best_table savings jumps calls =
 
 -- ---- prices
 
--- what the first saves, and 0 if there is none
+-- what the first target saves, and 0 if there is none
 abbrev pub first_saved : List Rank → ℕ
 first_saved [] = 0
 first_saved (r ∷ rest) = rank_saving r
 
--- what the first after so many saves, and 0 if there is none
+-- what the first target after n others saves, and 0 if there is none
 abbrev pub saved_at : ℕ → List Rank → ℕ
 saved_at n ranks = first_saved (drop n ranks)
 

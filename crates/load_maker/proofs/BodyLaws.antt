@@ -48,7 +48,7 @@ less_fits v lt = fits_by (pos v -ℤ pos 1024) (omega (arith, ints)) (omega (ari
 
 -- ---- the parts of a function: how long they are, and that their immediates fit
 
--- so many instructions at most, each with a word
+-- at most `most` instructions, each with a word
 record AreShort (most : ℕ) (instrs : List Instr) : Type 0 where
   pub short : length instrs ≤ most
   pub range : All InRange instrs
@@ -171,7 +171,7 @@ flat_inner n [] all = All-nil (IsInner n)
 flat_inner n (body ∷ rest) all =
     All-append (IsInner n) body (flat_map (λ b. b) rest) (All-head (IsBody n) body rest all).inner (flat_inner n rest (All-tail (IsBody n) body rest all))
 
--- one of the groups
+-- the bodies of one group
 module _ (number n k : ℕ) where
   abbrev pub bodies_of : List (List Statement)
   bodies_of = group (functions_from n 0 number) k

@@ -45,7 +45,7 @@ pub bytes_any : (f g : ℕ → ℕ) (statements : List Statement) → fragments_
 bytes_any f g [] = refl
 bytes_any f g (s ∷ rest) = λ i. fragment_any f g s i ++ bytes_any f g rest i
 
--- and are as many as the statements say
+-- the code has as many bytes as the statements say
 pub bytes_long : (statements : List Statement) (bytes : List ℕ) → bytes ≡ fragments_bytes (map (fragment_of (λ function. 0)) statements) → length bytes ≡ code_size statements
 bytes_long statements bytes are =
     let fragments = map (fragment_of (λ function. 0)) statements in

@@ -90,13 +90,13 @@ module _ (number n : ℕ) (few : n ≤ FUNCTION_LIMIT) where
 
   -- ---- sections
 
-  -- one without code and relocations, or the code of an object
+  -- a section without code and relocations, or the code of an object
   data IsMadeSection (l : IndexedSection) : Type 0 where
     Other : is_code_section l.section ≡ false → l.section.relocs ≡ [] → IsMadeSection l
     OfStart : l ≡ record { object = 0; index = 1; section = code_parts (start_fragments number n few) } → IsMadeSection l
     OfGroup : (k : ℕ) → k < group_count n → l ≡ record { object = suc k; index = 1; section = code_parts (fragments_in number n few k) } → IsMadeSection l
 
-  -- its given sections, as they are read
+  -- the given sections of an object, as they are read
   abbrev sections_read : ObjectParts → List SectionParts
   sections_read p = map (in_object p.flags) p.sections
 

@@ -35,7 +35,7 @@ module _ (others : ℕ) (first : List ℕ) (statements : List Statement) where
   pub gathers_none : (relocs : List Reloc) → relocs ≡ [] → Gathers first relocs 0 statements
   gathers_none relocs none = record { names = refl; are = ap (λ l. l ++ all_relocs 0 statements) none; size = omega arith; few = omega arith }
 
-  -- and at the end all are
+  -- at the end all are gathered
   module _ (named : List ℕ) (relocs : List Reloc) (at k : ℕ) (le : length statements ≤ k) (gathers : Gathers named relocs at (drop k statements)) where
     all : Gathers named relocs at []
     all = subst (Gathers named relocs at) (drop_all k statements le) gathers
@@ -54,13 +54,13 @@ module _ (others : ℕ) (first : List ℕ) (statements : List Statement) where
     next : (t : Statement) → s ≡ t → Gathers named relocs at (t ∷ rest)
     next t same = subst (Gathers named relocs at) (drop_more statements k s lt ∙ ap (λ u. u ∷ rest) (sym is ∙ same)) gathers
 
-    -- its end lies within the code
+    -- the statement's end lies within the code
     pub stays_within : at + size_of s ≤ code_size statements
     stays_within =
         let now = next s refl in
         omega (arith, now.size, sum_by-cons size_of s rest)
 
-    -- there are still fewer functions than there may be
+    -- there are still fewer named functions than there may be
     pub few_so_far : length named < length first + length statements
     few_so_far = omega (arith, lt, gathers.few, length-drop k statements)
 

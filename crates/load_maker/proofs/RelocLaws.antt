@@ -24,10 +24,11 @@ use Rattle.psabi_sym.specs.declared.target.Target.{Target}
 use Rattle.psabi_sym.specs.declared.target.Target.TheVariants.{Code, Nowhere}
 use Rattle.psabi_reloc.specs.Kinds.{kind_of}
 use Rattle.block_cut.specs.Faults.{is_bad_target}
-use Rattle.block_cut.specs.Items.{code_at, code_only, is_target_at, starts_on}
+use Rattle.block_cut.specs.Items.{is_target_at, starts_on}
 use Rattle.block_cut.specs.Relocs.{is_transfer}
 use Rattle.block_cut.specs.Whole.{IsWhole}
 use Rattle.block_cut.proofs.PlainLaws.{target_on}
+use Rattle.block_cut.proofs.WholeLaws.{code_at_is}
 use Rattle.sound_objects.specs.Parts.{objects_of, read_of}
 use Rattle.sound_objects.specs.Fragments.{IsMadeOf, Fragment, FragmentReloc, fragments_size, fragment_reloc_at}
 use Rattle.sound_objects.specs.WellFormed.{RelocsAreRight}
@@ -152,7 +153,7 @@ module _ (number n : ℕ) (few : n ≤ FUNCTION_LIMIT) where
           let text = code_parts (fragments_in k) in
           let value : l.symbol.value ≡ v = omega (arith, ap (λ (x : SymbolParts). x.value) at.is, code_sized (symbol_of 0 (named_in k)) before) in
           let home : home_target made (suc k) l.symbol (pos 0) ≡ Code q = home_is (suc k) v l.symbol (fragments_in k) (text_there k within) le (ap (λ (x : SymbolParts). x.home) at.is) value in
-          let code : code_at made.objects q ≡ Some text = ap (option_and_then code_only) (text_there k within) in
+          let code = code_at_is made.objects q text (text_there k within) refl in
           record {
             place = q;
             leads = λ other.
@@ -176,7 +177,7 @@ module _ (number n : ℕ) (few : n ≤ FUNCTION_LIMIT) where
       ∙ ap (is_bad_target made.objects true) (resolved_there made o m s at ∙ named ∙ there.leads Nowhere)
       ∙ not_from_true (is_target_at made.objects there.place) there.lands
 
-  -- of the first object
+  -- the calls of the first object lead somewhere
   start_call : (i : ℕ) → i < n → HasNumber start_named i → is_bad_target made.objects true (resolved made 0 (symbol_of 2 start_named i) (pos 0)) ≡ false
   start_call i lt has =
       call_target 0 i (suc (suc has.0)) (undefined_symbol i) lt (slice_map undefined_symbol start_named has.0 i has.1) refl (symbol_of 2 start_named i) (omega (arith, has.2))
@@ -186,7 +187,7 @@ module _ (number n : ℕ) (few : n ≤ FUNCTION_LIMIT) where
   unfolding resolved role_of
   result_target transfers stays = ap (λ b. is_bad_target made.objects b (resolved made 0 1 (pos 0))) stays
 
-  -- of another
+  -- an object other than the first
   module _ (k : ℕ) (within : k < group_count n) where
     abbrev own : List SymbolParts
     own = function_symbols (8 * k) 0 (bodies_of number n k)
@@ -238,7 +239,7 @@ module _ (number n : ℕ) (few : n ≤ FUNCTION_LIMIT) where
 
   -- ---- relocations
 
-  -- those of code whose calls and parts of addresses lead somewhere
+  -- the relocations of code whose calls and parts of addresses lead somewhere
   text_right : (o : ℕ) (symbol : ℕ → ℕ) (statements : List Statement) → IsMadeOf (map (fragment_of symbol) statements) (code_parts (map (fragment_of symbol) statements))
       → IsWhole (code_parts (map (fragment_of symbol) statements))
       → ((before after : List Statement) (i : ℕ) → statements ≡ before ++ Call i ∷ after → is_bad_target made.objects true (resolved made o (symbol i) (pos 0)) ≡ false)

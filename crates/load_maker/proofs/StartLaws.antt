@@ -28,7 +28,7 @@ calls_size : (a n : ℕ) → code_size (map Call (range_with_len a n)) ≡ 8 * n
 calls_size a zero = refl
 calls_size a (suc n) = omega (arith, sum_by-cons size_of (Call a) (map Call (range_with_len (a + 1) n)), calls_size (a + 1) n)
 
--- it has a call for each function
+-- the code at the start has a call for each function
 pub start_size : (number n : ℕ) → code_size (start_statements number n) ≡ 48 + 8 * n
 start_size number n =
     let first = Plain (addi A0 Zero (pos (number % 2048))) in

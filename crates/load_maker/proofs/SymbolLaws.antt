@@ -26,7 +26,7 @@ pub length-function_symbols : (i at : ℕ) (bodies : List (List Statement)) → 
 length-function_symbols i at [] = refl
 length-function_symbols i at (body ∷ rest) = ap (λ n. suc n) (length-function_symbols (i + 1) (at + code_size body) rest)
 
--- that of a function, by its number and the functions before it
+-- the symbol of a function, by its number and the functions before it
 pub record IsFunctionAt (i at : ℕ) (bodies : List (List Statement)) (j : ℕ) (s : SymbolParts) : Type 0 where
   pub front : List (List Statement)
   pub body : List Statement
@@ -58,7 +58,7 @@ function_at i at (body ∷ rest) (suc j) s is =
       is = more.is ∙ (λ k. function_symbol (number k) (place k) more.body);
     }
 
--- and each is there
+-- each function has a symbol
 pub function_there : (i at : ℕ) (bodies : List (List Statement)) (j : ℕ) → j < length bodies → (s : SymbolParts) × (slice_get (function_symbols i at bodies) j ≡ Some s)
 function_there i at [] j lt = absurd (omega arith)
 function_there i at (body ∷ rest) zero lt = (function_symbol i at body, refl)

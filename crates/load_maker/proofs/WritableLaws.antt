@@ -34,7 +34,7 @@ module _ (n others : ℕ) (defined : List ℕ) (statements : List Statement) (ri
   abbrev fragments : List Fragment
   fragments = map (fragment_of symbol) statements
 
-  -- its relocations name symbols that there are
+  -- the relocations of code name symbols that exist
   relocs_below : (m : ℕ) → 1 < m → 1 + others + length named ≤ m → All (λ r. r.symbol < m) (relocs_from 0 fragments)
   relocs_below m some most = each_reloc symbol (λ (r : Reloc). r.symbol < m) statements each
     where

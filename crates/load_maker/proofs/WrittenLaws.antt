@@ -36,7 +36,7 @@ called_below n (Call i ∷ rest) right =
     All-cons (λ j. j < n) i (all_called rest) (All-head (IsRight n) (Call i) rest right) (called_below n rest (All-tail (IsRight n) (Call i) rest right))
 called_below n (WithAddress kind i ∷ rest) right = called_below n rest (All-tail (IsRight n) (WithAddress kind i) rest right)
 
--- they are those that it defines, and others below a number
+-- the names are those of the functions that an object defines, and others below a number
 pub names_more : (n : ℕ) (defined : List ℕ) (statements : List Statement) → All (IsRight n) statements → IsMore (λ j. j < n) defined (named_by defined statements)
 names_more n defined statements right = folded (λ j. j < n) defined (all_called statements) (called_below n statements right)
 
@@ -185,7 +185,7 @@ module _ (number n k : ℕ) (few : n ≤ FUNCTION_LIMIT) (within : k < group_cou
       (functions_are (code_size code) (8 * k) 0 bodies (omega (arith, group_long number n k, few, within)) (omega arith) (omega (arith, group_short number n k)))
       (undefined_are n (code_size code) few (drop (length bodies) group_named) (are_named n (8 * k) (length bodies) code group_right).below)
 
-  -- how many symbols there are
+  -- the number of symbols
   group_many : length (own ++ called) ≡ length group_named
   group_many =
       omega (

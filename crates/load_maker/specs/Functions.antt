@@ -31,7 +31,7 @@ operation kind value =
     (if kind == 4 then lui A1 value ∷ sub A0 A0 A1 ∷ [] else
     srai A0 A0 (pos (1 + value % 3)) ∷ []))))
 
--- so many operations, each by two draws, and the state after these
+-- m operations, each by two draws, and the state after them
 abbrev pub drawn_operations : ℕ → ℕ → List Instr
 drawn_operations zero x = []
 drawn_operations (suc m) x =
@@ -41,11 +41,11 @@ abbrev pub after_operations : ℕ → ℕ → ℕ
 after_operations zero x = x
 after_operations (suc m) x = after_operations m (stepped (stepped x))
 
--- one more, unless its value is 0
+-- an increment of a0, unless a0 is 0
 abbrev pub increment : List Instr
 increment = beq A0 Zero (pos 8) ∷ addi A0 A0 (pos 1) ∷ []
 
--- it calls another if it saves ra, and there are functions before it
+-- a function calls another if it saves ra, and if there are functions before it
 abbrev pub saves_ra : SavedRegisters → Bool
 saves_ra Both = true
 saves_ra ReturnAddress = true
@@ -61,7 +61,7 @@ call saved i x = if calls saved i then Call (drawn (stepped x) % i) ∷ [] else 
 abbrev pub after_call : SavedRegisters → ℕ → ℕ → ℕ
 after_call saved i x = if calls saved i then stepped x else x
 
--- how it ends
+-- the end of a function
 abbrev pub epilogue : SavedRegisters → List Instr
 epilogue Both = xor A0 A0 S0 ∷ lw S0 (pos 12) Sp ∷ lw Ra (pos 8) Sp ∷ addi Sp Sp (pos 16) ∷ jalr Zero (pos 0) Ra ∷ []
 epilogue ReturnAddress = lw Ra (pos 12) Sp ∷ addi Sp Sp (pos 16) ∷ jalr Zero (pos 0) Ra ∷ []
@@ -69,7 +69,7 @@ epilogue Neither = jalr Zero (pos 0) Ra ∷ []
 
 -- ---- a function
 
--- what it saves is the first draw's, and how many operations it has the second's; then come the operations' draws
+-- what a function saves is drawn first, and then its number of operations; then come the operations' draws
 abbrev pub drawn_saves : ℕ → SavedRegisters
 drawn_saves x = saves_numbered (drawn (stepped x) % 3)
 
@@ -79,17 +79,17 @@ operation_count x = 4 + drawn (stepped (stepped x)) % 8
 abbrev pub before_call : ℕ → ℕ
 before_call x = after_operations (operation_count x) (stepped (stepped x))
 
--- its statements
+-- the statements of a function
 abbrev pub function_statements : ℕ → ℕ → List Statement
 function_statements i x =
     map Plain (prologue (drawn_saves x) ++ drawn_operations (operation_count x) (stepped (stepped x)) ++ increment)
     ++ call (drawn_saves x) i (before_call x) ++ map Plain (epilogue (drawn_saves x))
 
--- the state after it
+-- the state after a function
 abbrev pub after_function : ℕ → ℕ → ℕ
 after_function i x = after_call (drawn_saves x) i (before_call x)
 
--- so many functions, from one on
+-- n functions, from number i on
 abbrev pub functions_from : ℕ → ℕ → ℕ → List (List Statement)
 functions_from zero i x = []
 functions_from (suc n) i x = function_statements i x ∷ functions_from n (i + 1) (after_function i x)

@@ -72,7 +72,7 @@ result_section = record {
 
 -- ---- an object
 
--- the symbol of a function, where so many others stand before those of the named ones; symbol 0 is none
+-- the symbol of a function, if `others` symbols come before those of the named functions; symbol 0 is none
 abbrev pub symbol_of : ℕ → List ℕ → ℕ → ℕ
 symbol_of others named i = 1 + others + position_or_len (λ j. i == j) named
 
@@ -143,6 +143,6 @@ made_parts number functions =
     start_object number functions
     ∷ map (group_object (functions_from functions 0 number)) (range_with_len 0 (group_count functions))
 
--- and their files
+-- the files of the objects
 unfoldable pub made_objects : ℕ → ℕ → List (List ℕ)
 made_objects number functions = map object_bytes (made_parts number functions)

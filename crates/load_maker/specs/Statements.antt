@@ -21,7 +21,7 @@ fragment_of symbol (Call function) =
     pair_under (reloc_to 18 (symbol function)) (encoded (auipc Ra 0)) (encoded (jalr Ra (pos 0) Ra))
 fragment_of symbol (WithAddress kind i) = word_under (reloc_to kind 1) (encoded i)
 
--- how many bytes it becomes
+-- the number of bytes of a statement's code
 abbrev pub size_of : Statement → ℕ
 size_of (Plain i) = 4
 size_of (Call function) = 8
@@ -30,7 +30,7 @@ size_of (WithAddress kind i) = 4
 abbrev pub code_size : List Statement → ℕ
 code_size statements = sum_by size_of statements
 
--- the functions that it calls
+-- the functions that a statement calls
 abbrev pub called_by : Statement → List ℕ
 called_by (Plain i) = []
 called_by (Call function) = function ∷ []
@@ -47,7 +47,7 @@ with_number numbers i = if list_any (λ j. i == j) numbers then numbers else num
 abbrev pub named_by : List ℕ → List Statement → List ℕ
 named_by numbers statements = fold with_number numbers (all_called statements)
 
--- its immediate has room in its word
+-- the immediate of a statement fits in its word
 abbrev pub IsInRange : Statement → Type 0
 IsInRange (Plain i) = InRange i
 IsInRange (Call function) = Unit {0}

@@ -56,7 +56,7 @@ fn push_operation(out: &mut Vec<Statement>, kind: u32, value: u32) -> Result<(),
     }
 }
 
-// Appends so many operations.
+// Appends `count` operations.
 #[tactic(auto, using(crate::proofs::OperationLaws::operation_steps))]
 fn push_operations(
     out: &mut Vec<Statement>,
@@ -126,7 +126,7 @@ fn function(alloc: Global, i: u32, draws: &mut Draws) -> Result<Body, AllocError
     Ok(Body { statements })
 }
 
-/// So many functions, from a number.
+/// `count` functions, from a number.
 #[tactic(auto, using(crate::proofs::OperationLaws::function_steps))]
 pub fn functions(alloc: Global, number: u64, count: u32) -> Result<Vec<Body>, AllocError>
     ensures { IfOk result (λ bodies. bodies.items ≡ functions_from count 0 number) }

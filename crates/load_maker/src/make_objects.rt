@@ -22,7 +22,7 @@ use std::alloc::{AllocError, Global};
 /// The most functions that are made: they take 200 objects, beside the one where the program starts.
 pub const FUNCTION_LIMIT: u32 = 1600;
 
-// How many functions an object has, if there are as many left.
+// The number of functions in an object, if as many are left.
 const IN_ONE_OBJECT: u32 = 8;
 
 // The functions of an object.
@@ -74,8 +74,8 @@ fn files(alloc: Global, number: u64, functions: u32) -> Result<Vec<Vec<u8>>, All
     Ok(files)
 }
 
-/// The objects of so many functions, from a number: one where the program starts, which calls them all in order, and
-/// then one for each eight of them.
+/// The objects of `functions` functions, from a number: one where the program starts, which calls them all in order,
+/// and then one for each eight of them.
 pub fn make_objects(alloc: Global, number: u64, functions: u32) -> Result<Vec<Vec<u8>>, MakeFault>
     ensures objects { IfOk result (λ files. contents_of files.items ≡ made_objects number functions) }
     ensures faultless { IfOk result (λ files.

@@ -101,7 +101,7 @@ fn all_statements(alloc: Global, bodies: &[Body]) -> Result<Vec<Statement>, Allo
     Ok(statements)
 }
 
-// So many numbers, from one on.
+// `count` numbers, from `first` on.
 fn numbers_from(alloc: Global, first: u32, count: u32) -> Result<IndexSet<u32>, AllocError>
     requires { first + count < 2 ^ 32 }
     ensures { IfOk result (λ numbers. numbers.keys ≡ range_with_len first count) }

@@ -54,8 +54,8 @@ fn bytes_of(alloc: Global, statements: &[Statement]) -> Result<Vec<u8>, AllocErr
     Ok(bytes)
 }
 
-// The relocations of code. The functions that it calls are added to those that are named; their symbols stand after so
-// many others.
+// The relocations of code. The functions that it calls are added to those that are named; their symbols come after
+// `others` other ones.
 fn relocs_of(
     alloc: Global,
     others: u32,
@@ -99,8 +99,8 @@ fn relocs_of(
     Ok(relocs)
 }
 
-// The section of code. The functions that it calls are added to those that are named; their symbols stand after so
-// many others.
+// The section of code. The functions that it calls are added to those that are named; their symbols come after `others`
+// other ones.
 fn text_section(
     alloc: Global,
     others: u32,
@@ -129,7 +129,7 @@ fn text_section(
 }
 
 /// The section of code, as all sections of an object. The functions that it calls are added to those that are named;
-/// their symbols stand after so many others.
+/// their symbols come after `others` other ones.
 pub fn code_sections(
     alloc: Global,
     others: u32,

@@ -62,7 +62,7 @@ fn start_symbol(alloc: Global) -> Result<PartSymbol, AllocError>
     })
 }
 
-// How many bytes statements become.
+// The number of bytes of the statements' code.
 fn code_size(statements: &[Statement]) -> u32
     requires { code_size statements.now < 2 ^ 32 }
     ensures { result ≡ code_size statements.now }

@@ -25,6 +25,6 @@ accepted_decides savings c =
     (λ a. (((a.assignment.few, a.assignment.in_range), a.saves), a.bound))
     (Decides-and _ _ (Decides-and _ _ (Decides-and _ _ few in_range) saves) bound)
 
--- so an answer that says it is the test
+-- an answer that says whether a certificate is accepted is the test
 pub accepted_test : (savings : List Saving) (c : Certified) (answer : Bool) → (IsTrue answer ↔ IsAccepted savings c) → answer ≡ is_accepted savings c
 accepted_test savings c answer is = same_from_decides answer (is_accepted savings c) is (accepted_decides savings c)

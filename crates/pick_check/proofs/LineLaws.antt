@@ -1,4 +1,4 @@
--- What the lines of a certificate spell, and that these are their lines.
+-- What the lines of a certificate are read as, and that these are their lines.
 use Rattle.std.proofs.Common.{◌≡◌, ℕ, ◌+◌, ◌^◌, ◌<◌, ◌≤◌, Some, None, true, false, Option, List, [], ◌∷◌, ◌++◌, map, length, get_or, drop, refl, ap, ap₂, sym, subst, ◌∙◌, append_assoc, Bor, eqb}
 use Rattle.std.specs.Prelude.{All, bytes_eq, codes, slice_index}
 use Rattle.std.specs.Fmt.{decimal}
@@ -100,7 +100,7 @@ saving_read line s is =
 pub saving_back : (s : Saving) → FitsSaving s → saving_in_line (saving_line s) ≡ Some s
 saving_back s fits = ap (option_map saving_with) (line_back (codes "saving") saving_limits (saving_numbers s) saving_plain saving_small fits)
 
--- one number is its own list
+-- a list of one number
 alone : (limit : ℕ) (ns : List ℕ) → AreWithin (limit ∷ []) ns → slice_index ns 0 ∷ [] ≡ ns
 alone limit [] within = absurd within
 alone limit (n ∷ []) within = refl

@@ -93,7 +93,7 @@ lines_found lines x first second third savings slots titled at_first are_savings
     ∙ ap (λ xs. certified savings xs (last_in (length savings + length xs + 2) (drop (length xs) (lines_of second)))) are_slots
     ∙ ap (λ ls. certified savings slots (last_in (length savings + length slots + 2) ls)) (sym at_third)
 
--- the same, where the lengths have other names, for slots as they are read
+-- the lines with slots as they are read, where the lengths have other names
 pub lines_read : (lines : List (List ℕ)) (x first second third : List ℕ) (savings : List Saving) (slots : List ℕ) (m n : ℕ)
     → read_first (only (codes "zcld certificate 1")) lines ≡ Some x → lines_of first ≡ drop 1 lines
     → read_while saving_in_line (lines_of first) ≡ savings → lines_of second ≡ drop (length savings) (lines_of first)

@@ -226,7 +226,7 @@ text_read text savings c ok =
       certificate_fits = read.2;
     }
 
--- so a text that spells a certificate isn't refused for what stands in it
+-- the text of a certificate isn't refused for anything in it
 pub refused : (text : List ℕ) (fault : CertFault) (savings : List Saving) (c : Certified) → (fault ≡ OutOfMemory) ⊎ (certificate_in text ≡ Err fault) → IsCertText text savings c → length text ≤ 8388608 → (◌≡◌ {A = Result (List Saving × Certified) CertFault} (Err fault) (Ok (savings, c))) ⊎ (◌≡◌ {A = Result (List Saving × Certified) CertFault} (Err fault) (Err OutOfMemory))
 refused text fault savings c (inl memory) is small = inr (ap Err memory)
 refused text fault savings c (inr bad) is small = let good = certificate_read text savings c is small in absurd cc

@@ -31,7 +31,7 @@ while_some read [] x is = absurd (none-some x is)
 while_some read (rest ∷ []) x is = absurd (none-some x is)
 while_some read (line ∷ (next ∷ more)) x is = ap (λ o. more_read o (read_while read (next ∷ more))) is
 
--- one more is read, and the lines behind it are left
+-- one line more is read, and the lines after it are left
 pub while_step : {A : Type 0} (read : List ℕ → Option A) (before : List A) (lines rest : List (List ℕ)) (x : A) → read_first read lines ≡ Some x → rest ≡ drop 1 lines → before ++ read_while read lines ≡ (before ++ x ∷ []) ++ read_while read rest
 while_step read before lines rest x is there =
     ap (λ xs. before ++ xs) (while_some read lines x is ∙ ap (λ ls. x ∷ read_while read ls) (sym there)) ∙ sym (append_assoc before (x ∷ []) (read_while read rest))
@@ -55,7 +55,7 @@ while_short {A} read (line ∷ (next ∷ more)) some = either (read line) (while
     either None h = omega arith
     either (Some x) h = omega (arith, h)
 
--- lines that were spelled so are read so, up to one that can't be
+-- lines that were written so are read so, up to one that can't be
 pub while_back : {A : Type 0} (read : List ℕ → Option A) (spell : A → List ℕ) (xs : List A) (lines : List (List ℕ)) → All (λ x. read (spell x) ≡ Some x) xs → 0 < length lines → read_first read lines ≡ None → read_while read (map spell xs ++ lines) ≡ xs
 while_back read spell [] lines back some none = while_none read lines none
 while_back read spell (x ∷ xs) lines back some none =
@@ -64,7 +64,7 @@ while_back read spell (x ∷ xs) lines back some none =
     ∙ ap (λ o. more_read o (read_while read (map spell xs ++ lines))) (All-head (λ y. read (spell y) ≡ Some y) x xs back)
     ∙ ap (λ ys. x ∷ ys) (while_back read spell xs lines (All-tail (λ y. read (spell y) ≡ Some y) x xs back) some none)
 
--- what is read of lines is what they spell, and the others are left
+-- what is read of lines is what they were written from, and the others are left
 pub while_is : {A : Type 0} (read : List ℕ → Option A) (spell : A → List ℕ) (Fits : A → Type 0) → ((line : List ℕ) (x : A) → read line ≡ Some x → (line ≡ spell x) × Fits x) → (n : ℕ) (lines : List (List ℕ)) → (lines ≡ map spell (take n (read_while read lines)) ++ drop (length (take n (read_while read lines))) lines) × All Fits (take n (read_while read lines))
 while_is read spell Fits is zero lines = (refl, All-nil Fits)
 while_is read spell Fits is (suc n) [] = (refl, All-nil Fits)

@@ -18,7 +18,7 @@ pub record IsAccepted (savings : List Saving) (c : Certified) : Type 0 where
   pub saves : Saves savings c.slots c.net
   pub bound : c.net ≡ bound_of savings c.prices
 
--- the same as a test
+-- whether a certificate is accepted, as a test
 unfoldable pub is_accepted : List Saving → Certified → Bool
 is_accepted savings c =
     nat_le (length c.slots) 256 && list_all (λ slot. nat_le slot (length savings)) c.slots

@@ -19,12 +19,12 @@ pub record IsBeginning (lines : List (List ℕ)) : Type 0 where
 abbrev pub NoneGoesOn : List (List ℕ) → List ℕ → Type 0
 NoneGoesOn before rest = (line more : List ℕ) → rest ≡ line ++ 10 ∷ more → IsBeginning (before ++ line ∷ []) → ⊥
 
--- it isn't the text of a certificate
+-- the text isn't that of a certificate
 abbrev pub SpellsNone : List ℕ → Type 0
 SpellsNone text = (savings : List Saving) (c : Certified) → IsCertText text savings c → ⊥
 
--- the lines before a bad line begin some certificate's text; with it they don't, or it is missing, or there is one line too
--- many; want of memory may come at any text
+-- the lines before a bad line begin some certificate's text; with it they don't, or it is missing, or there is one line too many;
+-- memory may run out at any text
 pub data IsCertFault (text : List ℕ) : CertFault → Type 0 where
   bad_line : (before : List (List ℕ)) (rest : List ℕ) → text ≡ text_of before ++ rest → IsBeginning before → NoneGoesOn before rest → SpellsNone text → IsCertFault text (BadLine (length before + 1))
   large : 8388608 < length text → IsCertFault text TooLarge

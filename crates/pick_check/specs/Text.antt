@@ -16,7 +16,7 @@ use Rattle.pick_check.specs.declared.saving.Saving.{Saving}
 abbrev pub line_with : List ℕ → List ℕ → List ℕ
 line_with name numbers = join_with_byte 32 (name ∷ map decimal numbers)
 
--- a saving: its target's object, section and offset, and how many jumps and calls there are to it
+-- the numbers of a saving: its target's object, section and offset, and the number of jumps and of calls to it
 abbrev pub saving_numbers : Saving → List ℕ
 saving_numbers s = s.target.object ∷ s.target.section ∷ s.target.offset ∷ s.jump_sites ∷ s.call_sites ∷ []
 
@@ -65,14 +65,14 @@ net_limits = 0xFFFF_FFFF_FFFF_FFFF ∷ []
 abbrev pub AreWithin : List ℕ → List ℕ → Type 0
 AreWithin limits numbers = AllZip (λ limit n. n ≤ limit) limits numbers
 
--- its numbers fit their types
+-- the numbers of a saving, or of a slot, fit their types
 abbrev pub FitsSaving : Saving → Type 0
 FitsSaving s = AreWithin saving_limits (saving_numbers s)
 
 abbrev pub FitsSlot : ℕ → Type 0
 FitsSlot slot = AreWithin slot_limits (slot ∷ [])
 
--- it has at most 256 slots and three prices, and its numbers fit their types
+-- a certificate has at most 256 slots and three prices, and its numbers fit their types
 pub record FitsCertified (c : Certified) : Type 0 where
   pub few : length c.slots ≤ 256
   pub slots_fit : All FitsSlot c.slots
@@ -87,7 +87,7 @@ pub record IsCertText (text : List ℕ) (savings : List Saving) (c : Certified) 
 
 -- ---- the certificate that a text spells
 
--- the numbers that words spell, one for each limit
+-- the numbers that words are, one for each limit
 abbrev pub numbers_of : List ℕ → List (List ℕ) → Option (List ℕ)
 numbers_of [] [] = Some []
 numbers_of (limit ∷ limits) (word ∷ words) =
@@ -95,7 +95,7 @@ numbers_of (limit ∷ limits) (word ∷ words) =
 numbers_of [] (word ∷ words) = None
 numbers_of (limit ∷ limits) [] = None
 
--- the same of words behind a name
+-- the numbers that the words after a name are
 abbrev pub numbers_behind : List ℕ → List ℕ → List (List ℕ) → Option (List ℕ)
 numbers_behind name limits (first ∷ words) = if bytes_eq first name then numbers_of limits words else None
 numbers_behind name limits [] = None
@@ -191,11 +191,11 @@ savings_then lines = let savings = read_while saving_in_line lines in slots_then
 unfoldable pub certificate_of : List (List ℕ) → Result (List Saving × Certified) CertFault
 certificate_of lines = read_then 1 (read_first (only (codes "zcld certificate 1")) lines) (λ title. savings_then (drop 1 lines))
 
--- the savings and the certificate that a text spells, or the first fault that stands in it
+-- the savings and the certificate of a text, or the first fault in it
 unfoldable pub certificate_in : List ℕ → Result (List Saving × Certified) CertFault
 certificate_in text = if nat_lt 8388608 (length text) then Err TooLarge else certificate_of (lines_of text)
 
--- a text within the limit that spells a certificate is read as that certificate, unless memory is wanting
+-- a text within the limit that is that of a certificate is read as that certificate, unless memory runs out
 abbrev pub ReadsEachCert : List ℕ → Result (List Saving × Certified) CertFault → Type 0
 ReadsEachCert text result =
     (savings : List Saving) (c : Certified) → IsCertText text savings c → length text ≤ 8388608

@@ -20,7 +20,7 @@ pub fn accepts(savings: &[Saving], c: &Certificate) -> bool
     saves_most(savings, c)
 }
 
-// The same; that it is the test follows from that.
+// The test of `accepts`, by its meaning: that the answer is `is_accepted` follows.
 fn saves_most(savings: &[Saving], c: &Certificate) -> bool
     requires { length savings.now ≤ 1048576 }
     ensures exactly { IsTrue result ↔ IsAccepted savings.now c.now }

@@ -12,7 +12,7 @@ const HALF: u64 = 0xFFFF;
 
 const WORD: u64 = 0xFFFF_FFFF;
 
-/// The saving that a line spells.
+/// The saving of a line.
 pub fn read_saving(line: &[u8]) -> Option<Saving>
     ensures { result ≡ saving_in_line line.now }
 {
@@ -29,7 +29,7 @@ pub fn read_saving(line: &[u8]) -> Option<Saving>
     })
 }
 
-/// The slot that a line spells.
+/// The slot of a line.
 pub fn read_slot(line: &[u8]) -> Option<u32>
     ensures { result ≡ slot_in_line line.now }
 {
@@ -37,7 +37,7 @@ pub fn read_slot(line: &[u8]) -> Option<u32>
     Some(numbers[0] as u32)
 }
 
-/// The prices that a line spells.
+/// The prices of a line.
 pub fn read_prices(line: &[u8]) -> Option<[u32; 3]>
     ensures { result ≡ prices_in_line line.now }
 {
@@ -45,7 +45,7 @@ pub fn read_prices(line: &[u8]) -> Option<[u32; 3]>
     Some([numbers[0] as u32, numbers[1] as u32, numbers[2] as u32])
 }
 
-/// The net that a line spells.
+/// The net of a line.
 pub fn read_net(line: &[u8]) -> Option<u64>
     ensures { result ≡ net_in_line line.now }
 {

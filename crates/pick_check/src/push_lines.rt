@@ -53,7 +53,7 @@ fn push_slot(text: &mut String, slot: u32) -> Result<(), AllocError>
     push_line(text, "slot", &[u64::from(slot)])
 }
 
-/// Adds a line: a name, and numbers behind a space each.
+/// Adds a line: a name, and numbers, each preceded by a space.
 pub fn push_line(text: &mut String, name: &str, numbers: &[u64]) -> Result<(), AllocError>
     ensures { OnOk result (string_bytes text.new
         ≡ string_bytes text.old ++ (line_with name.now numbers.now ++ 10 ∷ [])) }

@@ -2,7 +2,7 @@
 
 use zc_base::place::Place;
 
-/// A target of jumps and calls, and how many there are to it. A site that goes through the table takes two bytes in
+/// A target of jumps and calls, and the number of each to it. A site that goes through the table takes two bytes in
 /// place of four.
 #[derive(Clone, Copy, PartialEq, Eq, Debug)]
 pub struct Saving {

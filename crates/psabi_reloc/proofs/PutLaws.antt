@@ -18,6 +18,22 @@ use Rattle.rv_decode.proofs.RowLaws.{row_found}
 other : (test : Option Instr → Bool) (i j : Instr) → test (Some i) ≡ true → i ≡ j → test (Some j) ≡ false → ⊥
 other test i j passes same fails = let both : true ≡ false = sym passes ∙ ap (λ k. test (Some k)) same ∙ fails in cc
 
+-- what a format spells
+abbrev spelled_by : {word : ℕ} {i : Instr} → Format word i → (j : Instr) × (i ≡ j)
+spelled_by (OfUpper op o is) = (_, is)
+spelled_by (OfJal o is) = (_, is)
+spelled_by (OfJalr o f is) = (_, is)
+spelled_by (OfBranch op o row is) = (_, is)
+spelled_by (OfLoad op o row is) = (_, is)
+spelled_by (OfStore op o row is) = (_, is)
+spelled_by (OfImm op o row is) = (_, is)
+spelled_by (OfShift op o row is) = (_, is)
+spelled_by (OfReg op o row is) = (_, is)
+spelled_by (OfFence o f is) = (_, is)
+spelled_by (OfEcall w is) = (_, is)
+spelled_by (OfEbreak w is) = (_, is)
+spelled_by (OfCsrrw o f csr is) = (_, is)
+
 -- ---- the upper twenty bits: U
 
 module _ (word result : ℕ) (rest : field result 0 12 ≡ field word 0 12) where
@@ -41,18 +57,7 @@ upper_put word result k rest part i h passes = by_format (decoded-format word i 
     by_format (OfUpper op o is) =
         format-decoded result (Upper op (rd_of word) k) (OfUpper op (opcode_stays word result rest ∙ o) (λ p. Upper op (sym (rd_stays word result rest) p) (sym part p)))
         ∙ ap (λ j. Some (with_upper j k)) (sym is)
-    by_format (OfJal o is) = no _ is refl
-    by_format (OfJalr o f is) = no _ is refl
-    by_format (OfBranch op o row is) = no _ is refl
-    by_format (OfLoad op o row is) = no _ is refl
-    by_format (OfStore op o row is) = no _ is refl
-    by_format (OfImm op o row is) = no _ is refl
-    by_format (OfShift op o row is) = no _ is refl
-    by_format (OfReg op o row is) = no _ is refl
-    by_format (OfFence o f is) = no _ is refl
-    by_format (OfEcall w is) = no _ is refl
-    by_format (OfEbreak w is) = no _ is refl
-    by_format (OfCsrrw o f csr is) = no _ is refl
+    by_format f = no (spelled_by f).0 (spelled_by f).1 refl
 
 -- ---- the upper twelve bits: I
 
@@ -98,15 +103,7 @@ sum_put word result k rest part i h passes = by_format (decoded-format word i h)
         format-decoded result (WithImm op (rd_of word) (rs1_of word) k) (OfImm op (opcode ∙ o) (ap (row_of imm_ops) funct3 ∙ row) (λ p. WithImm op (sym rd p) (sym rs1 p) (sym part p)))
         ∙ ap (λ j. Some (with_imm j k)) (sym is)
     by_format (OfShift op o row is) = no _ is (row_found (λ _ op. is_sum (Some (WithImm op (rd_of word) (rs1_of word) (pos (rs2_of word)))) ≡ false) shift_ops (funct_of word) op (refl, (refl, (refl, tt))) row)
-    by_format (OfUpper op o is) = no _ is refl
-    by_format (OfJal o is) = no _ is refl
-    by_format (OfBranch op o row is) = no _ is refl
-    by_format (OfStore op o row is) = no _ is refl
-    by_format (OfReg op o row is) = no _ is refl
-    by_format (OfFence o f is) = no _ is refl
-    by_format (OfEcall w is) = no _ is refl
-    by_format (OfEbreak w is) = no _ is refl
-    by_format (OfCsrrw o f csr is) = no _ is refl
+    by_format f = no (spelled_by f).0 (spelled_by f).1 refl
 
 -- ---- the upper seven bits, and five above the opcode: S
 
@@ -135,18 +132,7 @@ store_put word result k opcode middle part i h passes = by_format (decoded-forma
         let rs2 = rs2_same word result middle in
         format-decoded result (Store op (rs2_of word) (rs1_of word) k) (OfStore op (opcode ∙ o) (ap (row_of store_ops) funct3 ∙ row) (λ p. Store op (sym rs2 p) (sym rs1 p) (sym part p)))
         ∙ ap (λ j. Some (with_imm j k)) (sym is)
-    by_format (OfUpper op o is) = no _ is refl
-    by_format (OfJal o is) = no _ is refl
-    by_format (OfJalr o f is) = no _ is refl
-    by_format (OfBranch op o row is) = no _ is refl
-    by_format (OfLoad op o row is) = no _ is refl
-    by_format (OfImm op o row is) = no _ is refl
-    by_format (OfShift op o row is) = no _ is refl
-    by_format (OfReg op o row is) = no _ is refl
-    by_format (OfFence o f is) = no _ is refl
-    by_format (OfEcall w is) = no _ is refl
-    by_format (OfEbreak w is) = no _ is refl
-    by_format (OfCsrrw o f csr is) = no _ is refl
+    by_format f = no (spelled_by f).0 (spelled_by f).1 refl
 
 -- ---- the same bits with a distance in them: B
 
@@ -172,18 +158,7 @@ branch_put word result k opcode middle part i h passes = by_format (decoded-form
         let rs2 = rs2_same word result middle in
         format-decoded result (Branch op (rs1_of word) (rs2_of word) k) (OfBranch op (opcode ∙ o) (ap (row_of branch_ops) funct3 ∙ row) (λ p. Branch op (sym rs1 p) (sym rs2 p) (sym part p)))
         ∙ ap (λ j. Some (with_distance j k)) (sym is)
-    by_format (OfUpper op o is) = no _ is refl
-    by_format (OfJal o is) = no _ is refl
-    by_format (OfJalr o f is) = no _ is refl
-    by_format (OfLoad op o row is) = no _ is refl
-    by_format (OfStore op o row is) = no _ is refl
-    by_format (OfImm op o row is) = no _ is refl
-    by_format (OfShift op o row is) = no _ is refl
-    by_format (OfReg op o row is) = no _ is refl
-    by_format (OfFence o f is) = no _ is refl
-    by_format (OfEcall w is) = no _ is refl
-    by_format (OfEbreak w is) = no _ is refl
-    by_format (OfCsrrw o f csr is) = no _ is refl
+    by_format f = no (spelled_by f).0 (spelled_by f).1 refl
 
 -- ---- the upper twenty bits with a distance in them: J
 
@@ -197,15 +172,4 @@ jal_put word result k rest part i h passes = by_format (decoded-format word i h)
     by_format (OfJal o is) =
         format-decoded result (Jal (rd_of word) k) (OfJal (opcode_stays word result rest ∙ o) (λ p. Jal (sym (rd_stays word result rest) p) (sym part p)))
         ∙ ap (λ j. Some (with_distance j k)) (sym is)
-    by_format (OfUpper op o is) = no _ is refl
-    by_format (OfJalr o f is) = no _ is refl
-    by_format (OfBranch op o row is) = no _ is refl
-    by_format (OfLoad op o row is) = no _ is refl
-    by_format (OfStore op o row is) = no _ is refl
-    by_format (OfImm op o row is) = no _ is refl
-    by_format (OfShift op o row is) = no _ is refl
-    by_format (OfReg op o row is) = no _ is refl
-    by_format (OfFence o f is) = no _ is refl
-    by_format (OfEcall w is) = no _ is refl
-    by_format (OfEbreak w is) = no _ is refl
-    by_format (OfCsrrw o f csr is) = no _ is refl
+    by_format f = no (spelled_by f).0 (spelled_by f).1 refl

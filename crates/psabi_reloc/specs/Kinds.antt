@@ -35,7 +35,7 @@ abbrev pub padding_length : ℤ → ℕ
 padding_length (pos n) = n
 padding_length (negsuc n) = 0
 
--- how many bytes a relocation of a kind changes; one that isn't known changes none
+-- the number of bytes that a relocation of a kind changes; a kind that isn't known changes none
 abbrev pub field_length : Option RelocKind → ℤ → ℕ
 field_length None addend = 0
 field_length (Some Ignored) addend = 0

@@ -3,7 +3,7 @@ use Rattle.std.specs.Prelude.{ℕ, ℤ}
 use Rattle.rv_decode.specs.declared.instr.Instr.{Instr}
 use Rattle.rv_decode.specs.declared.instr.Instr.TheVariants.{Upper, Jal, Jalr, Branch, Load, Store, WithImm, WithReg, Fence, Ecall, Ebreak, Csrrw}
 
--- with these upper 20 bits
+-- an instruction with these upper 20 bits
 abbrev pub with_upper : Instr → ℕ → Instr
 with_upper (Upper op rd imm) k = Upper op rd k
 with_upper (Jal rd distance) k = Jal rd distance
@@ -18,7 +18,7 @@ with_upper Ecall k = Ecall
 with_upper Ebreak k = Ebreak
 with_upper (Csrrw rd source) k = Csrrw rd source
 
--- with this number to add to the base of a sum
+-- an instruction with this immediate to add to its base register
 abbrev pub with_imm : Instr → ℤ → Instr
 with_imm (Upper op rd imm) k = Upper op rd imm
 with_imm (Jal rd distance) k = Jal rd distance
@@ -33,7 +33,7 @@ with_imm Ecall k = Ecall
 with_imm Ebreak k = Ebreak
 with_imm (Csrrw rd source) k = Csrrw rd source
 
--- with this distance to go
+-- an instruction with this distance to its target
 abbrev pub with_distance : Instr → ℤ → Instr
 with_distance (Upper op rd imm) k = Upper op rd imm
 with_distance (Jal rd distance) k = Jal rd k

@@ -1,7 +1,7 @@
 -- How far branches and jumps reach (RISC-V unprivileged manual, "Control Transfer Instructions", of RV32I and of the C extension).
 use Rattle.std.specs.Prelude.{ℕ, ℤ, pos, negsuc, ◌-◌, ◌%◌, ◌^◌, Bool, ◌==◌, ◌&&◌, nat_lt}
 
--- an even number of so many bits of two's complement
+-- an even number that fits in `bits` bits of two's complement
 abbrev pub is_even_of : ℕ → ℤ → Bool
 is_even_of bits (pos n) = nat_lt n (2 ^ (bits - 1)) && (n % 2 == 0)
 is_even_of bits (negsuc n) = nat_lt n (2 ^ (bits - 1)) && (n % 2 == 1)

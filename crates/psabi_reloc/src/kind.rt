@@ -63,7 +63,7 @@ impl RelocKind {
 }
 
 impl RelocKind {
-    /// How many bytes a relocation of this kind changes, with its addend.
+    /// The number of bytes that a relocation of this kind changes, with its addend.
     pub fn field_length(self, addend: i32) -> u32
         ensures { result ≡ field_length (Some self) addend }
     {

@@ -3,14 +3,14 @@
 ghost use Rattle.std.specs.Prelude.{◌≡◌};
 ghost use Rattle.psabi_reloc.specs.Reaches.{branch_reach, jal_reach, short_branch_reach, short_jump_reach};
 
-/// Whether a conditional branch reaches so far.
+/// Whether a conditional branch reaches a distance.
 pub fn branch_reaches(distance: i32) -> bool
     ensures { result ≡ branch_reach distance }
 {
     -4096 <= distance && distance < 4096 && distance % 2 == 0
 }
 
-/// Whether `jal` reaches so far.
+/// Whether `jal` reaches a distance.
 pub fn jal_reaches(distance: i32) -> bool
     ensures { result ≡ jal_reach distance }
 {

@@ -117,7 +117,7 @@ module _ {inputs : Inputs} {sections : SectionRows} {symbols : Symbols} {definit
     abbrev listed : IndexedSymbol
     listed = record { object = o; index = n + 1; symbol = found.symbol }
 
-    -- it stands among all symbols
+    -- the symbol is among all symbols
     all_is : (d : IndexedSymbol) → (k < length (all_symbols (parsed inputs).objects)) × (get_or (all_symbols (parsed inputs).objects) k d ≡ listed)
     all_is d =
         let there = symbol_there (parsed inputs).objects o n found.object found.symbol d found.at found.is in
@@ -133,7 +133,7 @@ module _ {inputs : Inputs} {sections : SectionRows} {symbols : Symbols} {definit
         ∙ get_or-map (symbol_row gathered.defined.named.names) (all_symbols (parsed inputs).objects) k listed d (all_is listed).0
         ∙ ap (symbol_row gathered.defined.named.names) (all_is listed).1
 
-    -- its name has a number, and a meaning, if it goes by it
+    -- the symbol's name has a number, and a meaning, if the symbol goes by it
     pub number_inside : goes_by_name found.symbol ≡ true → symbol_number gathered.defined.named.names found.symbol < length definitions.meanings.items
     number_inside goes =
         let names = gathered.defined.named.names in
@@ -148,7 +148,7 @@ module _ {inputs : Inputs} {sections : SectionRows} {symbols : Symbols} {definit
         ∙ gathered.defined.named.meant k listed (all_is listed).0 (ap (λ m. goes_by_name m.symbol) (all_is listed).1 ∙ goes)
         ∙ ap (λ m. meaning_row gathered.defined.named.names (name_definition (parsed inputs) m.symbol.name)) (all_is listed).1
 
--- a symbol after symbol 0, by what stands there
+-- a symbol after symbol 0, by its entry
 pub resolved_at : {here there : Inputs} (o s : ℕ) (addend : ℤ) (symbol : Option SymbolParts) → here ≡ there → 0 < s → symbol_at (parsed here).objects o s ≡ symbol
     → resolved (parsed there) o s addend ≡ option_map_or (λ x. symbol_target (parsed here) o x addend) symbol Nowhere
 unfolding resolved
@@ -160,12 +160,12 @@ resolved_at {here} o (suc s) addend symbol same past is =
 abbrev pub section_target : ParsedInputs → ℕ → ℕ → ℕ → ℤ → SectionParts → Target
 section_target inputs o i value addend section = role_target inputs o i value addend section (role_of section)
 
--- a symbol with a home by its home and value alone
+-- where a symbol that is defined in a section leads, by its section index and value alone
 abbrev pub home_value_target : ParsedInputs → ℕ → ℕ → ℕ → ℤ → Target
 home_value_target inputs o home value addend =
     cond (eqb home 0xFFF1) (number_target value addend) (option_map_or (section_target inputs o home value addend) (section_at inputs.objects o home) Nowhere)
 
--- so any symbol with these leads there
+-- any symbol with this section index and value leads there
 pub home_target_of : {here there : Inputs} {target : Target} (o home value : ℕ) (addend : ℤ) → here ≡ there → target ≡ home_value_target (parsed here) o home value addend
     → (s : SymbolParts) → s.home ≡ home → s.value ≡ value → target ≡ home_target (parsed there) o s addend
 home_target_of o home value addend same is s home_is value_is = is ∙ (λ j. home_value_target (parsed (same j)) o (sym home_is j) (sym value_is j) addend)

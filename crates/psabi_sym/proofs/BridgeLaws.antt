@@ -8,10 +8,10 @@ use Rattle.elf32_read.specs.Parts.{ObjectParts, SymbolParts}
 use Rattle.psabi_sym.specs.declared.data_class.DataClass.{DataClass}
 use Rattle.psabi_sym.specs.declared.symbol_row.SymbolRow.{SymbolRow}
 use Rattle.psabi_sym.specs.Blocks.{aligned_up, end_from, placed_from}
-use Rattle.psabi_sym.specs.Data.{blocks_in, common_block, commons_placed, has_class, is_of_class, section_block}
+use Rattle.psabi_sym.specs.Data.{blocks_in, common_block, commons_placed, has_class, role_of}
 use Rattle.psabi_sym.specs.Faults.{is_second, same_symbol}
 use Rattle.psabi_sym.specs.Indexed.{IndexedSection, IndexedSymbol, all_symbols}
-use Rattle.psabi_sym.specs.Names.{commons_of, first_definition, firsts, goes_by_name, is_common, is_definition, same_name, strong_definition}
+use Rattle.psabi_sym.specs.Names.{first_definition, firsts, goes_by_name, is_common, is_definition, same_name, strong_definition}
 use Rattle.psabi_sym.specs.Invariants.Numbered.{HaveNumbers}
 use Rattle.psabi_sym.specs.Invariants.Rows.{first_row, first_rows, name_number, placed_rows, row_address_of, row_is_second, row_block, row_blocks, row_common_block, row_defines, row_is_common, row_room, row_takes_room, section_row, symbol_number, symbol_row}
 use Rattle.psabi_sym.proofs.NumberLaws.{common_goes, definition_goes, number_same, same_is, symbol_number_is}
@@ -46,12 +46,13 @@ map-same f g (x ∷ xs) same = λ j. All-head (λ y. f y ≡ g y) x xs same j �
 
 pub row_blocks_are : (class : DataClass) (sections : List IndexedSection) → row_blocks class (map section_row sections) ≡ blocks_in class sections
 row_blocks_are class [] = refl
-row_blocks_are class (s ∷ ss) = by (is_of_class class s) (row_blocks_are class ss)
+row_blocks_are class (s ∷ ss) = by (has_class class (role_of s.section)) (row_blocks_are class ss)
   where
     by : (b : Bool) → row_blocks class (map section_row ss) ≡ blocks_in class ss
         → map row_block (cond b (section_row s ∷ filter (λ r. has_class class r.role) (map section_row ss)) (filter (λ r. has_class class r.role) (map section_row ss)))
-        ≡ map section_block (cond b (s ∷ filter (is_of_class class) ss) (filter (is_of_class class) ss))
-    by true rest = ap (λ t. section_block s ∷ t) rest
+        ≡ map (λ l. record { align = l.section.align; size = l.section.size })
+        (cond b (s ∷ filter (λ l. has_class class (role_of l.section)) ss) (filter (λ l. has_class class (role_of l.section)) ss))
+    by true rest = ap (λ t. row_block (section_row s) ∷ t) rest
     by false rest = rest
 
 -- ---- symbols
@@ -91,13 +92,14 @@ module _ (names : List (List ℕ)) (objects : List ObjectParts) (numbered : Have
       → row_common_block (map (symbol_row names) (all_symbols objects)) (name_number names m.symbol.name) ≡ common_block objects m
   common_block_is m there =
       let name = m.symbol.name in
+      let commons = filter (λ l. is_common l.symbol && same_name l.symbol.name name) (all_symbols objects) in
       let same = filter-map (symbol_row names) (λ r. row_is_common r && eqb r.name (name_number names name)) (λ l. is_common l.symbol && same_name l.symbol.name name) (all_symbols objects)
       (λ k d within.
       let l = get_or (all_symbols objects) k d in
       named_and names (is_common l.symbol) name l (common_goes l.symbol) there) in
       λ j. record {
-        align = (ap (λ rs. fold max 0 (map (λ r. max 1 r.value) rs)) same ∙ ap (fold max 0) (map-map (λ r. max 1 r.value) (symbol_row names) (commons_of objects name))) j;
-        size = (ap (λ rs. fold max 0 (map (λ r. r.size) rs)) same ∙ ap (fold max 0) (map-map (λ r. r.size) (symbol_row names) (commons_of objects name))) j;
+        align = (ap (λ rs. fold max 0 (map (λ r. max 1 r.value) rs)) same ∙ ap (fold max 0) (map-map (λ r. max 1 r.value) (symbol_row names) commons)) j;
+        size = (ap (λ rs. fold max 0 (map (λ r. r.size) rs)) same ∙ ap (fold max 0) (map-map (λ r. r.size) (symbol_row names) commons)) j;
       }
 
   is_none-map : (o : Option IndexedSymbol) → is_none (option_map (symbol_row names) o) ≡ is_none o

@@ -287,7 +287,7 @@ module _ (rows : List SymbolRow) (start i : ℕ) (d : SymbolRow) (within : i < l
   next : is_next rows (take i rows) start (get_or rows i d) ≡ true → placed_rows rows (take (i + 1) rows) ≡ placed_rows rows (take i rows) ++ get_or rows i d ∷ []
   next is = placed_more rows rows (row_room rows) start i d within ∙ ap (λ b. placed_rows rows (take i rows) ++ cond b (get_or rows i d ∷ []) []) is
 
-  -- one that isn't changes nothing
+  -- a row that isn't common, or isn't the first of its name, changes nothing
   pub stays : is_next rows (take i rows) start (get_or rows i d) ≡ false → placed_rows rows (take (i + 1) rows) ≡ placed_rows rows (take i rows)
   stays is =
       placed_more rows rows (row_room rows) start i d within ∙ ap (λ b. placed_rows rows (take i rows) ++ cond b (get_or rows i d ∷ []) []) is
@@ -302,7 +302,7 @@ module _ (rows : List SymbolRow) (start i : ℕ) (d : SymbolRow) (within : i < l
       ∙ ap (end_from start) (map_push (row_room rows) (placed_rows rows (take i rows)) (get_or rows i d))
       ∙ end_from_push start (map (row_room rows) (placed_rows rows (take i rows))) (row_room rows (get_or rows i d))
 
-  -- and that it fits
+  -- the block of the next common name fits
   pub next_fits : is_next rows (take i rows) start (get_or rows i d) ≡ true
       → end_from start (map (row_room rows) (placed_rows rows (take i rows))) + room_of (row_room rows (get_or rows i d)) ≤ start + sum_by row_common_room rows
   next_fits is =

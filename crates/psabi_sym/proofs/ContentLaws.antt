@@ -14,12 +14,12 @@ use Rattle.psabi_sym.specs.declared.symbols.Symbols.{Symbols}
 use Rattle.psabi_sym.specs.Blocks.{aligned_up, end_from}
 use Rattle.psabi_sym.specs.Classes.{classes_before}
 use Rattle.psabi_sym.specs.Contents.{data_contents, overlaid, with_content}
-use Rattle.psabi_sym.specs.Data.{address_in, blocks_in, blocks_of, class_end, class_start, data_address, data_end, data_file_end, end_after, role_address, role_of}
+use Rattle.psabi_sym.specs.Data.{address_in, blocks_in, blocks_of, class_end, class_start, data_address, data_end, data_file_end, role_address, role_of}
 use Rattle.psabi_sym.specs.Invariants.Gathered.{IsGathered}
 use Rattle.psabi_sym.specs.Inputs.{Inputs, ParsedInputs, parsed}
 use Rattle.psabi_sym.specs.Indexed.{IndexedSection, all_sections, all_symbols, section_at, sections_before}
 use Rattle.psabi_sym.specs.Invariants.Rows.{placed_rows, row_end, row_room, section_row, symbol_row}
-use Rattle.psabi_sym.proofs.BlockLaws.{aligned_up-lt, end_from_fits}
+use Rattle.psabi_sym.proofs.BlockLaws.{aligned_up-ge, aligned_up-lt, end_from-ge, end_from_fits}
 use Rattle.psabi_sym.proofs.CommonLaws.{placed_room}
 use Rattle.psabi_sym.proofs.DefinedLaws.{class_end_common, common_start_is, rooms_fit}
 use Rattle.psabi_sym.proofs.Gathered.{all_none}
@@ -27,15 +27,12 @@ use Rattle.psabi_sym.proofs.RowLaws.{class_rooms, row_end-le}
 
 -- ---- nothing lies below the map's start of data
 
-aligned_up-ge : (align at : ℕ) → at ≤ aligned_up align at
-unfolding aligned_up
-aligned_up-ge align at = omega arith
+-- where a class that is placed from an address on ends
+abbrev pub end_after : List ObjectParts → ℕ → DataClass → ℕ
+end_after objects at class = end_from (aligned_up 16 at) (blocks_of objects class)
 
-end_from-ge : (at : ℕ) (bs : List Block) → at ≤ end_from at bs
-end_from-ge at [] = omega arith
-end_from-ge at (b ∷ bs) = omega (arith, aligned_up-ge b.align at, end_from-ge (aligned_up b.align at + b.size) bs)
-
-ends-ge : (objects : List ObjectParts) (at : ℕ) (cs : List DataClass) → at ≤ fold (end_after objects) at cs
+-- classes end no earlier than they begin
+pub ends-ge : (objects : List ObjectParts) (at : ℕ) (cs : List DataClass) → at ≤ fold (end_after objects) at cs
 ends-ge objects at [] = omega arith
 ends-ge objects at (c ∷ cs) =
     omega (arith, aligned_up-ge 16 at, end_from-ge (aligned_up 16 at) (blocks_of objects c), ends-ge objects (end_after objects at c) cs)
@@ -58,7 +55,7 @@ module _ (inputs : ParsedInputs) where
   unfolding class_end
   data_low-le = omega (arith, class_start-ge SmallData, end_from-ge (class_start inputs SmallData) (blocks_of inputs.objects SmallData))
 
-  -- and no later than all data
+  -- the data of files end no later than all data
   pub data_file_end-le : data_file_end inputs ≤ data_end inputs
   unfolding class_end class_start
   data_file_end-le =
@@ -138,7 +135,7 @@ module _ (inputs : ParsedInputs) (o i : ℕ) (s : SectionParts) (at : section_at
   unfolding data_address
   found = ap (option_and_then (λ (t : SectionParts). role_address inputs o i t (role_of t))) at
 
-  -- one that is data has an address, and no other has
+  -- a section of data has an address, and no other section has
   pub address_of_data : (class : DataClass) → role_of s ≡ InClass class → data_address inputs o i ≡ Some (address_in inputs o i s class)
   address_of_data class role = found ∙ ap (role_address inputs o i s) role
 
@@ -151,7 +148,7 @@ module _ (inputs : ParsedInputs) (o i : ℕ) (s : SectionParts) (at : section_at
   here : IndexedSection
   here = record { object = o; index = i; section = s }
 
-  -- its content, if it is data, and else nothing
+  -- a section that has no address adds no content
   pub content_none : (bytes : List ℕ) → data_address inputs o i ≡ None → with_content inputs bytes (record { object = o; index = i; section = s }) ≡ bytes
   content_none bytes none =
       ap (λ a. cond (eqb s.kind 8) bytes (option_map_or (λ at. overlaid (at - inputs.map.data_low) s.bytes bytes) a bytes)) none

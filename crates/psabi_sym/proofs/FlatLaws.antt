@@ -20,7 +20,7 @@ enumerate_take n (suc k) [] = refl
 enumerate_take n (suc k) (x ∷ xs) = ap (λ l. (n, x) ∷ l) (enumerate_take (n + 1) k xs)
 
 module _ {X : Type 0} (f : ℕ × ObjectParts → List X) where
-  -- one more object
+  -- one object more
   pub flat_push : (objects : List ObjectParts) (object : ObjectParts)
       → flat_map f (enumerate_from 0 (objects ++ object ∷ [])) ≡ flat_map f (enumerate_from 0 objects) ++ f (length objects, object)
   flat_push objects object =
@@ -44,7 +44,7 @@ module _ {X : Type 0} (f : ℕ × ObjectParts → List X) where
       added : 0 + o ≡ o
       added = omega arith
 
-  -- and what stands before it
+  -- an element of an object, and those before it
   pub flat_before : (objects : List ObjectParts) (o j : ℕ) (object : ObjectParts) → slice_get objects o ≡ Some object → j ≤ length (f (o, object))
       → take (length (flat_map f (enumerate_from 0 (take o objects))) + j) (flat_map f (enumerate_from 0 objects))
       ≡ flat_map f (enumerate_from 0 (take o objects)) ++ take j (f (o, object))
@@ -89,7 +89,7 @@ pub symbols_push : (objects : List ObjectParts) (object : ObjectParts) → all_s
 unfolding all_symbols
 symbols_push objects object = flat_push symbols_in objects object
 
--- one more object of those that were read
+-- one object more of those that were read
 pub parsed_more : {F : Type 0} (read : F → ObjectParts) (files : List F) (i : ℕ) (file : F) → i < length files → file ≡ get_or files i file
     → take (i + 1) (map read files) ≡ take i (map read files) ++ read file ∷ []
 parsed_more read files i file within is =

@@ -73,7 +73,7 @@ module _ (objects : List ObjectParts) (starts : List ℕ) (o i : ℕ) where
       same_number : {a b : ℕ} → Some a ≡ Some b → a ≡ b
       same_number h = cc
 
-  -- the same of symbols, whose places begin at symbol 1
+  -- where no place is found there is no symbol; the places of an object's symbols begin with that of symbol 1
   pub symbol_none : starts ≡ map (symbol_starts objects) (range_with_len 0 (length objects + 1)) → place_in starts o i ≡ None → symbol_at objects o (i + 1) ≡ None
   symbol_none begin none =
       elim (place_cases symbols_in objects starts o i (begin ∙ ap (λ f. map f (range_with_len 0 (length objects + 1))) (symbol_starts_are objects))) [

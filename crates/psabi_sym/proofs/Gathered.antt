@@ -7,7 +7,7 @@ use Rattle.elf32_read.specs.declared.fault.Fault.{Fault}
 use Rattle.elf32_read.specs.declared.fault.Fault.TheVariants.{TooLarge}
 use Rattle.elf32_read.specs.Object.{object_fault}
 use Rattle.psabi_sym.specs.Inputs.{Inputs, parsed}
-use Rattle.psabi_sym.specs.Faults.{count_fault, duplicate_fault, fault_from, first_some, gather_fault, most_objects, sum_fault, undefined_fault}
+use Rattle.psabi_sym.specs.Faults.{count_fault, fault_from, first_some, gather_fault, most_objects, name_fault, sum_fault}
 use Rattle.psabi_sym.proofs.FaultLaws.{neither}
 
 -- if neither this object nor a later one has a fault, this one has none, and no later one has
@@ -29,7 +29,7 @@ pub record IsFaultless (inputs : Inputs) : Type 0 where
   pub few : length inputs.files ≤ 256
   pub readable : fault_from 0 inputs.files ≡ None
   pub sums : sum_fault inputs.files ≡ None
-  pub names : first_some (duplicate_fault (parsed inputs).objects ∷ undefined_fault (parsed inputs) ∷ []) ≡ None
+  pub names : name_fault (parsed inputs) ≡ None
 
 -- few files have no fault of their number
 few_files : (files : List (List ℕ)) → count_fault files ≡ None → length files ≤ 256
@@ -42,11 +42,11 @@ few_files files = by (ltb most_objects (length files)) refl
 pub all_none : (inputs : Inputs) → gather_fault inputs ≡ None → IsFaultless inputs
 unfolding gather_fault
 all_none inputs none =
-    let names = first_some (duplicate_fault (parsed inputs).objects ∷ undefined_fault (parsed inputs) ∷ []) in
+    let names = first_some (name_fault (parsed inputs) ∷ []) in
     let count = neither (count_fault inputs.files) (option_or (fault_from 0 inputs.files) (option_or (sum_fault inputs.files) names)) none in
     let read = neither (fault_from 0 inputs.files) (option_or (sum_fault inputs.files) names) count.1 in
     let sums = neither (sum_fault inputs.files) names read.1 in
-    record { few = few_files inputs.files count.0; readable = read.0; sums = sums.0; names = sums.1 }
+    record { few = few_files inputs.files count.0; readable = read.0; sums = sums.0; names = (neither (name_fault (parsed inputs)) None sums.1).0 }
 
 pub few_gathered : (inputs : Inputs) → gather_fault inputs ≡ None → length inputs.files ≤ 256
 few_gathered inputs none = (all_none inputs none).few
@@ -54,24 +54,16 @@ few_gathered inputs none = (all_none inputs none).few
 pub readable : (inputs : Inputs) (i : ℕ) (file : List ℕ) → gather_fault inputs ≡ None → slice_get inputs.files i ≡ Some file → object_fault file ≡ None
 readable inputs i file none is = readable_from 0 inputs.files i file (all_none inputs none).readable is
 
--- too many come first
+-- with too many objects that is the fault
 pub too_many : (inputs : Inputs) → most_objects < length inputs.files → gather_fault inputs ≡ Some (most_objects, TooLarge)
 unfolding gather_fault
 too_many inputs many =
-    let rest = option_or (fault_from 0 inputs.files) (option_or (sum_fault inputs.files) (first_some (duplicate_fault (parsed inputs).objects ∷ undefined_fault (parsed inputs) ∷ []))) in
+    let rest = option_or (fault_from 0 inputs.files) (option_or (sum_fault inputs.files) (first_some (name_fault (parsed inputs) ∷ []))) in
     ap (λ b. option_or (cond b (Some (most_objects, TooLarge)) None) rest) (lt-ltb most_objects (length inputs.files) many)
 
--- then what can't be read
+-- with few objects the first fault is that of one that can't be read
 pub unreadable : (inputs : Inputs) (index : ℕ) (fault : Fault) → length inputs.files ≤ 256 → fault_from 0 inputs.files ≡ Some (index, fault) → gather_fault inputs ≡ Some (index, fault)
 unfolding gather_fault
 unreadable inputs index fault few is =
-    let rest = option_or (sum_fault inputs.files) (first_some (duplicate_fault (parsed inputs).objects ∷ undefined_fault (parsed inputs) ∷ [])) in
+    let rest = option_or (sum_fault inputs.files) (first_some (name_fault (parsed inputs) ∷ [])) in
     (λ j. option_or (cond (le-ltb most_objects (length inputs.files) few j) (Some (most_objects, TooLarge)) None) (option_or (is j) rest))
-
--- and names last
-pub only_names : (inputs : Inputs) → length inputs.files ≤ 256 → fault_from 0 inputs.files ≡ None → sum_fault inputs.files ≡ None
-    → gather_fault inputs ≡ first_some (duplicate_fault (parsed inputs).objects ∷ undefined_fault (parsed inputs) ∷ [])
-unfolding gather_fault
-only_names inputs few readable sums =
-    (λ j. option_or (cond (le-ltb most_objects (length inputs.files) few j) (Some (most_objects, TooLarge)) None)
-    (option_or (readable j) (option_or (sums j) (first_some (duplicate_fault (parsed inputs).objects ∷ undefined_fault (parsed inputs) ∷ [])))))

@@ -40,7 +40,7 @@ module _ (blocks : ℕ) (tails : List (List ℕ)) (are : AreTails tails) where
       let rest : k.rest ≡ l.rest = sym (are.numbered k.rest is.rest) ∙ ap (name_number tails) parts.1 ∙ are.numbered l.rest js.rest in
       and_from _ _ ((bytes_eq-Decides k.part.now l.part.now).1 parts.0) (eq-eqb k.rest l.rest rest)
 
-  -- and keys that are one have one text
+  -- keys that are the same have one text
   one_text : (k l : Key) (s t : List ℕ) → IsKey blocks tails k s → IsKey blocks tails l t → same_key k l ≡ true → s ≡ t
   one_text k l s t is js same =
       let parts = and_parts _ _ same in
@@ -56,7 +56,7 @@ module _ (blocks : ℕ) (tails : List (List ℕ)) (are : AreTails tails) where
       by (inr e) (inl f) = absurd (cc (e, one_key k l s t is js (same_is s t f)))
       by (inr e) (inr f) = e ∙ sym f
 
-  -- as many keys as texts
+  -- there are as many keys as texts
   pub keys-length : (keys : List Key) (texts : List (List ℕ)) → AreKeys blocks tails keys texts → length keys ≡ length texts
   keys-length [] [] all = refl
   keys-length [] (s ∷ texts) all = absurd all

@@ -10,7 +10,7 @@ use Rattle.elf32_read.specs.declared.fault.Fault.TheVariants.{Alignment, BadName
 use Rattle.elf32_read.specs.Fault.{fault_symbol}
 use Rattle.elf32_read.specs.Object.{has_bad_alignment, has_bad_name, has_bad_symbol, has_cut_code, has_other_flags, has_too_many_sections, has_unlinked_sections, is_too_long, not_elf, object_fault, truncated}
 use Rattle.elf32_read.specs.Rows.{first_of}
-use Rattle.psabi_sym.specs.Faults.{are_too_large, duplicate_fault, fault_from, first_some, gather_fault, most_objects, sum_fault, sums_of, undefined_fault}
+use Rattle.psabi_sym.specs.Faults.{are_too_large, fault_from, first_some, gather_fault, most_objects, name_fault, sum_fault, sums_of}
 use Rattle.psabi_sym.specs.Inputs.{Inputs, parsed}
 
 -- ---- the first fault of reading
@@ -19,7 +19,7 @@ first_of_three : {A : Type 0} (a b c : Option A) → option_or a (option_or b c)
 first_of_three None b c = refl
 first_of_three (Some x) b c = refl
 
--- it stands in the first files, or else in the others
+-- the fault is that of the first files, or else that of the others
 pub fault_from_append : (i : ℕ) (first others : List (List ℕ)) → fault_from i (first ++ others) ≡ option_or (fault_from i first) (fault_from (i + length first) others)
 fault_from_append i [] others = let same : i ≡ i + 0 = omega arith in ap (λ n. fault_from n others) same
 fault_from_append i (file ∷ first) others =
@@ -125,5 +125,5 @@ long_files (file ∷ files) long none =
 pub sums_third : (inputs : Inputs) (index : ℕ) (fault : Fault) → length inputs.files ≤ 256 → fault_from 0 inputs.files ≡ None → sum_fault inputs.files ≡ Some (index, fault) → gather_fault inputs ≡ Some (index, fault)
 unfolding gather_fault
 sums_third inputs index fault few readable is =
-    let names = first_some (duplicate_fault (parsed inputs).objects ∷ undefined_fault (parsed inputs) ∷ []) in
+    let names = first_some (name_fault (parsed inputs) ∷ []) in
     (λ j. option_or (cond (le-ltb most_objects (length inputs.files) few j) (Some (most_objects, TooLarge)) None) (option_or (readable j) (option_or (is j) names)))

@@ -24,7 +24,7 @@ name_stops table k z before zero = by (cases_lt (z - k) (prefix_len (λ byte. no
         let passes : not (eqb (get_or (drop k table) (z - k) 0) 0) ≡ true = prefix_len_passes (λ byte. not (byte == 0)) (drop k table) (z - k) 0 more in
         absurd (cc (here, passes))
 
--- so many bytes without a zero
+-- a prefix of n bytes without a zero
 pub prefix_long : (bytes : List ℕ) (n : ℕ) → n ≤ length bytes → ((k : ℕ) → k < n → not (eqb (get_or bytes k 0) 0) ≡ true) → n ≤ prefix_len (λ byte. not (byte == 0)) bytes
 prefix_long bytes n within passes = by (cases_lt (prefix_len (λ byte. not (byte == 0)) bytes) n)
   where

@@ -52,7 +52,7 @@ number_kept names name other there = by (list_any (same_name name) names)
         ∙ ap (λ b. cond b (length names + cond (same_name other name) 0 1) (name_number names other))
         (ne_eqb (name_number names other) (length names) (λ same. absurd (omega (arith, there, same))))
 
--- how many there are with one more
+-- the number of names, with one name more
 pub length-with_name : (names : List (List ℕ)) (name : List ℕ) → (length names ≤ length (with_name names name)) × (length (with_name names name) ≤ length names + 1)
 length-with_name names name = by (list_any (same_name name) names)
   where
@@ -91,7 +91,7 @@ number_same (x ∷ xs) first name there = by (same_name first x) (same_name name
 
 -- ---- symbols that go by their names
 
--- one that isn't local does, common or not
+-- a symbol that isn't local goes by its name, common or not
 bound_any : (common : Bool) (bind : ℕ) → eqb bind 0 ≡ false → (common || not (eqb bind 0)) ≡ true
 bound_any common bind bound = ap (λ b. common || not b) bound ∙ or_true common
   where
@@ -99,13 +99,13 @@ bound_any common bind bound = ap (λ b. common || not b) bound ∙ or_true commo
     or_true true = refl
     or_true false = refl
 
--- so a definition with another binding than local
+-- a definition with another binding than local goes by its name
 defined_any : (common : Bool) (own bind home : ℕ) → eqb bind 0 ≡ false → (eqb own bind && not (eqb home 0) && not common) ≡ true → (common || not (eqb own 0)) ≡ true
 defined_any common own bind home other is =
     let same : eqb own bind ≡ true = (and_parts (eqb own bind) (not (eqb home 0)) (and_parts (eqb own bind && not (eqb home 0)) (not common) is).0).0 in
     bound_any common own (ap (λ n. eqb n 0) (eqb-true own bind same) ∙ other)
 
--- the same of symbols, and of their rows
+-- a common symbol goes by its name; so does its row
 pub common_goes : (s : SymbolParts) → is_common s ≡ true → goes_by_name s ≡ true
 common_goes s common = ap (λ b. b || not (eqb s.bind 0)) common
 

@@ -16,7 +16,7 @@ pub record Grow (names grown : List (List ℕ)) : Type 0 where
   pub longer : length names ≤ length grown
   pub few : length grown ≤ length names + 1
 
--- they do with the name of one more symbol
+-- names only grow with one symbol more
 pub grow_by : (names : List (List ℕ)) (s : SymbolParts) → Grow names (with_symbol names s)
 grow_by names s = by (goes_by_name s)
   where
@@ -44,7 +44,7 @@ module _ (names grown : List (List ℕ)) (grow : Grow names grown) where
       let rest = rows_kept ls (All-tail P l ls all) in
       λ j. row_kept l (All-head P l ls all) j ∷ rest j
 
-  -- one more symbol, with its name if it goes by it
+  -- one symbol more, with its name if it goes by it
   pub numbered_more : (listed : List IndexedSymbol) (rows : List SymbolRow) (l : IndexedSymbol) → IsNumbered names listed rows
       → (goes_by_name l.symbol ≡ true → name_number grown l.symbol.name < length grown) → IsNumbered grown (listed ++ l ∷ []) (rows ++ symbol_row grown l ∷ [])
   numbered_more listed rows l before named =
@@ -60,7 +60,7 @@ module _ (names grown : List (List ℕ)) (grow : Grow names grown) where
         few = omega (arith, grow.few, before.few, length-append listed (l ∷ []));
       }
 
--- the same of what is equal
+-- numbered rows, with equal names, symbols and rows
 pub numbered_as : {names names' : List (List ℕ)} {listed listed' : List IndexedSymbol} {rows rows' : List SymbolRow}
     → names ≡ names' → listed ≡ listed' → rows ≡ rows' → IsNumbered names listed rows → IsNumbered names' listed' rows'
 numbered_as {names} {names'} {listed} {listed'} {rows} {rows'} n l r h =

@@ -131,7 +131,7 @@ module _ (objects : List ObjectParts) (o i : ℕ) (object : ObjectParts) (s : Se
   listed : i < length (sections_in (o, object))
   listed = omega (arith, inside, length-sections_in o object)
 
-  -- its place is among all sections
+  -- the section's place is among all sections
   pub place_listed : section_starts objects o + i < length (all_sections objects)
   unfolding all_sections
   place_listed = begins_within sections_in objects o i object at listed
@@ -170,7 +170,7 @@ module _ (inputs : ParsedInputs) where
   row_start_is Common other = absurd cc
 
   module _ (o i : ℕ) (object : ObjectParts) (s : SectionParts) (at : slice_get inputs.objects o ≡ Some object) (is : slice_get object.sections i ≡ Some s) where
-    -- its place is among the rows
+    -- the section's place is among the rows
     pub place_within : section_starts inputs.objects o + i < length (map section_row (all_sections inputs.objects))
     place_within = omega (arith, length-map (all_sections inputs.objects) section_row, place_listed inputs.objects o i object s at is)
 

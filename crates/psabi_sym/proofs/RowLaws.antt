@@ -36,7 +36,7 @@ rooms_are class (r ∷ rows) = by (rooms_are class rows) (has_class class r.role
         ∙ rest
         ∙ (omega (arith, ap (λ b. cond b (room_of (row_block r)) 0) is, sum_by-cons (class_room class) r rows))
 
--- one more row
+-- one row more
 pub row_blocks_more : (class : DataClass) (rows : List SectionRow) (k : ℕ) (d : SectionRow) → k < length rows
     → row_blocks class (take (k + 1) rows) ≡ row_blocks class (take k rows) ++ cond (has_class class (get_or rows k d).role) (row_block (get_or rows k d) ∷ []) []
 row_blocks_more class rows k d within =

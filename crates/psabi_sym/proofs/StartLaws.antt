@@ -38,7 +38,7 @@ first_seen names name k le before here =
     let long = length-map names (λ (n : Bor (List ℕ)). n.now) in
     position_or_len_is (same_name name) (map (λ n. n.now) names) k [] (omega (arith, le, long)) before (λ lt. here (omega (arith, lt, long)))
 
--- it is no name of the linker's
+-- `_start` is no name of the linker's
 no_linker_number : (inputs : ParsedInputs) → linker_number (linker_numbers inputs) start_name ≡ None
 unfolding linker_number
 no_linker_number inputs = refl

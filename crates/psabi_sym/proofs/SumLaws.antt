@@ -4,7 +4,7 @@ use Rattle.std.specs.List.{flat_map, sum_by}
 use Rattle.std.proofs.lemmas.List.Sums.{sum_by-append, sum_by-cons, sum_by_more}
 use Rattle.std.proofs.lemmas.Option.{get_or_from_slice_get, slice_get_within}
 
--- one more element
+-- a sum with one element more
 pub sum_next : {X : Type 0} (f : X → ℕ) (xs : List X) (k : ℕ) (x : X) → slice_get xs k ≡ Some x → sum_by f (take (k + 1) xs) ≡ sum_by f (take k xs) + f x
 sum_next f xs k x at =
     sum_by_more f xs k x (slice_get_within xs k x at) ∙ ap (λ y. sum_by f (take k xs) + f y) (get_or_from_slice_get xs k x x at)

@@ -18,7 +18,7 @@ use Rattle.psabi_sym.specs.Invariants.Rows.{common_rows, first_of_both, first_ro
 pub table_start : {X : Type 0} (f : ℕ → X) (n : ℕ) (x : X) → ((k : ℕ) → f k ≡ x) → replicate n x ≡ map f (range_with_len 0 n)
 table_start f n x same = fill_by_all f (replicate n x) n x (length-replicate n x) (λ k within. get_or-replicate n k x x within ∙ sym (same k))
 
--- how many entries a table has
+-- the number of entries of a table
 pub table_count : {X : Type 0} (f : ℕ → X) {table : List X} {n : ℕ} → table ≡ map f (range_with_len 0 n) → length table ≡ n
 table_count f {n = n} is = ap length is ∙ length-map-range_with_len f 0 n
 
@@ -69,7 +69,7 @@ first_row_step bind rows i d n e within named =
     let other : (row_defines bind r && eqb r.name k) ≡ false = and_right (row_defines bind r) (eqb r.name k) (ne_eqb r.name k (λ q. ne (sym q))) in
     sym (first_row_more bind rows i d k within ∙ ap (λ b. option_or (f k) (cond b (Some r) None)) other ∙ or_none (f k)))
 
--- one that isn't a definition with the binding changes nothing
+-- a row that isn't a definition with the binding changes nothing
 pub first_row_same : (bind : ℕ) (rows : List SymbolRow) (i : ℕ) (d : SymbolRow) (n : ℕ) → i < length rows → row_defines bind (get_or rows i d) ≡ false
     → map (first_row bind (take i rows)) (range_with_len 0 n) ≡ map (first_row bind (take (i + 1) rows)) (range_with_len 0 n)
 first_row_same bind rows i d n within other =
@@ -79,7 +79,7 @@ first_row_same bind rows i d n within other =
     ∙ or_none (first_row bind (take i rows) k)) in
     λ j. map (λ k. same k j) (range_with_len 0 n)
 
--- the same two laws of a table of meanings
+-- the two laws for a table of meanings
 pub weak_step : (rows : List SymbolRow) (i : ℕ) (d : SymbolRow) (n : ℕ) (e : Meaning) → i < length rows → (get_or rows i d).name < n → row_defines 2 (get_or rows i d) ≡ true
     → set (map row_meaning (map (first_row 2 (take i rows)) (range_with_len 0 n))) (get_or rows i d).name
     (first_found (get_or (map row_meaning (map (first_row 2 (take i rows)) (range_with_len 0 n))) (get_or rows i d).name e) (get_or rows i d))
@@ -151,7 +151,7 @@ common_block_step rows i d n e within named =
         ∙ sym (ap block_of (append-nil (common_rows (take i rows) r.name)))
         ∙ ap (λ t. block_of (common_rows (take i rows) r.name ++ cond t (r ∷ []) [])) (sym is)
 
--- one that isn't common changes nothing
+-- a row that isn't common changes nothing
 pub common_block_same : (rows : List SymbolRow) (i : ℕ) (d : SymbolRow) (n : ℕ) → i < length rows → row_is_common (get_or rows i d) ≡ false
     → map (row_common_block (take i rows)) (range_with_len 0 n) ≡ map (row_common_block (take (i + 1) rows)) (range_with_len 0 n)
 common_block_same rows i d n within other =

@@ -20,7 +20,7 @@ use Rattle.psabi_sym.proofs.NumberLaws.{number_added, number_kept, same_is}
 
 -- ---- numbers
 
--- what has a number stands there
+-- the name with a number is at that number
 pub number_get : (names : List (List ℕ)) (t d : List ℕ) → name_number names t < length names → get_or names (name_number names t) d ≡ t
 number_get [] t d within = absurd (omega arith)
 number_get (x ∷ xs) t d within = by (same_name t x) refl (number_get xs t d)
@@ -118,7 +118,7 @@ name_prefix table at =
 pub name_slice : (table : List ℕ) (at n : ℕ) → n ≡ length (name_at table at) → take (at + n - at) (drop at table) ≡ name_at table at
 name_slice table at n long = let count : at + n - at ≡ length (name_at table at) = omega (arith, long) in ap (λ k. take k (drop at table)) count ∙ sym (name_prefix table at)
 
--- and lie in the table
+-- the name lies in the table
 pub name_within : (table : List ℕ) (at : ℕ) → at ≤ length table → at + length (name_at table at) ≤ length table
 name_within table at within =
     let more : ℕ → Bool = λ byte. not (byte == 0) in
@@ -208,6 +208,6 @@ end_key tails name end is key text same part rest = record {
       ∙ (λ i. sym part i ++ (ap (drop (end.length % 64)) same ∙ sym is.tail_is ∙ ap (λ n. get_or tails n []) (sym rest)) i);
 }
 
--- and lies in it
+-- the name's end lies in the table
 pub ends_within : (texts : List (Bor (List ℕ))) (table : List ℕ) (ends : List NameEnd) → AreNameEnds texts table ends → (at : ℕ) (d : NameEnd) → at < length table → at + (get_or ends at d).length ≤ length table
 ends_within texts table ends are at d inside = let within : at ≤ length table = omega (arith, inside) in omega (arith, name_within table at within, (are.each at d inside).length_is)

@@ -12,7 +12,7 @@ use Rattle.elf32_read.specs.Parts.{ObjectParts, SymbolParts}
 use Rattle.psabi_sym.specs.Faults.{is_used, is_used_in, names}
 use Rattle.psabi_sym.specs.Indexed.{symbols_in}
 
--- one more element
+-- a test of one element more
 pub any_next : {X : Type 0} (p : X → Bool) (xs : List X) (k : ℕ) (x : X) → slice_get xs k ≡ Some x → list_any p (take (k + 1) xs) ≡ (list_any p (take k xs) || p x)
 any_next p xs k x at =
     list_any_more p xs k x (slice_get_within xs k x at) ∙ ap (λ y. list_any p (take k xs) || p y) (get_or_from_slice_get xs k x x at)
@@ -47,7 +47,7 @@ module _ (old marks : List Bool) (relocs : List Reloc) (k : ℕ) (r : Reloc) (at
         ∙ ap (λ b. get_or old s false || b) (sym (any_next (λ q. eqb q.symbol s) relocs k r at))
   ]
 
-  -- one past the marks changes none
+  -- a relocation whose symbol is beyond the marks changes none
   pub marked_same : length marks ≤ r.symbol → (s : ℕ) → s < length old → get_or marks s false ≡ (get_or old s false || names s (take (k + 1) relocs))
   marked_same past s within =
       before s within ∙ or_false (get_or old s false) (names s (take k relocs))

@@ -8,7 +8,7 @@ use Rattle.psabi_sym.specs.Blocks.{aligned_up, end_from, placed_from}
 use Rattle.psabi_sym.specs.Classes.{classes_before, same_class}
 use Rattle.psabi_sym.specs.Inputs.{ParsedInputs}
 use Rattle.psabi_sym.specs.Indexed.{IndexedSection, IndexedSymbol, all_sections, all_symbols, section_at, sections_before}
-use Rattle.psabi_sym.specs.Names.{commons_of, firsts, is_common, same_name, strong_definition}
+use Rattle.psabi_sym.specs.Names.{firsts, is_common, same_name, strong_definition}
 use Rattle.psabi_sym.specs.declared.block.Block.{Block}
 use Rattle.psabi_sym.specs.declared.data_class.DataClass.{DataClass}
 use Rattle.psabi_sym.specs.declared.data_class.DataClass.TheVariants.{ReadOnly, Data, SmallData, SmallZero, Zero, Common}
@@ -17,7 +17,7 @@ use Rattle.psabi_sym.specs.declared.section_row.SectionRole.TheVariants.{Code, I
 
 -- ---- classes
 
--- this name, or one that begins with it and a dot
+-- the name of a section is this one, or begins with it and a dot
 abbrev pub is_of_kin : List ℕ → List ℕ → Bool
 is_of_kin base name = same_name name base || starts_with nat_eq name (base ++ codes ".")
 
@@ -43,19 +43,12 @@ is_code_role Code = true
 is_code_role (InClass class) = false
 is_code_role Dropped = false
 
--- a section is data of this class
-abbrev pub is_of_class : DataClass → IndexedSection → Bool
-is_of_class class l = has_class class (role_of l.section)
-
 -- ---- what takes room
-
--- the room of a section
-abbrev pub section_block : IndexedSection → Block
-section_block l = record { align = l.section.align; size = l.section.size }
 
 -- what these sections of a class take, in order
 abbrev pub blocks_in : DataClass → List IndexedSection → List Block
-blocks_in class sections = map section_block (filter (is_of_class class) sections)
+blocks_in class sections =
+    map (λ l. record { align = l.section.align; size = l.section.size }) (filter (λ l. has_class class (role_of l.section)) sections)
 
 -- the common symbols that take room, the first of each name in order: no strong definition has its name
 unfoldable pub commons_placed : List ObjectParts → List IndexedSymbol
@@ -64,7 +57,7 @@ commons_placed objects =
 
 -- the room of a symbol's name: the greatest alignment, which is the value, and the greatest size of the name's common symbols
 abbrev pub common_block : List ObjectParts → IndexedSymbol → Block
-common_block objects l = let same = commons_of objects l.symbol.name in record {
+common_block objects l = let same = filter (λ m. is_common m.symbol && same_name m.symbol.name l.symbol.name) (all_symbols objects) in record {
   align = fold max 0 (map (λ m. max 1 m.symbol.value) same);
   size = fold max 0 (map (λ m. m.symbol.size) same);
 }
@@ -80,24 +73,21 @@ blocks_of objects Common = map (common_block objects) (commons_placed objects)
 
 -- ---- addresses
 
--- where a class that is placed from an address on ends: it begins at a multiple of 16
-abbrev pub end_after : List ObjectParts → ℕ → DataClass → ℕ
-end_after objects at class = end_from (aligned_up 16 at) (blocks_of objects class)
-
--- where a class begins
+-- where a class begins: at a multiple of 16, as do those before it
 unfoldable pub class_start : ParsedInputs → DataClass → ℕ
-class_start inputs class = aligned_up 16 (fold (end_after inputs.objects) inputs.map.data_low (classes_before class))
+class_start inputs class =
+    aligned_up 16 (fold (λ at before. end_from (aligned_up 16 at) (blocks_of inputs.objects before)) inputs.map.data_low (classes_before class))
 
 -- where a class ends
 unfoldable pub class_end : ParsedInputs → DataClass → ℕ
 class_end inputs class = end_from (class_start inputs class) (blocks_of inputs.objects class)
 
--- where a section of a class begins: after those of its class that stand before it
+-- where a section of a class begins: after those of its class that come before it
 abbrev pub address_in : ParsedInputs → ℕ → ℕ → SectionParts → DataClass → ℕ
 address_in inputs o i s class =
     aligned_up s.align (end_from (class_start inputs class) (blocks_in class (sections_before inputs.objects o i)))
 
--- the same by what the section is: code and what is dropped has no address
+-- the address of a section, by its role: code and what is dropped have none
 abbrev pub role_address : ParsedInputs → ℕ → ℕ → SectionParts → SectionRole → Option ℕ
 role_address inputs o i s Code = None
 role_address inputs o i s (InClass class) = Some (address_in inputs o i s class)

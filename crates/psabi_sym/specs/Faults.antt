@@ -23,7 +23,7 @@ use Rattle.psabi_sym.specs.declared.sums.Sums.{Sums}
 abbrev pub most_objects : ℕ
 most_objects = 256
 
--- there are more
+-- the fault of too many objects, if there are more
 abbrev pub count_fault : List (List ℕ) → Option (ℕ × Fault)
 count_fault files = if nat_lt most_objects (length files) then Some (most_objects, TooLarge) else None
 
@@ -50,7 +50,8 @@ align_room (negsuc n) = 256
 unfoldable pub reloc_room : Reloc → ℕ
 reloc_room r = if r.kind == 43 then align_room r.addend else 0
 
--- what this many bytes of code count: those of a compressed object count twice, since what has 2 bytes there may take 4
+-- the room that n bytes of code count as: those of a compressed object count twice, since an instruction of 2 bytes there may
+-- take 4
 abbrev pub counted_bytes : Bool → ℕ → ℕ
 counted_bytes compressed n = if compressed then 2 * n else n
 
@@ -67,7 +68,7 @@ room_in_data s Code = 0
 room_in_data s (InClass class) = s.size + max 1 s.align
 room_in_data s Dropped = 0
 
--- the same of a section
+-- the room that a section may take in code, and in data
 abbrev pub code_room : SectionParts → ℕ
 code_room s = room_in_code s (role_of s)
 
@@ -128,7 +129,7 @@ abbrev pub is_second : List ObjectParts → IndexedSymbol → Bool
 is_second objects l =
     is_strong l.symbol && option_map_or (λ first. not (same_symbol first l)) (strong_definition objects l.symbol.name) false
 
--- the first such
+-- the fault of the first such symbol
 unfoldable pub duplicate_fault : List ObjectParts → Option (ℕ × Fault)
 duplicate_fault objects = option_map (λ l. (l.object, Duplicate l.index)) (find (is_second objects) (all_symbols objects))
 
@@ -136,11 +137,11 @@ duplicate_fault objects = option_map (λ l. (l.object, Duplicate l.index)) (find
 abbrev pub names : ℕ → List Reloc → Bool
 names symbol relocs = list_any (λ r. r.symbol == symbol) relocs
 
--- a relocation of the object does
+-- a relocation of the object names the symbol with this index
 abbrev pub is_used_in : ObjectParts → ℕ → Bool
 is_used_in object symbol = list_any (λ s. names symbol s.relocs) object.sections
 
--- the same of a symbol of one of the objects
+-- a relocation of the symbol's object names the symbol
 unfoldable pub is_used : List ObjectParts → IndexedSymbol → Bool
 is_used objects l = option_map_or (λ object. is_used_in object l.index) (slice_get objects l.object) false
 
@@ -149,13 +150,13 @@ abbrev pub is_missing : ParsedInputs → IndexedSymbol → Bool
 is_missing inputs l =
     l.symbol.bind == 1 && l.symbol.home == 0 && is_used inputs.objects l && is_none (name_definition inputs l.symbol.name)
 
--- the first such
+-- the fault of the first such symbol
 unfoldable pub undefined_fault : ParsedInputs → Option (ℕ × Fault)
 undefined_fault inputs = option_map (λ l. (l.object, Undefined l.index)) (find (is_missing inputs) (all_symbols inputs.objects))
 
 -- ---- the first fault
 
--- the first that is some
+-- the first `Some` of a list
 abbrev pub first_some : {A : Type 0} → List (Option A) → Option A
 first_some [] = None
 first_some (o ∷ os) = option_or o (first_some os)
@@ -167,5 +168,4 @@ name_fault inputs = first_some (duplicate_fault inputs.objects ∷ undefined_fau
 -- the first fault of inputs, with its object's index, or none
 unfoldable pub gather_fault : Inputs → Option (ℕ × Fault)
 gather_fault inputs = first_some (
-    count_fault inputs.files ∷ fault_from 0 inputs.files ∷ sum_fault inputs.files ∷ duplicate_fault (parsed inputs).objects
-    ∷ undefined_fault (parsed inputs) ∷ [])
+    count_fault inputs.files ∷ fault_from 0 inputs.files ∷ sum_fault inputs.files ∷ name_fault (parsed inputs) ∷ [])

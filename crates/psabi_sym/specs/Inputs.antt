@@ -8,11 +8,11 @@ pub record Inputs : Type 0 where
   pub files : List (List ℕ)
   pub map : MemMap
 
--- these files in this map
+-- the inputs of these files in this map
 abbrev pub inputs_in : MemMap → List (List ℕ) → Inputs
 inputs_in memory files = record { files = files; map = memory }
 
--- the same with each object as what its file reads as
+-- inputs that are read: each object as what its file reads as, and the map
 pub record ParsedInputs : Type 0 where
   pub objects : List ObjectParts
   pub map : MemMap
@@ -21,6 +21,6 @@ pub record ParsedInputs : Type 0 where
 abbrev pub parsed : Inputs → ParsedInputs
 parsed inputs = record { objects = map object_parts inputs.files; map = inputs.map }
 
--- the same by the files and the map
+-- what these files read as in this map
 abbrev pub read_from : List (List ℕ) → MemMap → ParsedInputs
 read_from files memory = parsed (inputs_in memory files)

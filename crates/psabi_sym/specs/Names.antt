@@ -5,7 +5,7 @@ use Rattle.std.specs.List.{find}
 use Rattle.elf32_read.specs.Parts.{ObjectParts, SymbolParts}
 use Rattle.psabi_sym.specs.Indexed.{IndexedSymbol, all_symbols}
 
--- the same bytes
+-- two names are the same bytes
 abbrev pub same_name : List ℕ → List ℕ → Bool
 same_name first second = pointwise nat_eq first second
 
@@ -17,7 +17,7 @@ is_common s = s.home == 0xFFF2
 abbrev pub goes_by_name : SymbolParts → Bool
 goes_by_name s = is_common s || not (s.bind == 0)
 
--- a symbol with a home of its own, neither undefined (SHN_UNDEF, 0) nor common, and this binding
+-- a symbol with this binding that is defined: it is neither undefined (SHN_UNDEF, 0) nor common
 abbrev pub is_definition : ℕ → SymbolParts → Bool
 is_definition bind s = s.bind == bind && not (s.home == 0) && not (is_common s)
 
@@ -37,11 +37,7 @@ strong_definition objects name = first_definition 1 objects name
 abbrev pub weak_definition : List ObjectParts → List ℕ → Option IndexedSymbol
 weak_definition objects name = first_definition 2 objects name
 
--- the common symbols of a name
-abbrev pub commons_of : List ObjectParts → List ℕ → List IndexedSymbol
-commons_of objects name = filter (λ l. is_common l.symbol && same_name l.symbol.name name) (all_symbols objects)
-
--- of symbols, the first of each name
+-- the first symbol of each name, in order
 abbrev pub firsts : List IndexedSymbol → List IndexedSymbol
 firsts [] = []
 firsts (l ∷ ls) = l ∷ filter (λ m. not (same_name m.symbol.name l.symbol.name)) (firsts ls)

@@ -70,7 +70,7 @@ role_target inputs o i value addend section role.Code = code_target o i section 
 role_target inputs o i value addend section (role.InClass class) = number_target (address_in inputs o i section class + value) addend
 role_target inputs o i value addend section role.Dropped = Nowhere
 
--- where a symbol with a home leads: a number by itself if it is ABS (0xFFF1)
+-- where a symbol that is defined in a section leads; if it is ABS (0xFFF1), it is a number by itself
 abbrev pub home_target : ParsedInputs → ℕ → SymbolParts → ℤ → Target
 home_target inputs o s addend =
     if s.home == 0xFFF1 then number_target s.value addend

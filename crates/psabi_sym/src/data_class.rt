@@ -6,9 +6,9 @@ pub enum DataClass {
     /// The program doesn't write to it. It isn't protected, either.
     ReadOnly,
     Data,
-    /// `.sdata` and its kin, near the global pointer.
+    /// `.sdata` and names that begin with `.sdata.`, near the global pointer.
     SmallData,
-    /// `.sbss` and its kin.
+    /// `.sbss` and names that begin with `.sbss.`.
     SmallZero,
     Zero,
     Common,

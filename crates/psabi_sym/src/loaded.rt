@@ -57,7 +57,7 @@ impl Loaded {
         Object::known_with(&self.bytes, self.symbol_section)
     }
 
-    /// How many bytes it has.
+    /// The number of the file's bytes.
     pub fn len(&self) -> usize
         ensures count { result ≡ length self.now }
         ensures most { result ≤ 0x40_0000 }

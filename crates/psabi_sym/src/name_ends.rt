@@ -10,7 +10,7 @@ use crate::name_lengths::{BLOCK, short_length};
 use crate::texts::Texts;
 use std::alloc::{AllocError, Global};
 
-/// How many bytes a name has, and the number of its longest tail of whole blocks.
+/// The number of bytes of a name, and the number of its longest tail of whole blocks.
 #[derive(Clone, Copy)]
 pub struct NameEnd {
     pub length: u32,

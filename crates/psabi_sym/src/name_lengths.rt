@@ -4,7 +4,7 @@ ghost use Rattle.std.specs.Prelude.{◌≡◌, ◌<◌, ◌≤◌, ◌==◌, ℕ
 ghost use Rattle.std.specs.List.{prefix_len};
 ghost use Rattle.elf32_read.specs.Names.{name_at};
 
-/// How many bytes of a name are numbered at once.
+/// The number of bytes of a name that are numbered at once.
 pub const BLOCK: usize = 64;
 
 // Where the last zero stands.
@@ -35,8 +35,8 @@ pub fn has_long_name(table: &[u8]) -> bool
     false
 }
 
-/// How many bytes stand before the first zero, or in all if there is none, if they are less than a
-/// block. It looks at no more than a block.
+/// The number of bytes before the first zero, or of all if there is none, if it is less than a block. It looks at no
+/// more than a block.
 pub fn short_length(bytes: &[u8]) -> Option<usize>
     ensures some { IfSome result (λ n. (n < 64) × (n ≡ prefix_len (λ byte. not (byte == 0)) bytes.now)) }
     ensures none { result ≡ None → 64 ≤ prefix_len (λ byte. not (byte == 0)) bytes.now }

@@ -113,7 +113,18 @@ impl Objects {
         }
     }
 
-    /// How many objects there are.
+    /// Says what holds of all objects that are gathered, for the proof of a caller that needs no value of them. Nothing
+    /// runs.
+    #[inline]
+    pub fn recall_invariant(&self)
+        ensures faultless { gather_fault self.now ≡ None }
+        ensures is_map { IsMap self.now.map }
+        ensures data { data_end (parsed self.now) ≤ self.now.map.data_low + 0x40_0000 }
+    {
+        let _definitions = &self.definitions;
+    }
+
+    /// The number of objects.
     pub fn object_count(&self) -> u32
         ensures count { result ≡ length self.now.files }
         ensures most { result ≤ 256 }
@@ -139,7 +150,7 @@ impl Objects {
         self.object(object).is_compressed()
     }
 
-    /// How many sections all objects have, with those that are dropped.
+    /// The number of sections of all objects, with those that are dropped.
     pub fn section_count(&self) -> u32
         ensures count { result ≡ length (all_sections (parsed self.now).objects) }
         ensures most { result ≤ 0x10_0000 }
@@ -236,7 +247,7 @@ impl Objects {
         self.objects[object as usize].rela_of(u32::from(section))
     }
 
-    // Where a symbol with a home leads.
+    // Where a symbol that is defined in a section leads; if it is ABS, it is a number by itself.
     fn home_target(&self, row: &SymbolRow, addend: i32) -> Target
         ensures { (s : SymbolParts) → s.home ≡ row.now.home → s.value ≡ row.now.value
             → result ≡ home_target (parsed self.now) row.now.object s addend }

@@ -3,8 +3,7 @@
 ghost use Rattle.std.specs.Prelude.{◌≡◌, ◌≤◌};
 ghost use Rattle.psabi_sym.specs.Faults.{power_above};
 
-/// The least power of two above a number of bytes from 1 to 255: what padding of so many bytes aligns
-/// to.
+/// The least power of two above a number of bytes from 1 to 255: what padding of `bytes` bytes aligns to.
 pub fn power_above(bytes: u16) -> u32
     ensures value { result ≡ power_above bytes }
     ensures most { result ≤ 256 }

@@ -1,6 +1,6 @@
 // Sections as values.
 
-ghost use Rattle.std.specs.Prelude.{◌≡◌, ◌<◌, Some, length, slice_get};
+ghost use Rattle.std.specs.Prelude.{◌≡◌, ◌<◌, ◌^◌, Some, length, slice_get};
 ghost use Rattle.elf32_read.specs.Header.{section_count};
 ghost use Rattle.elf32_read.specs.Parts.{is_code_section, section_parts};
 ghost use Rattle.psabi_sym.specs.Data.{role_of};
@@ -64,7 +64,7 @@ impl<'a> SectionRef<'a> {
         self.object
     }
 
-    /// Its index in its object.
+    /// The section's index in its object.
     pub fn index(&self) -> u16
         ensures { result ≡ self.now.index }
     {
@@ -92,35 +92,43 @@ impl<'a> SectionRef<'a> {
         self.compressed
     }
 
-    /// Its type, sh_type.
+    /// The section's type, sh_type.
     pub fn kind(&self) -> u32
         ensures { result ≡ self.now.section.kind }
     {
         self.entry.kind
     }
 
-    /// Its size in memory, sh_size.
+    /// The section's size in memory, sh_size.
     pub fn size(&self) -> u32
         ensures { result ≡ self.now.section.size }
     {
         self.entry.size
     }
 
-    /// Its alignment as it stands, sh_addralign.
+    /// The section's alignment as the file has it, sh_addralign.
     pub fn align(&self) -> u32
         ensures { result ≡ self.now.section.align }
     {
         self.entry.align
     }
 
-    /// Its content; empty for the kinds NULL and NOBITS.
+    /// The section's content; empty for the kinds NULL and NOBITS.
     pub fn bytes(&self) -> &'a [u8]
         ensures { result.now ≡ self.now.section.bytes }
     {
         self.entry.bytes
     }
 
-    /// How many relocations it has; none if it is dropped.
+    /// Says what holds of every section, for the proof of a caller that needs no value of it. Nothing runs.
+    #[inline]
+    pub fn recall_invariant(&self)
+        ensures { length self.now.section.relocs < 2 ^ 32 }
+    {
+        let _count = self.relocs.len();
+    }
+
+    /// The number of the section's relocations; none if it is dropped.
     pub fn reloc_count(&self) -> u32
         ensures { result ≡ length self.now.section.relocs }
     {

@@ -27,7 +27,7 @@ const CLASS_GAPS: u64 = 96;
 
 const ALIGN: u8 = 43;
 
-/// How many bytes the files of objects have, and the room that they may take in code and in data.
+/// The number of bytes of the objects' files, and the room that they may take in code and in data.
 #[derive(Clone, Copy)]
 pub struct Sums {
     pub file_bytes: u64,

@@ -15,7 +15,7 @@ use crate::read_symbols::add_symbols;
 use crate::symbol_row::SymbolRow;
 use std::alloc::{AllocError, Global};
 
-// How many symbols objects have, without symbol 0 of each.
+// The number of the objects' symbols, without symbol 0 of each.
 fn count_of(objects: &[Loaded]) -> usize
     requires { length objects.now ≤ 256 }
     ensures { result ≡ sum_by (λ file. symbol_count file - 1) objects.now }

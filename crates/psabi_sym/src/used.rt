@@ -35,7 +35,7 @@ fn mark_object(loaded: &Loaded, marks: &mut [bool])
     }
 }
 
-// Of each symbol of an object, with symbol 0, whether a relocation names it.
+// For each symbol of an object, with symbol 0, whether a relocation names it.
 fn marks_of(alloc: Global, loaded: &Loaded) -> Result<Vec<bool>, AllocError>
     ensures { IfOk result (λ marks. marks.items
         ≡ map (λ s. is_used_in (object_parts loaded.now) s.0) (enumerate_from 0 (object_parts loaded.now).symbols)) }
@@ -45,7 +45,7 @@ fn marks_of(alloc: Global, loaded: &Loaded) -> Result<Vec<bool>, AllocError>
     Ok(marks)
 }
 
-/// Of each symbol of all objects, without symbol 0, whether a relocation of its object names it.
+/// For each symbol of all objects, without symbol 0, whether a relocation of its object names it.
 pub fn used_symbols(alloc: Global, objects: &[Loaded]) -> Result<Vec<bool>, AllocError>
     ensures { IfOk result (λ used. used.items
         ≡ map (is_used (map object_parts objects.now)) (all_symbols (map object_parts objects.now))) }

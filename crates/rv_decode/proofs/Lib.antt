@@ -7,3 +7,4 @@ pub mod NormalLaws
 pub mod RegisterLaws
 pub mod MemoryLaws
 pub mod RunLaws
+pub mod WriteLaws

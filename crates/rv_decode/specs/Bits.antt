@@ -6,7 +6,7 @@ use Rattle.std.specs.Int.{w32, cast_signed, cast_unsigned}
 abbrev pub field : ℕ → ℕ → ℕ → ℕ
 field word low width = word / 2 ^ low % 2 ^ width
 
--- a number of so many bits, read in two's complement
+-- a number of `bits` bits, read in two's complement
 abbrev pub signed : ℕ → ℕ → ℤ
 signed bits n = if nat_lt n (2 ^ (bits - 1)) then pos n else negsuc (2 ^ bits - n - 1)
 
@@ -22,7 +22,7 @@ as_word z = cast_unsigned w32 z % 2 ^ 32
 abbrev pub add32 : ℕ → ℤ → ℕ
 add32 n imm = (n + cast_unsigned w32 imm) % 2 ^ 32
 
--- a signed number fits in so many bits of two's complement
+-- a signed number fits in `bits` bits of two's complement
 abbrev pub FitsIn : ℕ → ℤ → Type 0
 FitsIn bits (pos n) = n < 2 ^ (bits - 1)
 FitsIn bits (negsuc n) = n < 2 ^ (bits - 1)

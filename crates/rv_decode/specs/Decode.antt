@@ -116,7 +116,7 @@ system_of word =
     (if word == 0x00100073 then Some Ebreak else
     (if funct3_of word == 0b001 && field word 20 12 == 0x017 then Some (Csrrw (rd_of word) (rs1_of word)) else None))
 
--- the opcodes, each with what a word spells that has it; a fence keeps its bits 31 to 15 and 11 to 7, as one number
+-- the opcodes, each with the instruction that a word with it encodes; a fence keeps its bits 31 to 15 and 11 to 7, as one number
 abbrev pub opcodes : ℕ → List (ℕ × Option Instr)
 opcodes word =
     (0b0110111, Some (Upper Lui (rd_of word) (imm_u_of word))) ∷
@@ -132,6 +132,6 @@ opcodes word =
     (0b1110011, system_of word) ∷
     []
 
--- the instruction that a word spells; none outside the table
+-- the instruction that a word encodes; none outside the table
 unfoldable pub decoded : ℕ → Option Instr
 decoded word = option_flatten (row_of (opcodes word) (opcode_of word))

@@ -40,13 +40,9 @@ gives v rd size z = Commits (onward z size (set_reg z.regs rd v))
 abbrev pub jumps : ℕ → ℕ → ℕ → ZcCore → Effect
 jumps to rd size z = Commits (record (onward z size (set_reg z.regs rd (after z size))) { pc = to })
 
--- the address where a branch goes on
-abbrev pub branch_target : Bool → ℤ → ℕ → ZcCore → ℕ
-branch_target taken distance size z = if taken then add32 z.pc distance else after z size
-
 -- a branch that is taken or isn't
 abbrev pub branches : Bool → ℤ → ℕ → ZcCore → Effect
-branches taken distance size z = Commits (record (onward z size z.regs) { pc = branch_target taken distance size z })
+branches taken distance size z = Commits (record (onward z size z.regs) { pc = (if taken then add32 z.pc distance else after z size) })
 
 -- ---- loads and stores
 
@@ -54,7 +50,7 @@ branches taken distance size z = Commits (record (onward z size z.regs) { pc = b
 abbrev pub reaching : ℕ → ℕ → ZcCore → Effect → Effect
 reaching n a z go = if a % n == 0 then (if lies_in is_data (extents_of z.memory) a n then go else BadAccess) else Misaligned
 
--- how many bytes a load takes
+-- the number of bytes that a load reads
 abbrev pub load_width : LoadOp → ℕ
 load_width Lb = 1
 load_width Lh = 2
@@ -62,7 +58,7 @@ load_width Lw = 4
 load_width Lbu = 1
 load_width Lhu = 2
 
--- so many bits, read in two's complement, as a word
+-- a number of `bits` bits, read in two's complement, as a word
 abbrev pub extended : ℕ → ℕ → ℕ
 extended bits n = as_word (signed bits n)
 
@@ -78,7 +74,7 @@ load_result Lhu z a = half_at z a
 abbrev pub loads : LoadOp → ℕ → ℕ → ℕ → ZcCore → Effect
 loads op a rd size z = reaching (load_width op) a z (gives (load_result op z a) rd size z)
 
--- how many bytes a store writes
+-- the number of bytes that a store writes
 abbrev pub store_width : StoreOp → ℕ
 store_width Sb = 1
 store_width Sh = 2
@@ -100,7 +96,7 @@ swaps_jvt word rd size z = Commits (record (onward z size (set_reg z.regs rd z.j
 
 -- ---- instructions
 
--- the effect of an instruction that takes this many bytes; `jalr` clears bit 0 of its sum, and a fence does nothing
+-- the effect of an instruction of `size` bytes; `jalr` clears bit 0 of its sum, and a fence does nothing
 abbrev pub effect : Instr → ℕ → ZcCore → Effect
 effect (Upper op rd imm) size z = gives (upper_result op z.pc imm) rd size z
 effect (Jal rd distance) size z = jumps (add32 z.pc distance) rd size z

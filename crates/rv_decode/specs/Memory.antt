@@ -23,7 +23,7 @@ pub record Extent : Type 0 where
 abbrev pub extent_of : {X : Type 0} → Region X → Extent
 extent_of r = record { kind = r.kind; at = r.at; size = length r.cells }
 
--- the same of all regions
+-- what is left of all regions without their cells
 abbrev pub extents_of : {X : Type 0} → List (Region X) → List Extent
 extents_of memory = map extent_of memory
 
@@ -72,7 +72,7 @@ abbrev pub cells_changed : {X : Type 0} → (ℕ → X → X) → ℕ → List X
 cells_changed f a [] = []
 cells_changed f a (c ∷ cs) = f a c ∷ cells_changed f (suc a) cs
 
--- the same in every region: each change of memory is one of these
+-- each cell of every region becomes what f makes of its address and of what it was; each change of memory is one of these
 abbrev pub changed : {X : Type 0} → (ℕ → X → X) → List (Region X) → List (Region X)
 changed f [] = []
 changed f (r ∷ rs) = record r { cells = cells_changed f r.at r.cells } ∷ changed f rs

@@ -70,6 +70,6 @@ normal_of Ecall = Ecall
 normal_of Ebreak = Ebreak
 normal_of (Csrrw rd source) = Csrrw rd source
 
--- the same effect on every state, if they take the same number of bytes
+-- two instructions have the same effect on every state, if they take the same number of bytes
 abbrev pub SameEffect : Instr → Instr → Type 0
 SameEffect i j = (size : ℕ) (z : ZcCore) → effect i size z ≡ effect j size z

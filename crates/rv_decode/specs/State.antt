@@ -18,7 +18,7 @@ pub record ZcCore : Type 0 where
   pub commits : ℕ
   pub exit : Option ℕ
 
--- with the input that is left and the events so far
+-- a state of the machine, with the input that is left and the events so far
 pub record ZcState : Type 0 where
   pub core : ZcCore
   pub input : List ℕ

@@ -23,7 +23,7 @@ pub fn register_at(word: u32, low: u32) -> Reg
     Reg::new(field_at(word, low, 5) as u8).unwrap()
 }
 
-/// A number of so many bits, read in two's complement.
+/// A number of `bits` bits, read in two's complement.
 pub fn signed_of(bits: u32, n: u32) -> i32
     requires some { 0 < bits }
     requires few { bits < 31 }

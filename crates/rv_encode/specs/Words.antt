@@ -25,7 +25,7 @@ twelve_of seven five = seven * 2 ^ 5 + five
 abbrev pub branch_seven_of : ℕ → ℕ
 branch_seven_of bits = field bits 12 1 * 2 ^ 6 + field bits 5 6
 
--- and its lower five: 4 to 1, and 11
+-- B's lower five bits of a distance: 4 to 1, and 11
 abbrev pub branch_five_of : ℕ → ℕ
 branch_five_of bits = field bits 1 4 * 2 + field bits 11 1
 
@@ -33,7 +33,7 @@ branch_five_of bits = field bits 1 4 * 2 + field bits 11 1
 abbrev pub jump_twenty_of : ℕ → ℕ
 jump_twenty_of bits = field bits 20 1 * 2 ^ 19 + field bits 1 10 * 2 ^ 9 + field bits 11 1 * 2 ^ 8 + field bits 12 8
 
--- a signed number that fits, as so many bits of two's complement
+-- a signed number that fits in `bits` bits, as these bits of two's complement
 abbrev pub bits_of : ℕ → ℤ → ℕ
 bits_of bits (pos n) = n
 bits_of bits (negsuc n) = 2 ^ bits - n - 1

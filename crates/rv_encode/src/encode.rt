@@ -29,7 +29,7 @@ pub fn encode(i: Instr) -> u32
     word_of(i)
 }
 
-// The same; that it spells the instruction follows from that.
+// The word of `encode`, by its parts; that it encodes the instruction follows from them.
 fn word_of(i: Instr) -> u32
     requires { InRange i }
     ensures word { result ≡ encoded i }

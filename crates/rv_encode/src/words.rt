@@ -66,7 +66,7 @@ pub fn jump_twenty(bits: u32) -> u32
     field_at(bits, 20, 1) << 19 | (field_at(bits, 1, 10) << 9 | low)
 }
 
-/// A signed number as so many bits of two's complement.
+/// A signed number as `bits` bits of two's complement.
 pub fn bits_of(bits: u32, z: i32) -> u32
     requires some { 0 < bits }
     requires few { bits < 31 }

@@ -23,7 +23,7 @@ count_lines plain zc =
     count_line (codes "table") zc.table ∷
     []
 
--- how many slots the jump table has, holes with them, and what it saves; then the certificate's savings and slots
+-- the number of the jump table's slots, with its holes, and what it saves; then the certificate's savings and slots
 abbrev pub table_lines : List Saving → Certified → List (List ℕ)
 table_lines savings certificate =
     count_line (codes "slots") (length certificate.slots) ∷

@@ -12,7 +12,7 @@ use Rattle.psabi_reloc.specs.declared.kind.RelocKind.TheVariants as kind
 use Rattle.rv_decode.specs.declared.instr.Instr.{Instr}
 use Rattle.rv_decode.specs.declared.instr.Instr.TheVariants as instr
 use Rattle.block_cut.proofs.ReachLaws.{branch_place}
-use Rattle.block_cut.specs.Items.{call_item, is_target_at, known_item, of_instr, place_on, raw_in, raw_pair, spelled_item, target_away, target_only, to_place, transfer_item}
+use Rattle.block_cut.specs.Items.{call_item, is_target_at, known_item, place_on, raw_in, raw_pair, spelled_item, target_away, to_place, transfer_item}
 use Rattle.block_cut.specs.Relocs.{fits_at, instr_in}
 use Rattle.block_cut.specs.declared.item.Item.{Item}
 use Rattle.block_cut.specs.declared.item.Item.TheVariants.{Branch, Hi, Jump, Lo, PcHi, PcLo}
@@ -30,7 +30,7 @@ module _ (objects : List ObjectParts) (q : Place) (raw : Item) (none : branch_pl
   jumps rd None = none
   jumps rd (Some to) = refl
 
-  away : (z : ℤ) (branch : Place → Item) → ((to : Place) → branch_place (branch to) ≡ Some to) → LeadsIn q (branch_place (option_map_or branch (option_and_then (target_only objects) (place_on q z)) raw))
+  away : (z : ℤ) (branch : Place → Item) → ((to : Place) → branch_place (branch to) ≡ Some to) → LeadsIn q (branch_place (option_map_or branch (option_and_then (λ to. cond (is_target_at objects to) (Some to) None) (place_on q z)) raw))
   away (negsuc n) branch leads = Nowhere none
   away (pos n) branch leads = by (is_target_at objects to)
     where
@@ -84,15 +84,15 @@ module _ (t : Target) (raw : Item) (none : branch_place raw ≡ None) where
       by (target.Absent n) = none
       by target.Nowhere = none
 
-  of_no_branch : (first : Option Instr) (item : Instr → Item) → ((i : Instr) → branch_place (item i) ≡ None) → branch_place (of_instr first raw item) ≡ None
+  of_no_branch : (first : Option Instr) (item : Instr → Item) → ((i : Instr) → branch_place (item i) ≡ None) → branch_place (option_map_or item first raw) ≡ None
   of_no_branch None item no_branch = none
   of_no_branch (Some i) item no_branch = no_branch i
 
-  rvc_no_branch : (first second : Option Instr) → fits kind.RvcJump first second ≡ true → branch_place (of_instr first raw (λ i. to_place t (transfer_item i raw) raw)) ≡ None
+  rvc_no_branch : (first second : Option Instr) → fits kind.RvcJump first second ≡ true → branch_place (option_map_or (λ i. to_place t (transfer_item i raw) raw) first raw) ≡ None
   rvc_no_branch (Some (instr.Jal rd distance)) second is = led (Jump rd) (λ to. refl)
   rvc_no_branch first second is = absurd cc
 
-  jal_no_branch : (first second : Option Instr) → fits kind.Jal first second ≡ true → branch_place (of_instr first raw (λ i. to_place t (transfer_item i raw) raw)) ≡ None
+  jal_no_branch : (first second : Option Instr) → fits kind.Jal first second ≡ true → branch_place (option_map_or (λ i. to_place t (transfer_item i raw) raw) first raw) ≡ None
   jal_no_branch (Some (instr.Jal rd distance)) second is = led (Jump rd) (λ to. refl)
   jal_no_branch first second is = absurd cc
 
@@ -105,7 +105,7 @@ module _ (t : Target) (raw : Item) (none : branch_place raw ≡ None) where
 
   -- a branch leads to its target
   branch_in : (q : Place) → ((to : Place) → t ≡ target.Code to → (to.object ≡ q.object) × (to.section ≡ q.section)) → (first : Option Instr)
-      → LeadsIn q (branch_place (of_instr first raw (λ i. to_place t (transfer_item i raw) raw)))
+      → LeadsIn q (branch_place (option_map_or (λ i. to_place t (transfer_item i raw) raw) first raw))
   branch_in q stays None = Nowhere none
   branch_in q stays (Some i) = by t refl
     where
@@ -145,7 +145,7 @@ module _ (s : SectionParts) (n : ℕ) (addend : ℤ) (t : Target) where
   known_no_branch (Some kind.RvcJump) other is = rvc_no_branch t (raw_in 2 s.bytes n) refl (instr_in 2 s.bytes n) None is
   known_no_branch (Some kind.Align) other is = refl
 
-  -- and a branch leads where its target is
+  -- a branch leads where its target is
   pub known_in : (q : Place) (k : Option RelocKind) → (is_branch_kind k ≡ true → (to : Place) → t ≡ target.Code to → (to.object ≡ q.object) × (to.section ≡ q.section))
       → fits_at s n addend k ≡ true → LeadsIn q (branch_place (known_item k addend t s.bytes n))
   known_in q (Some kind.Branch) stays is = branch_in t raw refl q (stays refl) first

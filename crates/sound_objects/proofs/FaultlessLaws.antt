@@ -58,7 +58,7 @@ module _ (inputs : Inputs) (sound : IsWellFormed inputs) where
       λ j. option_or (cond (count j) (Some (most_objects, TooLarge)) None)
       (option_or (no_file 0 inputs.files sound.readable j)
       (option_or (no_sum inputs.files sound.small j)
-      (option_or (no_duplicate (parsed inputs).objects sound.single j) (option_or (no_undefined (parsed inputs) sound.defined j) None))))
+      (option_or (option_or (no_duplicate (parsed inputs).objects sound.single j) (option_or (no_undefined (parsed inputs) sound.defined j) None)) None)))
 
   no_reloc : relocs_fault (parsed inputs) ≡ None
   unfolding relocs_fault

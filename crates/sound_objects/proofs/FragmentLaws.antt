@@ -218,7 +218,7 @@ module _ (fragments : List Fragment) (s : SectionParts) (made : IsMadeOf fragmen
           let both = and_from (eqb (at % code_step s.compressed) 0) (fits_at s at r.addend (kind_of r.kind)) words (under.fits s at there) in
           ap (λ b. not b || (eqb (at % code_step s.compressed) 0 && fits_at s at r.addend (kind_of r.kind))) made.code ∙ both
 
-      -- it stands right
+      -- the fragment's relocation has no fault of its own
       pub fine : IsFine s own
       fine =
           let k = kind_of r.kind in
@@ -236,7 +236,7 @@ module _ (fragments : List Fragment) (s : SectionParts) (made : IsMadeOf fragmen
                 (and_from (not (is_bad_kind s k)) (not (is_bad_place s own)) (not_from_false (is_bad_kind s k) known) (not_from_false (is_bad_place s own) place));
           }
 
-      -- and says what its item is
+      -- the fragment's relocation decides its item
       pub one_on : reloc_on s at ≡ Some own
       one_on =
           let passes : stands_at own ≡ true = and_from (is_sound s own) (eqb at at) fine.sound (eq-eqb at at refl) in
@@ -300,7 +300,7 @@ module _ (fragments : List Fragment) (s : SectionParts) (made : IsMadeOf fragmen
         by (inl start) = start
         by (inr end) = absurd (omega (arith, end, inside front p back split))
 
-    -- and nowhere else
+    -- a fragment starts at k; items start nowhere else
     pub record IsFragment (k : ℕ) : Type 0 where
       pub front : List Fragment
       pub fragment : Fragment
@@ -352,7 +352,7 @@ module _ (fragments : List Fragment) (s : SectionParts) (made : IsMadeOf fragmen
           (of_fragment (fragments_size front) p.reloc (λ r is. each front p back r split is))
           (subst (λ n. All Q (relocs_from n back)) (fragments_size-push front p) (walk (front ++ p ∷ []) back (next_split front p back split)))
 
--- so all are right that lead right
+-- all relocations that lead right are right
 pub relocs_right : (inputs : ParsedInputs) (l : IndexedSection) (fragments : List Fragment) → IsMadeOf fragments l.section → IsWhole l.section
     → ((front : List Fragment) (p : Fragment) (back : List Fragment) (r : FragmentReloc) → fragments ≡ front ++ p ∷ back → p.reloc ≡ Some r → LeadsRight inputs l (fragment_reloc_at (fragments_size front) r))
     → RelocsAreRight inputs l

@@ -1,4 +1,4 @@
--- Relocations that are ignored: without them the others overlap in the same way, and the same ones say what stands in code.
+-- Relocations that are ignored: without them the others overlap in the same way, and the same ones decide the items of code.
 use Rattle.std.proofs.Common.{◌≡◌, ℕ, List, [], ◌∷◌, length, filter, max, min, Bool, true, false, cond, Option, Some, None, refl, sym, ap, ◌∙◌, arith, eqb}
 use Rattle.std.specs.Prelude.{◌&&◌, nat_lt}
 use Rattle.std.specs.List.{find}
@@ -33,7 +33,7 @@ filter_kept keeps p left (x ∷ xs) = by (keeps x) refl (filter_kept keeps p lef
 
 -- ---- relocations
 
--- one that is ignored changes no bytes
+-- a relocation that is ignored changes no bytes
 ignored_empty : (r : Reloc) → asks r ≡ false → field_of r ≡ 0
 ignored_empty r ignored = by (kind_of r.kind) (not-false (is_ignored (kind_of r.kind)) ignored)
   where
@@ -42,11 +42,11 @@ ignored_empty r ignored = by (kind_of r.kind) (not-false (is_ignored (kind_of r.
     by (Some Ignored) is = refl
     by (Some k) is = absurd cc
 
--- so it overlaps none
+-- a relocation that is ignored overlaps none
 ignored_apart : (r t : Reloc) → asks t ≡ false → overlap r t ≡ false
 ignored_apart r t ignored = le-ltb (max r.offset t.offset) (min (field_end r) (field_end t)) (omega (arith, ignored_empty t ignored))
 
--- and says nothing of what stands in code
+-- a relocation that is ignored decides no item
 ignored_unsound : (s : SectionParts) (t : Reloc) → is_code_section s ≡ true → asks t ≡ false → is_sound s t ≡ false
 ignored_unsound s t code ignored = by (is_sound s t) refl
   where

@@ -1,5 +1,5 @@
--- Names: the strong definition that is found is one of those that stand in the objects; names that are defined once and names that
--- are needed have no fault, and the other way round.
+-- Names: the strong definition that is found is one of those in the objects; names that are defined once and names that are
+-- needed have no fault, and the other way round.
 use Rattle.std.proofs.Common.{◌≡◌, ℕ, List, Bool, true, false, Option, Some, None, is_none, refl, sym, ap, ◌∙◌, eqb, eq-eqb}
 use Rattle.std.specs.Prelude.{◌&&◌, not}
 use Rattle.std.specs.List.{find}
@@ -23,7 +23,7 @@ use Rattle.sound_objects.proofs.ListedLaws.{all_by_symbol, symbol_by_all}
 
 -- ---- strong definitions
 
--- one that is found
+-- a strong definition that is found
 pub strong_found : (objects : List ObjectParts) (name : List ℕ) (l : IndexedSymbol) → strong_definition objects name ≡ Some l → HasStrong objects l × (l.symbol.name ≡ name)
 strong_found objects name l found =
     let test = λ (m : IndexedSymbol). is_strong m.symbol && same_name m.symbol.name name in

@@ -1,8 +1,8 @@
 -- Branches that reach: those of a short section, and those of a section that has none.
-use Rattle.std.proofs.Common.{◌≡◌, ℕ, suc, ◌+◌, ◌-◌, ◌%◌, ◌≤◌, inl, inr, pos, negsuc, ◌+ℤ◌, ◌-ℤ◌, List, length, true, false, cond, Option, Some, None, refl, sym, ap, subst, ◌∙◌, arith, eqb, ltb, eq-eqb}
+use Rattle.std.proofs.Common.{◌≡◌, ℕ, suc, ◌+◌, ◌-◌, ◌%◌, ◌≤◌, inl, inr, pos, negsuc, ◌+ℤ◌, ◌-ℤ◌, List, length, true, false, Option, Some, None, refl, sym, ap, subst, ◌∙◌, arith, eqb, ltb, eq-eqb}
 use Rattle.std.specs.Prelude.{All, ◌&&◌, not}
 use Rattle.std.specs.List.{sum_by}
-use Rattle.std.specs.Option.{option_and_then, option_map_or}
+use Rattle.std.specs.Option.{option_map_or}
 use Rattle.std.proofs.Math.IntN.{+ℤ-neg_ℤ_cancel, +ℤ_comm}
 use Rattle.std.proofs.lemmas.Bool.{and_from, cases_lt, lt-ltb}
 use Rattle.zc_base.specs.MemMap.{IsMap}
@@ -18,7 +18,7 @@ use Rattle.psabi_reloc.specs.Reaches.{branch_reach}
 use Rattle.block_cut.specs.Faults.{distance_between, is_out_of_reach}
 use Rattle.block_cut.proofs.ReachLaws.{branch_place, is_far_branch, out_plain}
 use Rattle.block_cut.proofs.SizeLaws.{words_at}
-use Rattle.block_cut.specs.Items.{code_at, code_only, item_at, item_in, item_under, place_of, raw_in, size_at, size_on, starts_on, target_of}
+use Rattle.block_cut.specs.Items.{code_at, item_at, item_in, item_under, place_of, raw_in, size_at, size_on, starts_on, target_of}
 use Rattle.block_cut.specs.PlainLayout.{plain_address, plain_end_of, plain_start, starts_before}
 use Rattle.block_cut.specs.Relocs.{instr_in, is_sound, reloc_on}
 use Rattle.block_cut.specs.declared.item.Item.{Item}
@@ -27,6 +27,7 @@ use Rattle.block_cut.proofs.PlainLaws.{IsHere, address_bounds, here, offset_end,
 use Rattle.block_cut.proofs.RawLaws.{raw_by}
 use Rattle.block_cut.proofs.RoomLaws.{after_starts-ge, items_fit, section_end-code}
 use Rattle.block_cut.proofs.SoundLaws.{sound_at}
+use Rattle.block_cut.proofs.WholeLaws.{code_at_is}
 use Rattle.sound_objects.specs.Parts.{CanBeWritten, inputs_of_parts, objects_of}
 use Rattle.sound_objects.specs.Reach.{IsBranchless, IsShort, StaysIn, is_branch_kind}
 use Rattle.sound_objects.specs.WellFormed.{BranchesReach, HasSection}
@@ -87,7 +88,7 @@ module _ (inputs : ParsedInputs) (q : Place) (i : Item) (is : item_at inputs q �
 
 module _ (inputs : ParsedInputs) (l : IndexedSection) (has : HasSection inputs.objects l) (code : is_code_section l.section ≡ true) where
   code_here : (n : ℕ) → code_at inputs.objects (place_of l n) ≡ Some l.section
-  code_here n = ap (option_and_then code_only) has ∙ ap (λ b. cond b (Some l.section) None) code
+  code_here n = code_at_is inputs.objects (place_of l n) l.section has code
 
   item_here : (n : ℕ) → starts_on l.section n ≡ true → item_at inputs (place_of l n) ≡ Some (item_in inputs l.section (place_of l n))
   item_here n start = item_there inputs (place_of l n) l.section (code_here n) start

@@ -86,7 +86,7 @@ kept_same flags (s ∷ ss) = ap (λ b. is_kept_section s || b) (kept_same flags 
 added_dropped : (p : ObjectParts) → CanBeWritten p → list_any is_kept_section (map (in_object p.flags) (added_parts p)) ≡ false
 added_dropped p can = kept_same p.flags (added_parts p) ∙ (written_object p can).dropped
 
--- so the sections of a file have the room of the given ones
+-- the sections of a file take the room of the given ones
 given_room : (room : SectionParts → ℕ) → ((s : SectionParts) → is_kept_section s ≡ false → room s ≡ 0) → (p : ObjectParts) → CanBeWritten p
     → sum_by room (read_of p).sections ≡ sum_by room (map (in_object p.flags) p.sections)
 given_room room none p can =

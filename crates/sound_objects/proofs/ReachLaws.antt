@@ -32,7 +32,7 @@ use Rattle.sound_objects.proofs.FragmentLaws.{IsFragment, bytes_sized, one_on, f
 
 -- ---- words
 
--- a word's own bytes spell it
+-- the bytes of a word are read back as the word
 pub word_back : (w : ℕ) → w < 2 ^ 32 → word_in (word_bytes w) 0 ≡ w
 unfolding word_in
 word_back w small = word_of_bytes w small
@@ -57,7 +57,7 @@ fragment_word s n p long at =
 
 -- ---- relocations
 
--- one that is neither of a branch nor ALIGN
+-- a relocation that is neither of a branch nor ALIGN
 pub record IsNoBranchOrAlign (r : Reloc) : Type 0 where
   pub no_branch : is_branch_kind (kind_of r.kind) ≡ false
   pub no_align : eqb r.kind 43 ≡ false
@@ -118,14 +118,14 @@ module _ (fragments : List Fragment) (s : SectionParts) (made : IsMadeOf fragmen
               ∙ ap (λ v. is_branch (decoded v)) (fragment_word s (fragments_size at.front) at.fragment (omega (arith, size)) (there fragments s made at.front at.fragment at.back at.split)) ∙ no_branch
 
 module _ (l : IndexedSection) (fragments : List Fragment) (made : IsMadeOf fragments l.section) (no_branch : HaveNoBranchOrAlign fragments) where
-  -- they are short
+  -- a section of such fragments is short
   pub made_short : (inputs : ParsedInputs) → fragments_size fragments ≤ 4094 → IsShort inputs l
   made_short inputs short = record {
     room = omega (arith, ap length made.bytes, bytes_sized fragments, made_roomless fragments l.section made no_branch, short);
     stay = All-weaker IsNoBranchOrAlign (StaysIn inputs l) (λ r own is. absurd (cc (is, own.no_branch))) l.section.relocs (made_no_branch fragments l.section made no_branch);
   }
 
-  -- they have no branches
+  -- a section of such fragments has no branches
   pub made_branchless : IsWhole l.section → HaveNoBareBranch fragments → IsBranchless l
   made_branchless whole no_bare_branch = record {
     relocs = All-weaker IsNoBranchOrAlign (λ r. is_branch_kind (kind_of r.kind) ≡ false) (λ r own. own.no_branch) l.section.relocs (made_no_branch fragments l.section made no_branch);

@@ -29,7 +29,7 @@ ignored_alone (Some Ignored) ignored = refl
 ignored_alone (Some k) ignored = absurd cc
 
 module _ (inputs : ParsedInputs) (l : IndexedSection) (r : Reloc) where
-  -- one that is right in each way
+  -- a relocation that is right in each way has no fault
   pub no_reloc_fault : is_bad_kind l.section (kind_of r.kind) ≡ false → is_bad_place l.section r ≡ false → is_stray l.section r ≡ false → lacks_pcrel_hi inputs l r ≡ false → has_bad_target inputs l r ≡ false
       → reloc_fault inputs l r ≡ None
   no_reloc_fault kind place start pair target = rw (kind, place, start, pair, target) refl
@@ -38,7 +38,7 @@ module _ (inputs : ParsedInputs) (l : IndexedSection) (r : Reloc) where
   pub starts_right : starts_on l.section r.offset ≡ true → is_stray l.section r ≡ false
   starts_right start = and_right (is_code_section l.section) _ (and_right (not (is_ignored (kind_of r.kind))) _ (ap not start))
 
-  -- one that asks for nothing
+  -- a relocation that asks for nothing has no fault
   pub ignored_right : is_ignored (kind_of r.kind) ≡ true → reloc_fault inputs l r ≡ None
   ignored_right ignored =
       let idle = not_from_true (is_ignored (kind_of r.kind)) ignored in

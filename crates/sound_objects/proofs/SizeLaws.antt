@@ -45,7 +45,7 @@ sum_map : {X Y : Type 0} (f : Y → ℕ) (g : X → Y) (h : X → ℕ) → ((x :
 sum_map f g h le [] = omega arith
 sum_map f g h le (x ∷ xs) = omega (arith, sum_by-cons f (g x) (map g xs), sum_by-cons h x xs, le x, sum_map f g h le xs)
 
--- of those of a list that pass, with their indices
+-- the sum over the elements of a list that pass, with their indices
 sum_passed : {Y : Type 0} (f : Y → ℕ) (g : ℕ × SectionParts → Y) (h : SectionParts → ℕ) (p : ℕ × SectionParts → Bool) → ((e : ℕ × SectionParts) → f (g e) ≤ h e.1) → (n : ℕ) (xs : List SectionParts)
     → sum_by f (map g (filter p (enumerate_from n xs))) ≤ sum_by h xs
 sum_passed f g h p le n [] = omega arith
@@ -134,7 +134,7 @@ all_most xs ys =
       section_names_most xs,
     )
 
--- the file has at most so many bytes
+-- a bound for the size of the file
 pub size_most : (p : ObjectParts)
     → object_size p ≤ 268 + 80 * length p.sections + sum_by bytes_room p.sections + sum_by relocs_room p.sections + 16 * length p.symbols + sum_by symbol_name_room p.symbols + sum_by section_name_room p.sections + sum_by rela_name_room p.sections
 size_most p = omega (arith, all_most p.sections p.symbols, count_most p.sections p.symbols)

@@ -1,5 +1,4 @@
--- Code that is made of fragments, one after another: each is some bytes with a relocation at their start, or a word
--- without one.
+-- Code that is made of fragments, one after another: each is some bytes with a relocation at their start, or a word without one.
 use Rattle.std.specs.Prelude.{◌≡◌, ◌≤◌, ◌+◌, ◌%◌, ℕ, ℤ, true, false, List, [], ◌∷◌, ◌++◌, length, filter, All, Option, Some, None}
 use Rattle.std.specs.List.{flat_map, sum_by}
 use Rattle.zc_base.specs.Fields.{word_bytes}
@@ -35,14 +34,14 @@ pair_under r first second = record { bytes = word_bytes first ++ word_bytes seco
 
 -- ---- lists of them
 
--- how many bytes a fragment has, and fragments together
+-- the number of bytes of a fragment, and of fragments together
 abbrev pub fragment_size : Fragment → ℕ
 fragment_size p = length p.bytes
 
 abbrev pub fragments_size : List Fragment → ℕ
 fragments_size fragments = sum_by fragment_size fragments
 
--- their bytes
+-- the bytes of fragments, one after another
 abbrev pub fragments_bytes : List Fragment → List ℕ
 fragments_bytes fragments = flat_map (λ p. p.bytes) fragments
 
@@ -50,7 +49,7 @@ fragments_bytes fragments = flat_map (λ p. p.bytes) fragments
 abbrev pub fragment_reloc_at : ℕ → FragmentReloc → Reloc
 fragment_reloc_at at r = record { offset = at; symbol = r.symbol; kind = r.kind; addend = r.addend }
 
--- those of a fragment, and of fragments from an offset on
+-- the relocations of a fragment, and of fragments from an offset on
 abbrev pub relocs_at : ℕ → Option FragmentReloc → List Reloc
 relocs_at at None = []
 relocs_at at (Some r) = fragment_reloc_at at r ∷ []

@@ -27,12 +27,12 @@ pub record HasSymbol (objects : List ObjectParts) (l : IndexedSymbol) : Type 0 w
   pub some : 1 ≤ l.index
   pub there : symbol_at objects l.object l.index ≡ Some l.symbol
 
--- it is a strong definition
+-- objects have this symbol, and it is a strong definition
 pub record HasStrong (objects : List ObjectParts) (l : IndexedSymbol) : Type 0 where
   pub has : HasSymbol objects l
   pub strong : is_strong l.symbol ≡ true
 
--- it needs a definition: it is global (1) and undefined (0), and a relocation names it
+-- objects have this symbol, and it needs a definition: it is global (1) and undefined (0), and a relocation names it
 pub record HasNeeded (objects : List ObjectParts) (l : IndexedSymbol) : Type 0 where
   pub has : HasSymbol objects l
   pub global : l.symbol.bind ≡ 1

@@ -1,4 +1,4 @@
--- Words of hexadecimal digits, and what they spell.
+-- Words of hexadecimal digits, and their numbers.
 use Rattle.std.proofs.Common.{◌≡◌, ℕ, ◌+◌, ◌*◌, ◌/◌, ◌%◌, ◌^◌, ◌<◌, Some, None, true, List, [], ◌∷◌, ◌++◌, length, get_or, take, drop, ltb, eqb, refl, ap, ap₂, sym, ◌∙◌, arith}
 use Rattle.std.specs.Char.{digit_value}
 use Rattle.std.specs.Str.Parse.{digits_value}
@@ -72,7 +72,7 @@ hex_word_of_is word n is =
     let parts = spelled_is (ltb (digits_value 16 word) (2 ^ 32)) hex_word (digits_value 16 word) word n is in
     (let below = ltb-true _ _ parts.0 in omega (arith, below, parts.2), parts.1 ∙ ap hex_word parts.2)
 
--- its bytes, from the highest on
+-- the bytes of a word of digits, from the highest on
 byte_at : (n b high low : ℕ) → n / 2 ^ high % 16 ≡ b / 2 ^ 4 % 16 → n / 2 ^ low % 16 ≡ b / 2 ^ 0 % 16 → hex_at n high ∷ hex_at n low ∷ [] ≡ hex_byte b
 byte_at n b high low h l = ap₂ (λ x y. hex_digit x ∷ hex_digit y ∷ []) h l
 
@@ -88,11 +88,11 @@ third_byte n = byte_at n (n / 2 ^ 8 % 256) 12 8 (omega arith) (omega arith)
 pub fourth_byte : (n : ℕ) → drop 6 (hex_word n) ≡ hex_byte (n / 2 ^ 0 % 256)
 fourth_byte n = byte_at n (n / 2 ^ 0 % 256) 4 0 (omega arith) (omega arith)
 
--- a word is none where one of these spells no byte
+-- a word is no number where two of its digits are no byte
 pub hex_word_of-bad : (word part : List ℕ) (byte : ℕ → ℕ) → ((n : ℕ) → byte n < 256) → ((n : ℕ) → word ≡ hex_word n → part ≡ hex_byte (byte n)) → hex_byte_of part ≡ None → hex_word_of word ≡ None
 hex_word_of-bad word part byte small is bad = hex_word_of-None word (λ n lt same. let good = hex_byte_of-Some (byte n) part (small n) (is n same) in cc)
 
--- and from them
+-- a word of digits from four bytes
 pub four_bytes : (a b c d : ℕ) → a < 256 → b < 256 → c < 256 → d < 256 → hex_byte a ++ (hex_byte b ++ (hex_byte c ++ hex_byte d)) ≡ hex_word (a * 2 ^ 24 + b * 2 ^ 16 + c * 2 ^ 8 + d)
 four_bytes a b c d la lb lc ld =
     let n : ℕ = a * 2 ^ 24 + b * 2 ^ 16 + c * 2 ^ 8 + d in

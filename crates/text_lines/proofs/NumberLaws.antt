@@ -1,4 +1,4 @@
--- A word spells a number where it is what is printed of it.
+-- A word is a number where it is what is printed of it.
 use Rattle.std.proofs.Common.{◌≡◌, ◌⊎◌, ℕ, ◌^◌, ◌<◌, ◌≤◌, Some, None, Bool, true, List, length, get_or, leb, inl, inr, ap, sym, ◌∙◌, subst, arith}
 use Rattle.std.specs.Prelude.{◌&&◌, bytes_eq}
 use Rattle.std.specs.Fmt.{decimal}

@@ -5,7 +5,7 @@ use Rattle.std.specs.Prelude.{ℕ, ◌+◌, ◌/◌, ◌%◌, ◌^◌, nat_lt, i
 abbrev pub hex_digit : ℕ → ℕ
 hex_digit d = if nat_lt d 10 then 48 + d else 87 + d
 
--- the hexadecimal digit of a number that stands before this many bits
+-- the hexadecimal digit of the four bits of a number from bit `shift` up
 abbrev pub hex_at : ℕ → ℕ → ℕ
 hex_at n shift = hex_digit (n / 2 ^ shift % 16)
 

@@ -1,4 +1,4 @@
--- The numbers that words spell: those of which the word is what is printed.
+-- The numbers that words are: a word is a number if the number is printed as that word.
 use Rattle.std.specs.Prelude.{ℕ, ◌^◌, Bool, ◌&&◌, nat_le, nat_lt, bytes_eq, if◌then◌else◌, List, Option, Some, None, decimal}
 use Rattle.std.specs.Str.Parse.{digits_value}
 use Rattle.text_lines.specs.Hex.{hex_byte, hex_word}

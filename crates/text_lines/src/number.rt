@@ -4,7 +4,7 @@ ghost use Rattle.std.specs.Prelude.{◌≡◌, ◌^◌, ◌<◌, ◌≤◌, ◌�
 ghost use Rattle.std.specs.Str.Parse.{AllDigits, digits_value};
 ghost use Rattle.text_lines.specs.Number.{decimal_of};
 
-/// The number that a word spells without leading zeros, where it isn't above a limit.
+/// The number of a word without leading zeros, if it isn't above a limit.
 pub fn read_number(word: &[u8], limit: u64) -> Option<u64>
     ensures value { result ≡ decimal_of limit word.now }
     ensures below { IfSome result (λ n. n ≤ limit) }
@@ -27,7 +27,7 @@ fn has_leading_zero(word: &[u8]) -> bool
     }
 }
 
-// The 64-bit number that digits spell, leading zeros or not.
+// The 64-bit number of digits, with leading zeros or not.
 fn digits_number(digits: &[u8]) -> Option<u64>
     ensures { SomeIff result ((0 < length digits.now) × AllDigits 10 digits.now
         × (digits_value 10 digits.now < 2 ^ 64)) (digits_value 10 digits.now) }

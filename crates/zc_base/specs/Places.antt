@@ -2,7 +2,7 @@
 use Rattle.std.specs.Prelude.{Bool, ◌&&◌, ◌||◌, ◌==◌, nat_lt}
 use Rattle.zc_base.specs.declared.place.Place.{Place}
 
--- the same object, section and offset
+-- two places have the same object, section and offset
 abbrev pub same_place : Place → Place → Bool
 same_place p q = p.object == q.object && (p.section == q.section && p.offset == q.offset)
 

@@ -8,9 +8,10 @@ use Rattle.std.proofs.lemmas.Bool.Decides.{eqb_tells}
 use Rattle.std.proofs.lemmas.Option.{same_Some}
 use Rattle.rv_decode.specs.Bits.{field}
 use Rattle.rv_decode.specs.Decode.{row_of}
+use Rattle.rv_decode.specs.Formats.{rd_of}
 use Rattle.rv_decode.proofs.RowLaws.{EachRow}
 use Rattle.zc_decode.specs.Fields as fields
-use Rattle.zc_decode.specs.Fields.{c_rd_of, c_rs2_of, index_of, list_of, s_register_of}
+use Rattle.zc_decode.specs.Fields.{c_rs2_of, index_of, list_of, s_register_of}
 use Rattle.zc_decode.specs.Halfwords.{decoded16, spelled}
 use Rattle.zc_decode.specs.Lists.{stack_adjust_base, registers_of, saved_registers}
 use Rattle.zc_decode.specs.Operands.{HasOperands, IsFrameSize, IsMoved}
@@ -93,10 +94,10 @@ module _ (half : ℕ) where
   jumps_fit : RowFits (jump_row half)
   jumps_fit =
       rows_fit (eqb (c_rs2_of half) 0)
-      (cond (eqb (field half 12 1) 0) (unless (eqb (c_rd_of half) 0) CJr) (cond (eqb (c_rd_of half) 0) (Some CEbreak) (Some CJalr)))
+      (cond (eqb (field half 12 1) 0) (unless (eqb (rd_of half) 0) CJr) (cond (eqb (rd_of half) 0) (Some CEbreak) (Some CJalr)))
       (cond (eqb (field half 12 1) 0) (Some CMv) (Some CAdd))
-      (rows_fit (eqb (field half 12 1) 0) (unless (eqb (c_rd_of half) 0) CJr) (cond (eqb (c_rd_of half) 0) (Some CEbreak) (Some CJalr))
-      (rows_fit (eqb (c_rd_of half) 0) None (Some CJr) tt tt) (rows_fit (eqb (c_rd_of half) 0) (Some CEbreak) (Some CJalr) tt tt))
+      (rows_fit (eqb (field half 12 1) 0) (unless (eqb (rd_of half) 0) CJr) (cond (eqb (rd_of half) 0) (Some CEbreak) (Some CJalr))
+      (rows_fit (eqb (rd_of half) 0) None (Some CJr) tt tt) (rows_fit (eqb (rd_of half) 0) (Some CEbreak) (Some CJalr) tt tt))
       (rows_fit (eqb (field half 12 1) 0) (Some CMv) (Some CAdd) tt tt)
 
   form_fits : RowFits (form_of half)
@@ -111,13 +112,13 @@ module _ (half : ℕ) where
             (
               row_fits zcb_memory (field half 10 3 * 2 + field half 6 1) (tt, (tt, (tt, (tt, (tt, (tt, (tt, tt))))))),
               (
-                either_fits (eqb (c_rd_of half) 0) CNop CAddi tt tt,
+                either_fits (eqb (rd_of half) 0) CNop CAddi tt tt,
                 (
                   tt,
                   (
                     tt,
                     (
-                      rows_fit (eqb (fields.lui_of half) 0) None (Some (cond (eqb (c_rd_of half) 2) CAddi16sp CLui)) tt (either_fits (eqb (c_rd_of half) 2) CAddi16sp CLui tt tt),
+                      rows_fit (eqb (fields.lui_of half) 0) None (Some (cond (eqb (rd_of half) 2) CAddi16sp CLui)) tt (either_fits (eqb (rd_of half) 2) CAddi16sp CLui tt tt),
                       (
                         flat_fits (operations half) (field half 10 2) operations_fit,
                         (
@@ -129,7 +130,7 @@ module _ (half : ℕ) where
                               (
                                 rows_fit (eqb (field half 12 1) 1) None (Some CSlli) tt tt,
                                 (
-                                  rows_fit (eqb (c_rd_of half) 0) None (Some CLwsp) tt tt,
+                                  rows_fit (eqb (rd_of half) 0) None (Some CLwsp) tt tt,
                                   (
                                     jumps_fit,
                                     (flat_fits (zcmp_rows half) (field half 10 3) zcmp_fit, (tt, tt)),

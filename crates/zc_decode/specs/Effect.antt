@@ -75,7 +75,7 @@ table_jumps index size z =
 
 -- ---- instructions
 
--- the effect of an instruction that takes this many bytes
+-- the effect of an instruction of `size` bytes
 abbrev pub short_effect : Short → ℕ → ZcCore → Effect
 short_effect (Base i) size z = effect i size z
 short_effect (Push list adjust) size z = frames (Push list adjust) (framed (Push list adjust) size z) z

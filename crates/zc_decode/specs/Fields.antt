@@ -8,11 +8,7 @@ use Rattle.zc_decode.specs.Lists.{stack_adjust_base}
 abbrev pub group_of : ℕ → ℕ
 group_of half = field half 13 3 * 4 + field half 0 2
 
--- ---- registers
-
--- the register of bits 11 to 7: rd, and rs1
-abbrev pub c_rd_of : ℕ → ℕ
-c_rd_of half = field half 7 5
+-- ---- registers: that of bits 11 to 7, rd and rs1, stands where a word's rd does (rd_of)
 
 -- the register of bits 6 to 2: rs2
 abbrev pub c_rs2_of : ℕ → ℕ

@@ -1,7 +1,8 @@
 -- The halfwords that are hints, and the numbers of the rows (RISC-V unprivileged manual, "HINT Instructions" of the C extension).
 use Rattle.std.specs.Prelude.{ℕ, pos, Bool, false, not, ◌==◌, ◌||◌}
 use Rattle.std.specs.Ordering.{int_eq}
-use Rattle.zc_decode.specs.Fields.{amount_of, c_rd_of, imm_ci_of}
+use Rattle.rv_decode.specs.Formats.{rd_of}
+use Rattle.zc_decode.specs.Fields.{amount_of, imm_ci_of}
 use Rattle.zc_decode.specs.declared.form.Form.{Form}
 use Rattle.zc_decode.specs.declared.form.Form.TheVariants.{CAddi4spn, CLw, CSw, CLbu, CLhu, CLh, CSb, CSh, CNop, CAddi, CJal, CLi, CAddi16sp, CLui, CSrli, CSrai, CAndi, CSub, CXor, COr, CAnd, CMul, CZextB, CNot, CJ, CBeqz, CBnez, CSlli, CLwsp, CJr, CMv, CEbreak, CJalr, CAdd, CSwsp, CmPush, CmPop, CmPopretz, CmPopret, CmMvsa01, CmMva01s, CmJt, CmJalt}
 
@@ -18,9 +19,9 @@ is_hint CSh half = false
 is_hint CNop half = not (int_eq (imm_ci_of half) (pos 0))
 is_hint CAddi half = int_eq (imm_ci_of half) (pos 0)
 is_hint CJal half = false
-is_hint CLi half = c_rd_of half == 0
+is_hint CLi half = rd_of half == 0
 is_hint CAddi16sp half = false
-is_hint CLui half = c_rd_of half == 0
+is_hint CLui half = rd_of half == 0
 is_hint CSrli half = amount_of half == 0
 is_hint CSrai half = amount_of half == 0
 is_hint CAndi half = false
@@ -34,13 +35,13 @@ is_hint CNot half = false
 is_hint CJ half = false
 is_hint CBeqz half = false
 is_hint CBnez half = false
-is_hint CSlli half = c_rd_of half == 0 || amount_of half == 0
+is_hint CSlli half = rd_of half == 0 || amount_of half == 0
 is_hint CLwsp half = false
 is_hint CJr half = false
-is_hint CMv half = c_rd_of half == 0
+is_hint CMv half = rd_of half == 0
 is_hint CEbreak half = false
 is_hint CJalr half = false
-is_hint CAdd half = c_rd_of half == 0
+is_hint CAdd half = rd_of half == 0
 is_hint CSwsp half = false
 is_hint CmPush half = false
 is_hint CmPop half = false

@@ -18,7 +18,7 @@ pub record IsFrameSize (list adjust : ℕ) : Type 0 where
 abbrev pub IsMoved : ℕ → Type 0
 IsMoved r = ((8 ≤ r) × (r ≤ 9)) ⊎ ((18 ≤ r) × (r ≤ 23))
 
--- the operands of what a halfword spells, if it is a push, a pop or a pair of moves. The moves from a0 and a1 have two different
+-- the operands of what a halfword encodes, if it is a push, a pop or a pair of moves. The moves from a0 and a1 have two different
 -- registers
 abbrev pub HasOperands : Short → Type 0
 HasOperands (Base i) = Unit {0}

@@ -4,7 +4,8 @@ use Rattle.std.specs.Prelude.{ℕ, ◌+◌, ◌*◌, List, [], ◌∷◌, Option
 use Rattle.std.specs.Option.{option_flatten}
 use Rattle.rv_decode.specs.Bits.{field}
 use Rattle.rv_decode.specs.Decode.{row_of}
-use Rattle.zc_decode.specs.Fields.{addi4spn_of, group_of, lui_of, c_rd_of, c_rs2_of, index_of, list_of}
+use Rattle.rv_decode.specs.Formats.{rd_of}
+use Rattle.zc_decode.specs.Fields.{addi4spn_of, group_of, lui_of, c_rs2_of, index_of, list_of}
 use Rattle.zc_decode.specs.declared.form.Form.{Form}
 use Rattle.zc_decode.specs.declared.form.Form.TheVariants.{CAddi4spn, CLw, CSw, CLbu, CLhu, CLh, CSb, CSh, CNop, CAddi, CJal, CLi, CAddi16sp, CLui, CSrli, CSrai, CAndi, CSub, CXor, COr, CAnd, CMul, CZextB, CNot, CJ, CBeqz, CBnez, CSlli, CLwsp, CJr, CMv, CEbreak, CJalr, CAdd, CSwsp, CmPush, CmPop, CmPopretz, CmPopret, CmMvsa01, CmMva01s, CmJt, CmJalt}
 
@@ -57,7 +58,7 @@ operations half =
 abbrev pub jump_row : ℕ → Option Form
 jump_row half =
     if c_rs2_of half == 0
-    then (if field half 12 1 == 0 then unless (c_rd_of half == 0) CJr else (if c_rd_of half == 0 then Some CEbreak else Some CJalr))
+    then (if field half 12 1 == 0 then unless (rd_of half == 0) CJr else (if rd_of half == 0 then Some CEbreak else Some CJalr))
     else (if field half 12 1 == 0 then Some CMv else Some CAdd)
 
 -- pushes and pops, by bits 12 to 8
@@ -94,16 +95,16 @@ groups half =
     (0b010_00, Some CLw) ∷
     (0b110_00, Some CSw) ∷
     (0b100_00, row_of zcb_memory (field half 10 3 * 2 + field half 6 1)) ∷
-    (0b000_01, Some (if c_rd_of half == 0 then CNop else CAddi)) ∷
+    (0b000_01, Some (if rd_of half == 0 then CNop else CAddi)) ∷
     (0b001_01, Some CJal) ∷
     (0b010_01, Some CLi) ∷
-    (0b011_01, unless (lui_of half == 0) (if c_rd_of half == 2 then CAddi16sp else CLui)) ∷
+    (0b011_01, unless (lui_of half == 0) (if rd_of half == 2 then CAddi16sp else CLui)) ∷
     (0b100_01, option_flatten (row_of (operations half) (field half 10 2))) ∷
     (0b101_01, Some CJ) ∷
     (0b110_01, Some CBeqz) ∷
     (0b111_01, Some CBnez) ∷
     (0b000_10, unless (field half 12 1 == 1) CSlli) ∷
-    (0b010_10, unless (c_rd_of half == 0) CLwsp) ∷
+    (0b010_10, unless (rd_of half == 0) CLwsp) ∷
     (0b100_10, jump_row half) ∷
     (0b101_10, option_flatten (row_of (zcmp_rows half) (field half 10 3))) ∷
     (0b110_10, Some CSwsp) ∷

@@ -10,7 +10,8 @@ use Rattle.rv_decode.specs.declared.instr.ImmOp.{ImmOp}
 use Rattle.rv_decode.specs.declared.instr.ImmOp.TheVariants.{Addi, Slti, Sltiu, Xori, Ori, Andi, Slli, Srli, Srai}
 use Rattle.rv_decode.specs.Bits.{as_word, field, signed}
 use Rattle.rv_decode.specs.Decode.{row_of}
-use Rattle.zc_decode.specs.Fields.{addi16sp_of, addi4spn_of, amount_of, group_of, high_reg_of, imm_ci_of, low_reg_of, lui_of, c_rd_of, c_rs2_of}
+use Rattle.rv_decode.specs.Formats.{rd_of}
+use Rattle.zc_decode.specs.Fields.{addi16sp_of, addi4spn_of, amount_of, group_of, high_reg_of, imm_ci_of, low_reg_of, lui_of, c_rs2_of}
 use Rattle.zc_decode.specs.Rows.{form_of, unless, zcb_unary}
 use Rattle.zc_decode.specs.declared.form.Form.TheVariants.{CAdd, CAddi, CAddi16sp, CAddi4spn, CAndi, CLi, CLui, CMv, CNop, CNot, CSlli, CSrai, CSrli, CZextB}
 use Rattle.zc_decode.specs.declared.short.Short.TheVariants.{Base}
@@ -76,8 +77,8 @@ addi_row_is rd first half imm small h =
     let t = when_some (eqb first rd && (not (eqb rd 0) && (has_bits 6 imm && not (int_eq imm (pos 0))))) (six_half 0b000_01 rd imm) half h in
     let tests = and_four (eqb first rd) (not (eqb rd 0)) (has_bits 6 imm) (not (int_eq imm (pos 0))) t.0 in
     let s = six 0b000_01 rd half imm (omega arith) small tests.2 t.1 in
-    let some : eqb (c_rd_of half) 0 ≡ false = ap (λ k. eqb k 0) s.fields.above ∙ not-true (eqb rd 0) tests.1 in
-    let source : c_rd_of half ≡ first = s.fields.above ∙ sym (eqb-true first rd tests.0) in
+    let some : eqb (rd_of half) 0 ≡ false = ap (λ k. eqb k 0) s.fields.above ∙ not-true (eqb rd 0) tests.1 in
+    let source : rd_of half ≡ first = s.fields.above ∙ sym (eqb-true first rd tests.0) in
     record {
       small = s.fields.small;
       row = form_in_group half 0b000_01 _ s.fields.in_group refl ∙ ap (λ b. Some (cond b CNop CAddi)) some;
@@ -114,7 +115,7 @@ addi16sp_row rd first half imm h =
         let m : addi16sp_of half ≡ imm = ap (signed 10) bits ∙ value in
         record {
           small = f.small;
-          row = form_in_group half 0b011_01 _ f.in_group refl ∙ ap (λ b. unless b (cond (eqb (c_rd_of half) 2) CAddi16sp CLui)) nonzero ∙ ap (λ k. Some (cond (eqb k 2) CAddi16sp CLui)) f.above;
+          row = form_in_group half 0b011_01 _ f.in_group refl ∙ ap (λ b. unless b (cond (eqb (rd_of half) 2) CAddi16sp CLui)) nonzero ∙ ap (λ k. Some (cond (eqb k 2) CAddi16sp CLui)) f.above;
           no_hint = refl;
           is = λ i. Base (WithImm Addi (sym sp i) (sym source i) (m i));
         }
@@ -201,14 +202,14 @@ slli_row rd first half imm small h =
     let tests = and_three (eqb first rd) (not (eqb rd 0)) (is_amount imm) t.0 in
     let a = amount imm tests.2 in
     let f = fields_of 0b000_10 0 rd (as_word imm) half t.1 (omega arith) (omega arith) small a.below in
-    let source : c_rd_of half ≡ first = f.above ∙ sym (eqb-true first rd tests.0) in
+    let source : rd_of half ≡ first = f.above ∙ sym (eqb-true first rd tests.0) in
     let m : pos (amount_of half) ≡ imm = ap pos f.below ∙ a.value in
-    let no_rd : eqb (c_rd_of half) 0 ≡ false = ap (λ k. eqb k 0) f.above ∙ not-true (eqb rd 0) tests.1 in
+    let no_rd : eqb (rd_of half) 0 ≡ false = ap (λ k. eqb k 0) f.above ∙ not-true (eqb rd 0) tests.1 in
     let no_amount : eqb (amount_of half) 0 ≡ false = ap (λ k. eqb k 0) f.below ∙ a.some in
     record {
       small = f.small;
       row = form_in_group half 0b000_10 _ f.in_group refl ∙ ap (λ k. unless (eqb k 1) CSlli) f.twelfth;
-      no_hint = or_from (eqb (c_rd_of half) 0) (eqb (amount_of half) 0) no_rd no_amount;
+      no_hint = or_from (eqb (rd_of half) 0) (eqb (amount_of half) 0) no_rd no_amount;
       is = λ i. Base (WithImm Slli (f.above i) (source i) (m i));
     }
 
@@ -306,10 +307,10 @@ lui_row_is rd imm half small h =
     let f = fields_of 0b011_01 (field imm 5 1) rd (field imm 0 5) half t.1 (omega arith) (omega arith) small (omega arith) in
     let v = lui_value imm half tests.2 f.twelfth f.below in
     let some : eqb (lui_of half) 0 ≡ false = ne_eqb (lui_of half) 0 (λ e. omega (arith, v, e)) in
-    let not_sp : eqb (c_rd_of half) 2 ≡ false = ap (λ k. eqb k 2) f.above ∙ not-true (eqb rd 2) tests.1 in
+    let not_sp : eqb (rd_of half) 2 ≡ false = ap (λ k. eqb k 2) f.above ∙ not-true (eqb rd 2) tests.1 in
     record {
       small = f.small;
-      row = form_in_group half 0b011_01 _ f.in_group refl ∙ ap (λ b. unless b (cond (eqb (c_rd_of half) 2) CAddi16sp CLui)) some ∙ ap (λ b. Some (cond b CAddi16sp CLui)) not_sp;
+      row = form_in_group half 0b011_01 _ f.in_group refl ∙ ap (λ b. unless b (cond (eqb (rd_of half) 2) CAddi16sp CLui)) some ∙ ap (λ b. Some (cond b CAddi16sp CLui)) not_sp;
       no_hint = ap (λ k. eqb k 0) f.above ∙ not-true (eqb rd 0) tests.0;
       is = λ i. Base (Upper Lui (f.above i) (v.0 i));
     }

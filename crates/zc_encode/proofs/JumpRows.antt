@@ -7,7 +7,8 @@ use Rattle.rv_decode.specs.declared.instr.Instr.TheVariants.{Branch, Jal, Jalr}
 use Rattle.rv_decode.specs.declared.instr.BranchOp.{BranchOp}
 use Rattle.rv_decode.specs.declared.instr.BranchOp.TheVariants.{Beq, Bne, Blt, Bge, Bltu, Bgeu}
 use Rattle.rv_decode.specs.Bits.{field, signed}
-use Rattle.zc_decode.specs.Fields.{cb_offset_of, group_of, high_reg_of, cj_offset_of, c_rd_of, c_rs2_of}
+use Rattle.rv_decode.specs.Formats.{rd_of}
+use Rattle.zc_decode.specs.Fields.{cb_offset_of, group_of, high_reg_of, cj_offset_of, c_rs2_of}
 use Rattle.zc_decode.specs.Rows.{unless}
 use Rattle.zc_decode.specs.declared.form.Form.TheVariants.{CBeqz, CBnez, CEbreak, CJ, CJal, CJalr, CJr}
 use Rattle.zc_decode.specs.declared.short.Short.TheVariants.{Base}
@@ -58,7 +59,7 @@ jalr_row rd base half imm small h =
     let tests = and_three (ltb rd 2) (not (eqb base 0)) (int_eq imm (pos 0)) t.0 in
     let two = ltb-true rd 2 tests.0 in
     let f = fields_of 0b100_10 rd base 0 half t.1 (omega arith) two small (omega arith) in
-    let some : eqb (c_rd_of half) 0 ≡ false = ap (λ k. eqb k 0) f.above ∙ not-true (eqb base 0) tests.1 in
+    let some : eqb (rd_of half) 0 ≡ false = ap (λ k. eqb k 0) f.above ∙ not-true (eqb base 0) tests.1 in
     let none : eqb (c_rs2_of half) 0 ≡ true = ap (λ k. eqb k 0) f.below in
     let m : pos 0 ≡ imm = sym (int_is imm (pos 0) tests.2) in
     let group = form_in_group half 0b100_10 _ f.in_group refl ∙ cond-true (eqb (c_rs2_of half) 0) _ _ none in
@@ -66,7 +67,7 @@ jalr_row rd base half imm small h =
       CJr,
       record {
         small = f.small;
-        row = group ∙ ap (λ k. cond (eqb k 0) (unless (eqb (c_rd_of half) 0) CJr) (cond (eqb (c_rd_of half) 0) (Some CEbreak) (Some CJalr))) (f.twelfth ∙ e) ∙ ap (λ b. unless b CJr) some;
+        row = group ∙ ap (λ k. cond (eqb k 0) (unless (eqb (rd_of half) 0) CJr) (cond (eqb (rd_of half) 0) (Some CEbreak) (Some CJalr))) (f.twelfth ∙ e) ∙ ap (λ b. unless b CJr) some;
         no_hint = refl;
         is = λ i. Base (Jalr (sym e i) (f.above i) (m i));
       },
@@ -74,7 +75,7 @@ jalr_row rd base half imm small h =
       CJalr,
       record {
         small = f.small;
-        row = group ∙ ap (λ k. cond (eqb k 0) (unless (eqb (c_rd_of half) 0) CJr) (cond (eqb (c_rd_of half) 0) (Some CEbreak) (Some CJalr))) (f.twelfth ∙ e) ∙ ap (λ b. cond b (Some CEbreak) (Some CJalr)) some;
+        row = group ∙ ap (λ k. cond (eqb k 0) (unless (eqb (rd_of half) 0) CJr) (cond (eqb (rd_of half) 0) (Some CEbreak) (Some CJalr))) (f.twelfth ∙ e) ∙ ap (λ b. cond b (Some CEbreak) (Some CJalr)) some;
         no_hint = refl;
         is = λ i. Base (Jalr (sym e i) (f.above i) (m i));
       },

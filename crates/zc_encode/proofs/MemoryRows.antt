@@ -9,7 +9,8 @@ use Rattle.rv_decode.specs.declared.instr.StoreOp.{StoreOp}
 use Rattle.rv_decode.specs.declared.instr.StoreOp.TheVariants.{Sb, Sh, Sw}
 use Rattle.rv_decode.specs.Bits.{as_word, field}
 use Rattle.rv_decode.specs.Decode.{row_of}
-use Rattle.zc_decode.specs.Fields.{byte_offset_of, group_of, half_offset_of, high_reg_of, low_reg_of, lwsp_of, c_rd_of, swsp_of, word_offset_of}
+use Rattle.rv_decode.specs.Formats.{rd_of}
+use Rattle.zc_decode.specs.Fields.{byte_offset_of, group_of, half_offset_of, high_reg_of, low_reg_of, lwsp_of, swsp_of, word_offset_of}
 use Rattle.zc_decode.specs.Rows.{unless, zcb_memory}
 use Rattle.zc_decode.specs.declared.form.Form.TheVariants.{CLbu, CLh, CLhu, CLw, CLwsp, CSb, CSh, CSw, CSwsp}
 use Rattle.zc_decode.specs.declared.short.Short.TheVariants.{Base}
@@ -162,7 +163,7 @@ lwsp_row rd base half imm h small =
     let o = offset 256 4 imm (omega arith) tests.2 in
     let f = fields_of 0b010_10 (field n 5 1) rd (field n 2 3 * 4 + field n 6 2) half t.1 (omega arith) (omega arith) small (omega arith) in
     let is_base : 2 ≡ base = sym (eqb-true base 2 tests.0) in
-    let some : eqb (c_rd_of half) 0 ≡ false = ap (λ r. eqb r 0) f.above ∙ not-true (eqb rd 0) tests.1 in
+    let some : eqb (rd_of half) 0 ≡ false = ap (λ r. eqb r 0) f.above ∙ not-true (eqb rd 0) tests.1 in
     let value : pos (lwsp_of half) ≡ imm = ap pos (lwsp_is n half o.below o.whole f.twelfth f.below) ∙ o.value in
     record {
       small = f.small;

@@ -60,7 +60,7 @@ amount imm h =
 
 -- ---- two's complement
 
--- a number of so many bits is what its low bits spell; `high` is what a word's bits above these count to
+-- a number of `bits` bits is what its low bits encode; `high` is what a word's bits above these count to
 module _ (bits high : ℕ) (word : 2 ^ 32 ≡ high * 2 ^ bits + 2 ^ bits) (twice : 2 ^ bits ≡ 2 * 2 ^ (bits - 1)) where
   low_is : (z : ℤ) → has_bits bits z ≡ true → signed bits (low_bits bits z) ≡ z
   low_is (pos n) h =

@@ -7,8 +7,9 @@ use Rattle.rv_decode.specs.declared.instr.Instr.TheVariants.{WithReg}
 use Rattle.rv_decode.specs.declared.instr.RegOp.{RegOp}
 use Rattle.rv_decode.specs.declared.instr.RegOp.TheVariants.{Add, Sub, Sll, Slt, Sltu, Xor, Srl, Sra, Or, And, Mul, Mulh, Mulhsu, Mulhu, Div, Divu, Rem, Remu}
 use Rattle.rv_decode.specs.Bits.{field}
+use Rattle.rv_decode.specs.Formats.{rd_of}
 use Rattle.rv_decode.specs.Normal.{greater_first}
-use Rattle.zc_decode.specs.Fields.{group_of, high_reg_of, low_reg_of, c_rd_of, c_rs2_of}
+use Rattle.zc_decode.specs.Fields.{group_of, high_reg_of, low_reg_of, c_rs2_of}
 use Rattle.zc_decode.specs.declared.form.Form.TheVariants.{CAdd, CAnd, CMul, CMv, COr, CSub, CXor}
 use Rattle.zc_decode.specs.declared.short.Short.TheVariants.{Base}
 use Rattle.zc_decode.proofs.FormLaws.{form_in_group, form_in_registers}
@@ -106,12 +107,12 @@ plus_row rd second half i small source h same =
     let tests = and_parts (not (eqb rd 0)) (not (eqb second 0)) t.0 in
     let f = fields_of 0b100_10 1 rd second half t.1 (omega arith) (omega arith) small source in
     let some : eqb (c_rs2_of half) 0 ≡ false = ap (λ k. eqb k 0) f.below ∙ not-true (eqb second 0) tests.1 in
-    let target : eqb (c_rd_of half) 0 ≡ false = ap (λ k. eqb k 0) f.above ∙ not-true (eqb rd 0) tests.0 in
+    let target : eqb (rd_of half) 0 ≡ false = ap (λ k. eqb k 0) f.above ∙ not-true (eqb rd 0) tests.0 in
     record {
       small = f.small;
       row = form_in_group half 0b100_10 _ f.in_group refl ∙ cond-false (eqb (c_rs2_of half) 0) _ _ some ∙ ap (λ k. cond (eqb k 0) (Some CMv) (Some CAdd)) f.twelfth;
       no_hint = target;
-      is = ap Base (cond-false (eqb (c_rs2_of half) 0) _ _ some ∙ cond-false (eqb (c_rd_of half) 0) _ _ target ∙ (λ k. greater_first Add (f.above k) (f.above k) (f.below k)) ∙ same);
+      is = ap Base (cond-false (eqb (c_rs2_of half) 0) _ _ some ∙ cond-false (eqb (rd_of half) 0) _ _ target ∙ (λ k. greater_first Add (f.above k) (f.above k) (f.below k)) ∙ same);
     }
 
 add_row : (rd first second half : ℕ) → rd < 32 → first < 32 → second ≤ first → add_half rd first second ≡ Some half → Row CAdd half (WithReg Add rd first second)

@@ -6,8 +6,9 @@ use Rattle.std.specs.Option.{option_flatten}
 use Rattle.std.proofs.lemmas.Bool.{agree_below, agree_below_at}
 use Rattle.rv_decode.specs.Decode.{row_of}
 use Rattle.rv_decode.specs.Bits.{field}
+use Rattle.rv_decode.specs.Formats.{rd_of}
 use Rattle.rv_decode.proofs.RowLaws.{EachRow, row_found}
-use Rattle.zc_decode.specs.Fields.{addi4spn_of, c_rd_of, group_of, lui_of}
+use Rattle.zc_decode.specs.Fields.{addi4spn_of, group_of, lui_of}
 use Rattle.zc_decode.specs.Halfwords.{spelled}
 use Rattle.zc_decode.specs.Hints.{is_hint, row_number}
 use Rattle.zc_decode.specs.Rows.{form_of, groups, jump_row, operations, unless, zcb_memory, zcmp_rows}
@@ -79,16 +80,16 @@ each_group half small =
     let lw = at_group 0b010_00 (λ h. Some CLw) refl half small in
     let sw = at_group 0b110_00 (λ h. Some CSw) refl half small in
     let zcb = at_group 0b100_00 (λ h. row_of zcb_memory (field h 10 3 * 2 + field h 6 1)) refl half small in
-    let addi = at_group 0b000_01 (λ h. Some (if c_rd_of h == 0 then CNop else CAddi)) refl half small in
+    let addi = at_group 0b000_01 (λ h. Some (if rd_of h == 0 then CNop else CAddi)) refl half small in
     let jal = at_group 0b001_01 (λ h. Some CJal) refl half small in
     let li = at_group 0b010_01 (λ h. Some CLi) refl half small in
-    let lui = at_group 0b011_01 (λ h. unless (lui_of h == 0) (if c_rd_of h == 2 then CAddi16sp else CLui)) refl half small in
+    let lui = at_group 0b011_01 (λ h. unless (lui_of h == 0) (if rd_of h == 2 then CAddi16sp else CLui)) refl half small in
     let sums = at_group 0b100_01 (λ h. option_flatten (row_of (operations h) (field h 10 2))) refl half small in
     let j = at_group 0b101_01 (λ h. Some CJ) refl half small in
     let beqz = at_group 0b110_01 (λ h. Some CBeqz) refl half small in
     let bnez = at_group 0b111_01 (λ h. Some CBnez) refl half small in
     let slli = at_group 0b000_10 (λ h. unless (field h 12 1 == 1) CSlli) refl half small in
-    let lwsp = at_group 0b010_10 (λ h. unless (c_rd_of h == 0) CLwsp) refl half small in
+    let lwsp = at_group 0b010_10 (λ h. unless (rd_of h == 0) CLwsp) refl half small in
     let jumps = at_group 0b100_10 jump_row refl half small in
     let zcmp = at_group 0b101_10 (λ h. option_flatten (row_of (zcmp_rows h) (field h 10 3))) refl half small in
     let swsp = at_group 0b110_10 (λ h. Some CSwsp) refl half small in

@@ -42,16 +42,16 @@ abbrev pub is_offset : ℕ → ℕ → ℤ → Bool
 is_offset limit step (pos n) = nat_lt n limit && (n % step == 0)
 is_offset limit step (negsuc n) = false
 
--- a signed number of so many bits
+-- a signed number of `bits` bits
 abbrev pub has_bits : ℕ → ℤ → Bool
 has_bits bits (pos n) = nat_lt n (2 ^ (bits - 1))
 has_bits bits (negsuc n) = nat_lt n (2 ^ (bits - 1))
 
--- its low bits, in two's complement
+-- the low `bits` bits of a number, in two's complement
 abbrev pub low_bits : ℕ → ℤ → ℕ
 low_bits bits z = as_word z % 2 ^ bits
 
--- a signed number of so many bits, and a multiple of a step
+-- a signed number of `bits` bits, and a multiple of a step
 abbrev pub is_signed : ℕ → ℕ → ℤ → Bool
 is_signed bits step z = has_bits bits z && (low_bits bits z % step == 0)
 
@@ -189,7 +189,7 @@ abbrev pub pair_half : ℕ → ℕ → ℕ → ℕ → Option ℕ
 pair_half bit which rd second =
     when (is_popular rd && is_popular second) (half_of 0b100_01 bit (0b11 * 8 + (rd - 8)) (which * 8 + (second - 8)))
 
--- the same if the sources may change places
+-- c.sub, c.xor, c.or, c.and and c.mul, where the sources may change places
 abbrev pub either_half : ℕ → ℕ → ℕ → ℕ → ℕ → Option ℕ
 either_half bit which rd first second =
     if first == rd then pair_half bit which rd second else
@@ -308,7 +308,7 @@ move_sa_half first second = if first == second then None else move_half 0b01 fir
 abbrev pub table_half : ℕ → Option ℕ
 table_half index = when (nat_lt index 256) (half_of 0b101_10 0 (index / 32) (index % 32))
 
--- the halfword of what a halfword can spell
+-- the halfword of what a halfword can encode
 abbrev pub encoded16 : Short → Option ℕ
 encoded16 (Base i) = half_for (normal_of i)
 encoded16 (Push list adjust) = list_half 0b1000 list adjust

@@ -63,7 +63,7 @@ pub fn is_offset(limit: u32, step: u32, imm: i32) -> bool
     offset < limit && offset % step == 0
 }
 
-/// Whether a signed number has so many bits.
+/// Whether a signed number fits in `bits` bits.
 pub fn has_bits(bits: u32, imm: i32) -> bool
     requires some { 0 < bits }
     requires few { bits < 31 }
@@ -77,7 +77,7 @@ pub fn has_bits(bits: u32, imm: i32) -> bool
     }
 }
 
-/// Whether a signed number has so many bits, and is a multiple of a step.
+/// Whether a signed number fits in `bits` bits, and is a multiple of a step.
 pub fn is_signed(bits: u32, step: u32, imm: i32) -> bool
     requires some { 0 < bits }
     requires few { bits < 31 }

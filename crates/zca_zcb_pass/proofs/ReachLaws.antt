@@ -16,7 +16,7 @@ use Rattle.zc_encode.proofs.NumberLaws.{SignedOf, and_three, signed_nine, signed
 use Rattle.psabi_reloc.specs.Patched.{with_distance}
 use Rattle.zca_zcb_pass.specs.Forms.{IsBranch, IsJump}
 
--- an even number of so many bits
+-- an even number that fits in `bits` bits
 even_of : (bits : ℕ) (z : ℤ) → has_bits bits z ≡ true → IsEven z → is_even_of bits z ≡ true
 even_of bits (pos n) few even = and_from (ltb n (2 ^ (bits - 1))) (eqb (n % 2) 0) few (eq-eqb (n % 2) 0 even)
 even_of bits (negsuc n) few even = and_from (ltb n (2 ^ (bits - 1))) (eqb (n % 2) 1) few (eq-eqb (n % 2) 1 even)

@@ -10,11 +10,11 @@ use Rattle.zc_decode.specs.Halfwords.{decoded16}
 use Rattle.zc_decode.specs.declared.short.Short.TheVariants.{Base}
 use Rattle.zc_encode.specs.Encoding.{IsEncoding}
 
--- a halfword that spells an instruction with the same effect
+-- a halfword encodes an instruction with the same effect
 abbrev pub HasEffectOf : Instr → ℕ → Type 0
 HasEffectOf i half = (j : Instr) × (decoded16 half ≡ Some (Base j)) × SameEffect j i
 
--- an instruction's short form: the first halfword that spells it, which has its effect; or none if no halfword does
+-- an instruction's short form: the first halfword that encodes it, which has its effect; or none if no halfword does
 abbrev pub ShortForm : Instr → Option ℕ → Type 0
 ShortForm i None = IsEncoding (Base i) None
 ShortForm i (Some half) = IsEncoding (Base i) (Some half) × HasEffectOf i half

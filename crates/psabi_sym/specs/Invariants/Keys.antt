@@ -18,7 +18,7 @@ pub record AreTails (tails : List (List ℕ)) : Type 0 where
   pub whole : All (λ tail. length tail % 64 ≡ 0) tails
   pub numbered : (k : ℕ) → k < length tails → name_number tails (slice_index_or tails k []) ≡ k
 
--- the key is that of a text: a part that has so many whole blocks, and then a tail
+-- the key is that of a text: a part with `blocks` whole blocks, and then a tail
 pub record IsKey (blocks : ℕ) (tails : List (List ℕ)) (key : Key) (text : List ℕ) : Type 0 where
   pub part : length key.part.now / 64 ≡ blocks
   pub rest : key.rest < length tails
@@ -31,7 +31,7 @@ AreKeys blocks tails (key ∷ keys) (text ∷ texts) = IsKey blocks tails key te
 AreKeys blocks tails [] (text ∷ texts) = ⊥
 AreKeys blocks tails (key ∷ keys) [] = ⊥
 
--- one of the texts has this number; it is the last one if it wasn't there before
+-- the text has this number among the texts; it is the last one if it wasn't there before
 pub record IsAdded (blocks : ℕ) (tails before after : List (List ℕ)) (keys : List Key) (text : List ℕ) (n : ℕ) : Type 0 where
   pub keys_are : AreKeys blocks tails keys after
   pub texts_are : after ≡ with_name before text
@@ -51,7 +51,7 @@ pub record Extends (before after : List (List ℕ)) : Type 0 where
   pub longer : length before ≤ length after
   pub kept : (k : ℕ) → k < length before → slice_index_or after k [] ≡ slice_index_or before k []
 
--- tails with more of them, at most so many
+-- after more tails were put in, at most `most` of them
 pub record HaveMoreTexts (before after : Texts) (most : ℕ) : Type 0 where
   pub are : AreTextBlocks after.keys.keys after.texts.items
   pub more : Extends (tails_of before.texts.items) (tails_of after.texts.items)
@@ -77,12 +77,12 @@ pub record AreLongEnds (texts : List (Bor (List ℕ))) (table : List ℕ) (ends 
 abbrev pub names_of : Names → List (List ℕ)
 names_of names = lent names.names.texts.items
 
--- they have keys of less than a block and a tail
+-- the names have keys of less than a block, and a tail
 pub record AreNames (names : Names) : Type 0 where
   pub tails : AreTextBlocks names.tails.keys.keys names.tails.texts.items
   pub keys_are : AreKeys 0 (tails_of names.tails.texts.items) names.names.keys.keys (names_of names)
 
--- the same names, over at most so many tails more
+-- the same names, with at most `most` more tails
 pub record HaveRead (before after : Names) (most : ℕ) : Type 0 where
   pub are : AreNames after
   pub names : names_of after ≡ names_of before

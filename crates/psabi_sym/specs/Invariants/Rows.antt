@@ -83,7 +83,7 @@ pub record AreClassEnds (rows : List SectionRow) (low : ℕ) (ends : ClassEnds) 
 
 -- ---- symbols
 
--- the number of a name among names: the place where it was first seen, or how many there are
+-- the number of a name among names: the place where it was first seen, or their count
 abbrev pub name_number : List (List ℕ) → List ℕ → ℕ
 name_number names name = position_or_len (same_name name) names
 
@@ -149,7 +149,7 @@ no_block = record { align = 0; size = 0 }
 abbrev pub grown_block : Block → SymbolRow → Block
 grown_block b r = if row_is_common r then record { align = max b.align (max 1 r.value); size = max b.size r.size } else b
 
--- of rows, the first of each name
+-- the first row of each name, in order
 abbrev pub first_rows : List SymbolRow → List SymbolRow
 first_rows [] = []
 first_rows (r ∷ rs) = r ∷ filter (λ s. not (s.name == r.name)) (first_rows rs)

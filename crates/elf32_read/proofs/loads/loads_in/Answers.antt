@@ -9,7 +9,7 @@ use Rattle.elf32_read.proofs.Filtered.{kept_more, kept_same, kept_length}
 use Rattle.elf32_read.proofs.loads.loads_in.Goals as goal
 use Rattle.elf32_read.proofs.loads.loads_in.Goals.{then-header-eq-LOAD+else-len-eq-MOST_LOADS, else-header-eq-LOAD}
 
--- one more than there is room for
+-- there is one segment more than there is room for
 pub returns-then-len-eq-MOST_LOADS : goal.returns-then-len-eq-MOST_LOADS
 unfolding loads_of
 returns-then-len-eq-MOST_LOADS c =

@@ -16,7 +16,7 @@ returns-then-not-is_before c =
     let before = c.is_before.ensures ∙ (λ j. is_before (c.entry.ensures j).0 (c.entry-in-loop-i.ensures j).0) in
     sym (c.loop-i.invariant ∙ is_ascending_step f i n (omega arith) ∙ ap (λ t. t && rest) (sym before ∙ c.if-not-is_before.true))
 
--- it does
+-- the places up to the next one ascend
 pub loop-i-preserved : goal.loop-i-preserved
 loop-i-preserved c =
     let f = place_entry_at c.args.entries.now in

@@ -13,12 +13,14 @@ use Rattle.elf32_write.proofs.Stages.{length-each_after}
 use Rattle.elf32_write.proofs.WritableRoom.{writable_fits, writable_size}
 use Rattle.elf32_write.proofs.write_object.write_object.Goals as goal
 
--- the table holds the sections of the parts
-table_held : (parts : ObjectParts) (sections : List SectionParts) (symbols : List SymbolParts) (table : SectionTable) → sections ≡ parts.sections → symbols ≡ parts.symbols → HoldsSections (file_sections sections symbols) table → HoldsSections (file_sections parts.sections parts.symbols) table
-table_held parts sections symbols table e f held = rw (sym e, sym f) held
+-- what is shown of the sections and the symbols that were read is shown of the parts
+module _ (p read : ObjectParts) (sections : List SectionParts) (symbols : List SymbolParts) (same : read ≡ p) (one : sections ≡ read.sections) (two : symbols ≡ read.symbols) where
+  of_parts : (P : List SectionParts → List SymbolParts → Type 0) → P sections symbols → P p.sections p.symbols
+  of_parts P shown = rw (sym (ap (λ (q : ObjectParts). q.sections) same), sym (ap (λ (q : ObjectParts). q.symbols) same), sym one, sym two) shown
 
-parts_sized : (parts : ObjectParts) (sections : List SectionParts) (symbols : List SymbolParts) → sections ≡ parts.sections → symbols ≡ parts.symbols → IsPartsSized sections symbols → IsPartsSized parts.sections parts.symbols
-parts_sized parts sections symbols e f sized = rw (sym e, sym f) sized
+  -- the table holds their sections
+  table_held : (table : SectionTable) → HoldsSections (file_sections sections symbols) table → HoldsSections (file_sections p.sections p.symbols) table
+  table_held table held = of_parts (λ s t. HoldsSections (file_sections s t) table) held
 
 pub sections_of-requires : goal.sections_of-requires
 sections_of-requires c =
@@ -29,27 +31,21 @@ sections_of-requires c =
 pub overflow_cast-headers_offset : goal.overflow_cast-headers_offset
 overflow_cast-headers_offset c =
     let p = c.args.parts.now in
-    let sections = c.deref.ensures.value ∙ ap (λ q. q.sections) c.parts.view_is in
-    let symbols = c.deref-2.ensures.value ∙ ap (λ q. q.symbols) c.parts.view_is in
-    let held = table_held p _ _ c.in_ok-table.table sections symbols c.in_ok-table.ensures.held in
+    let held = table_held p _ _ _ c.parts.view_is c.deref.ensures.value c.deref-2.ensures.value c.in_ok-table.table c.in_ok-table.ensures.held in
     let long : c.len.result ≡ length c.in_ok-table.table.contents.items = search rules in
     omega (arith, long, ap length held.contents_held, writable_size p c.requires)
 
 pub overflow_add-headers_offset : goal.overflow_add-headers_offset
 overflow_add-headers_offset c =
     let p = c.args.parts.now in
-    let sections = c.deref.ensures.value ∙ ap (λ q. q.sections) c.parts.view_is in
-    let symbols = c.deref-2.ensures.value ∙ ap (λ q. q.symbols) c.parts.view_is in
-    let held = table_held p _ _ c.in_ok-table.table sections symbols c.in_ok-table.ensures.held in
+    let held = table_held p _ _ _ c.parts.view_is c.deref.ensures.value c.deref-2.ensures.value c.in_ok-table.table c.in_ok-table.ensures.held in
     let long : c.len.result ≡ length c.in_ok-table.table.contents.items = search rules in
     omega (arith, long, ap length held.contents_held, writable_size p c.requires)
 
 pub overflow_add-size : goal.overflow_add-size
 overflow_add-size c =
     let p = c.args.parts.now in
-    let sections = c.deref.ensures.value ∙ ap (λ q. q.sections) c.parts.view_is in
-    let symbols = c.deref-2.ensures.value ∙ ap (λ q. q.symbols) c.parts.view_is in
-    let held = table_held p _ _ c.in_ok-table.table sections symbols c.in_ok-table.ensures.held in
+    let held = table_held p _ _ _ c.parts.view_is c.deref.ensures.value c.deref-2.ensures.value c.in_ok-table.table c.in_ok-table.ensures.held in
     let long : c.len.result ≡ length c.in_ok-table.table.contents.items = search rules in
     let many : c.len-2.result ≡ length c.in_ok-table.table.headers.items = search rules in
     let headers = length-each_after written_header [] (file_sections p.sections p.symbols) in
@@ -58,9 +54,7 @@ overflow_add-size c =
 pub overflow_cast-len : goal.overflow_cast-len
 overflow_cast-len c =
     let p = c.args.parts.now in
-    let sections = c.deref.ensures.value ∙ ap (λ q. q.sections) c.parts.view_is in
-    let symbols = c.deref-2.ensures.value ∙ ap (λ q. q.symbols) c.parts.view_is in
-    let held = table_held p _ _ c.in_ok-table.table sections symbols c.in_ok-table.ensures.held in
+    let held = table_held p _ _ _ c.parts.view_is c.deref.ensures.value c.deref-2.ensures.value c.in_ok-table.table c.in_ok-table.ensures.held in
     let long : c.len-3.result ≡ length c.in_ok-table.table.headers.items = search rules in
     omega (arith, long, ap length held.headers_held, length-each_after written_header [] (file_sections p.sections p.symbols), c.requires.count)
 
@@ -69,9 +63,7 @@ unfolding object_bytes
 returns-clause-bytes c =
     let p = c.args.parts.now in
     let all = file_sections p.sections p.symbols in
-    let sections = c.deref.ensures.value ∙ ap (λ q. q.sections) c.parts.view_is in
-    let symbols = c.deref-2.ensures.value ∙ ap (λ q. q.symbols) c.parts.view_is in
-    let held = table_held p _ _ c.in_ok-table.table sections symbols c.in_ok-table.ensures.held in
+    let held = table_held p _ _ _ c.parts.view_is c.deref.ensures.value c.deref-2.ensures.value c.in_ok-table.table c.in_ok-table.ensures.held in
     let long : c.len.result ≡ length c.in_ok-table.table.contents.items = search rules in
     let offset : 52 + c.len.result ≡ headers_offset p = omega (arith, long, ap length held.contents_held) in
     let many : c.len-3.result ≡ length c.in_ok-table.table.headers.items = search rules in
@@ -87,9 +79,7 @@ returns-clause-bytes c =
 pub returns-clause-reads_back : goal.returns-clause-reads_back
 returns-clause-reads_back c =
     let p = c.args.parts.now in
-    let sections = c.deref.ensures.value ∙ ap (λ q. q.sections) c.parts.view_is in
-    let symbols = c.deref-2.ensures.value ∙ ap (λ q. q.symbols) c.parts.view_is in
-    let sized = parts_sized p _ _ sections symbols c.in_ok-table.ensures.sized in
+    let sized = of_parts p _ _ _ c.parts.view_is c.deref.ensures.value c.deref-2.ensures.value IsPartsSized c.in_ok-table.ensures.sized in
     let flags : p.flags < 2 ^ 32 = omega (arith, c.in_ok-push_object_header.ensures.sized, ap (λ q. q.flags) c.parts.view_is) in
     let IsRead : List ℕ → Type 0 = λ file. IsObjectOf p file in
     subst IsRead (sym (returns-clause-bytes c)) (object_back p c.requires flags sized)
