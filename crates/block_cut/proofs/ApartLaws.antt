@@ -14,7 +14,7 @@ use Rattle.block_cut.specs.Relocs.{field_end, field_of, overlaps_another, overla
 pub contains_at : {X : Type 0} (xs : List X) (k : ℕ) (x : X) → slice_get xs k ≡ Some x → Contains xs x
 contains_at xs k x at = (k, slice_get_within xs k x at, get_or_from_slice_get xs k x x at)
 
--- one that overlaps none of some others
+-- a relocation that overlaps none of a list is counted by none
 none_over : (s : Reloc) (rs : List Reloc) → ((r : Reloc) → Contains rs r → overlap s r ≡ false) → count_by (overlap s) rs ≡ 0
 none_over s [] out = refl
 none_over s (r ∷ rs) out =
@@ -22,7 +22,7 @@ none_over s (r ∷ rs) out =
     let here = out r (0, omega arith, refl) in
     sum_by-cons (λ t. cond (overlap s t) 1 0) r rs ∙ (λ j. cond (here j) 1 0 + rest j)
 
--- one more, which overlaps none of those before it, nor they it
+-- one relocation more, which overlaps none of those before it, leaves the fields apart
 apart_push : (rs : List Reloc) (s : Reloc) (m n : ℕ) → AreFieldsApart m rs → m ≤ n → (0 < field_of s → field_end s ≤ n)
     → ((r : Reloc) → Contains rs r → min (field_end r) (field_end s) ≤ max r.offset s.offset) → AreFieldsApart n (rs ++ s ∷ [])
 apart_push rs s m n are le ends past = record {
@@ -50,14 +50,14 @@ apart_push rs s m n are le ends past = record {
     under : (r : Reloc) → Contains rs r → overlap s r ≡ false
     under r held = le-ltb (max s.offset r.offset) (min (field_end s) (field_end r)) (omega (arith, past r held))
 
--- one that begins where those before it have ended
+-- a relocation that begins where those before it have ended leaves the fields apart
 pub apart_next : (rs : List Reloc) (s : Reloc) (m : ℕ) → AreFieldsApart m rs → m ≤ s.offset → AreFieldsApart (field_end s) (rs ++ s ∷ [])
 apart_next rs s m are begins = apart_push rs s m (field_end s) are (omega (arith, begins)) (λ some. omega arith) (λ r held. elim (cases_lt 0 (field_of r)) [
   | inl some ↦ omega (arith, are.before r held some, begins)
   | inr none ↦ omega (arith, none)
 ])
 
--- one without bytes
+-- a relocation without bytes leaves the fields apart
 pub apart_same : (rs : List Reloc) (s : Reloc) (before : Option ℕ) → IfSome before (λ n. AreFieldsApart n rs) → field_of s ≡ 0 → IfSome before (λ n. AreFieldsApart n (rs ++ s ∷ []))
 apart_same rs s None are none = are
 apart_same rs s (Some n) are none = apart_push rs s n n are (omega arith) (λ some. absurd (omega (arith, some, none))) (λ r held. omega (arith, none))

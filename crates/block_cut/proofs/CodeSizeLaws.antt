@@ -18,7 +18,7 @@ pub step_four : (c : Bool) (n : ℕ) → n % 4 ≡ 0 → n % code_step c ≡ 0
 step_four true n is = omega arith
 step_four false n is = is
 
--- bytes count as many as they are, or more
+-- a number of bytes counts as that number or as more
 pub counted_least : (c : Bool) (n : ℕ) → n ≤ counted_bytes c n
 counted_least true n = omega arith
 counted_least false n = omega arith
@@ -62,12 +62,12 @@ own_short c bytes n = by (own_is c bytes n)
     by (Two is) = omega (arith, is)
     by (Four is) = omega (arith, is)
 
--- so many are read of them
+-- an item's own size, 2 or 4, is read as that size
 pub own_read : (size : ℕ) → OwnSize size → cond (eqb size 2) 2 4 ≡ size
 own_read size (Two is) = (λ j. cond (eqb (is j) 2) 2 4) ∙ sym is
 own_read size (Four is) = (λ j. cond (eqb (is j) 2) 2 4) ∙ sym is
 
--- and these are whole steps inside
+-- an item's own size is whole steps inside the section
 pub record IsOwn (c : Bool) (bytes : List ℕ) (n size : ℕ) : Type 0 where
   pub some : 2 ≤ size
   pub short : size ≤ 4

@@ -18,7 +18,7 @@ use Rattle.psabi_reloc.specs.Kinds.{field_length, kind_of}
 use Rattle.psabi_reloc.specs.declared.kind.RelocKind.{RelocKind}
 use Rattle.psabi_reloc.specs.declared.kind.RelocKind.TheVariants as kind
 use Rattle.psabi_sym.specs.Blocks.{aligned_up, end_from}
-use Rattle.psabi_sym.specs.Data.{address_in, blocks_in, blocks_of, class_end, class_start, data_address, data_end, end_after, is_of_class, has_class, role_of, section_block}
+use Rattle.psabi_sym.specs.Data.{address_in, blocks_in, blocks_of, class_end, class_start, data_address, data_end, has_class, role_of}
 use Rattle.psabi_sym.specs.Classes.{classes_before, same_class}
 use Rattle.psabi_sym.specs.Inputs.{ParsedInputs}
 use Rattle.psabi_sym.specs.Indexed.{IndexedSection, all_sections, section_at, sections_before}
@@ -27,7 +27,8 @@ use Rattle.psabi_sym.specs.declared.data_class.DataClass.{DataClass}
 use Rattle.psabi_sym.specs.declared.data_class.DataClass.TheVariants.{ReadOnly, Data, SmallData, SmallZero, Zero, Common}
 use Rattle.psabi_sym.specs.declared.section_row.SectionRole.TheVariants.{Code, InClass, Dropped}
 use Rattle.psabi_sym.specs.declared.section_row.SectionRole.{SectionRole}
-use Rattle.psabi_sym.proofs.ContentLaws.{address_of_data, none_of_code, none_of_dropped}
+use Rattle.psabi_sym.proofs.BlockLaws.{aligned_up-ge, end_from-ge}
+use Rattle.psabi_sym.proofs.ContentLaws.{address_of_data, end_after, ends-ge, none_of_code, none_of_dropped}
 use Rattle.psabi_sym.proofs.PlaceLaws.{not_common}
 use Rattle.block_cut.specs.Faults.{has_bad_target, if_so, is_stray, lacks_pcrel_hi, reloc_fault, section_fault}
 use Rattle.block_cut.specs.Relocs.{is_bad_kind, is_bad_place, overlaps_another, is_ignored, is_placed, is_word}
@@ -41,21 +42,9 @@ use Rattle.block_cut.proofs.TakeLaws.{take_next}
 
 -- ---- where data end
 
-aligned_up-ge : (align at : ℕ) → at ≤ aligned_up align at
-unfolding aligned_up
-aligned_up-ge align at = omega arith
-
-end_from-ge : (at : ℕ) (bs : List Block) → at ≤ end_from at bs
-end_from-ge at [] = omega arith
-end_from-ge at (b ∷ bs) = omega (arith, aligned_up-ge b.align at, end_from-ge (aligned_up b.align at + b.size) bs)
-
 end_from-append : (at : ℕ) (bs cs : List Block) → end_from at (bs ++ cs) ≡ end_from (end_from at bs) cs
 end_from-append at [] cs = refl
 end_from-append at (b ∷ bs) cs = end_from-append (aligned_up b.align at + b.size) bs cs
-
-ends-ge : (objects : List ObjectParts) (at : ℕ) (cs : List DataClass) → at ≤ fold (end_after objects) at cs
-ends-ge objects at [] = omega arith
-ends-ge objects at (c ∷ cs) = omega (arith, aligned_up-ge 16 at, end_from-ge (aligned_up 16 at) (blocks_of objects c), ends-ge objects (end_after objects at c) cs)
 
 same_as_itself : (class : DataClass) → same_class class class ≡ true
 same_as_itself ReadOnly = refl
@@ -109,6 +98,23 @@ class_blocks objects SmallZero other = refl
 class_blocks objects Zero other = refl
 class_blocks objects Common other = absurd cc
 
+-- the room of sections in two parts
+blocks_in-append : (class : DataClass) (ls ms : List IndexedSection) → blocks_in class (ls ++ ms) ≡ blocks_in class ls ++ blocks_in class ms
+blocks_in-append class ls ms = ap (map block) (filter-append own ls ms) ∙ map-append block (filter own ls) (filter own ms)
+  where
+    own : IndexedSection → Bool
+    own l = has_class class (role_of l.section)
+
+    block : IndexedSection → Block
+    block l = record { align = l.section.align; size = l.section.size }
+
+-- a section of a class has its room
+blocks_in-own : (class : DataClass) (l : IndexedSection) (ls : List IndexedSection) → has_class class (role_of l.section) ≡ true
+    → blocks_in class (l ∷ ls) ≡ record { align = l.section.align; size = l.section.size } ∷ blocks_in class ls
+blocks_in-own class l ls own =
+    ap (λ b. map (λ m. record { align = m.section.align; size = m.section.size }) (cond b (l ∷ filter (λ m. has_class class (role_of m.section)) ls) (filter (λ m. has_class class (role_of m.section)) ls)))
+    own
+
 -- what holds of neither of two tests, and isn't the first
 second : (a b c : Bool) (f g : Fault) (x : Option Fault) → option_or (if_so a f) (option_or (if_so (b || c) g) x) ≡ None → b ≡ false
 second a false c f g x none = refl
@@ -124,27 +130,26 @@ word_fits (Some k) size start addend rest word fine = absurd cc
 
 module _ (inputs : ParsedInputs) (o i : ℕ) (s : SectionParts) (found : section_at inputs.objects o i ≡ Some s) where
   -- a section of a class lies in it
-  in_class : (class : DataClass) → role_of s ≡ InClass class → address_in inputs o i s class + s.size ≤ class_end inputs class
+  pub in_class : (class : DataClass) → role_of s ≡ InClass class → address_in inputs o i s class + s.size ≤ class_end inputs class
   unfolding class_end
   in_class class role =
       let cut = cut_at inputs.objects o i s found in
-      let own : is_of_class class (listed o i s) ≡ true = ap (has_class class) role ∙ same_as_itself class in
+      let own = blocks_in-own class (listed o i s) cut.rest (ap (has_class class) role ∙ same_as_itself class) in
       let start = class_start inputs class in
       let before = blocks_in class (sections_before inputs.objects o i) in
       let rest = blocks_in class cut.rest in
-      let blocks : blocks_of inputs.objects class ≡ before ++ section_block (listed o i s) ∷ rest =
+      let block : Block = record { align = s.align; size = s.size } in
+      let blocks : blocks_of inputs.objects class ≡ before ++ block ∷ rest =
       class_blocks inputs.objects class (not_common s class role) ∙ ap (blocks_in class) cut.all_are
-      ∙ ap (map section_block) (filter-append (is_of_class class) (sections_before inputs.objects o i) (listed o i s ∷ cut.rest))
-      ∙ map-append section_block (filter (is_of_class class) (sections_before inputs.objects o i)) (filter (is_of_class class) (listed o i s ∷ cut.rest))
-      ∙ ap (λ b. before ++ map section_block (cond b (listed o i s ∷ filter (is_of_class class) cut.rest) (filter (is_of_class class) cut.rest))) own in
+      ∙ blocks_in-append class (sections_before inputs.objects o i) (listed o i s ∷ cut.rest) ∙ ap (λ bs. before ++ bs) own in
       omega (
         arith,
         ap (end_from start) blocks,
-        end_from-append start before (section_block (listed o i s) ∷ rest),
+        end_from-append start before (block ∷ rest),
         end_from-ge (aligned_up s.align (end_from start before) + s.size) rest,
       )
 
-  -- so no data lie after the end of all
+  -- no data lie after the end of all data
   pub data_fits : (class : DataClass) → role_of s ≡ InClass class → address_in inputs o i s class + s.size ≤ data_end inputs
   data_fits class role = omega (arith, in_class class role, class_end-le inputs class (not_common s class role))
 
@@ -158,11 +163,11 @@ module _ (inputs : ParsedInputs) (o i : ℕ) (s : SectionParts) (found : section
   pub reloc_none : section_fault inputs (listed o i s) ≡ None → (k : ℕ) (r : Reloc) → slice_get s.relocs k ≡ Some r → reloc_fault inputs (listed o i s) r ≡ None
   reloc_none none k r at = none_at (reloc_fault inputs (listed o i s)) s.relocs k r at (none_mapped _ none)
 
-  -- so its place is one that it can have
+  -- a relocation without a fault has a place that it can have
   place_none : (r : Reloc) → reloc_fault inputs (listed o i s) r ≡ None → is_bad_place s r ≡ false
   place_none r none = second (is_bad_kind s (kind_of r.kind)) (is_bad_place s r) (is_stray s r) (KindFault i r.offset) (RelocPlace i r.offset) (option_or (if_so (lacks_pcrel_hi inputs (listed o i s) r) (LoPair i r.offset)) (option_or (if_so (has_bad_target inputs (listed o i s) r) (BadTarget i r.offset)) None)) none
 
-  -- and a word that it fills in lies in its section
+  -- the word that a relocation without a fault fills in lies in its section
   pub word_inside : (r : Reloc) → reloc_fault inputs (listed o i s) r ≡ None → is_word (kind_of r.kind) ≡ true → r.offset + 4 ≤ s.size
   word_inside r none word = word_fits (kind_of r.kind) s.size r.offset r.addend (not (is_placed s r) || overlaps_another s.relocs r) word (place_none r none)
 
@@ -248,7 +253,7 @@ module _ (inputs : ParsedInputs) (l : IndexedSection) where
 
 -- ---- one section after another
 
--- those of one section more
+-- the words of one section more
 pub words_next : (inputs : ParsedInputs) (k : ℕ) (l : IndexedSection) → slice_get (all_sections inputs.objects) k ≡ Some l
     → flat_map (data_words_in inputs) (take (k + 1) (all_sections inputs.objects)) ≡ flat_map (data_words_in inputs) (take k (all_sections inputs.objects)) ++ data_words_in inputs l
 words_next inputs k l at =
@@ -256,7 +261,7 @@ words_next inputs k l at =
     ∙ flat_map-append (data_words_in inputs) (take k (all_sections inputs.objects)) (l ∷ [])
     ∙ ap (λ m. flat_map (data_words_in inputs) (take k (all_sections inputs.objects)) ++ m) (append-nil (data_words_in inputs l))
 
--- those of all sections
+-- the words of all sections are the words of data
 pub all_words : (inputs : ParsedInputs) → flat_map (data_words_in inputs) (all_sections inputs.objects) ≡ data_words inputs
 unfolding data_words
 all_words inputs = refl

@@ -25,7 +25,7 @@ only_later : (inputs : Inputs) → gather_fault inputs ≡ None → relocs_fault
 unfolding first_fault
 only_later inputs none fine = λ j. option_or (none j) (option_or (fine j) (option_or (entry_fault (parsed inputs)) (option_or (range_fault (parsed inputs)) None)))
 
--- then that of the start
+-- without a fault of relocations the first fault is that of the start
 pub no_entry : (inputs : Inputs) → gather_fault inputs ≡ None → relocs_fault (parsed inputs) ≡ None → entry_in (parsed inputs) ≡ None → first_fault inputs ≡ Some (0, NoEntry)
 unfolding entry_fault
 no_entry inputs none fine missing = only_later inputs none fine ∙ ap (λ e. option_or (cond (is_none e) (Some (0, NoEntry)) None) (option_or (range_fault (parsed inputs)) None)) missing
@@ -34,14 +34,14 @@ only_range : (inputs : Inputs) (p : Place) → gather_fault inputs ≡ None → 
 unfolding entry_fault
 only_range inputs p none fine found = only_later inputs none fine ∙ ap (λ e. option_or (cond (is_none e) (Some (0, NoEntry)) None) (option_or (range_fault (parsed inputs)) None)) found
 
--- then that of a branch
+-- with a start the first fault is that of a branch that is out of range
 pub out_of_range : (inputs : Inputs) (p q : Place) → gather_fault inputs ≡ None → relocs_fault (parsed inputs) ≡ None → entry_in (parsed inputs) ≡ Some p
     → find (is_out_of_reach (parsed inputs)) (all_places (parsed inputs).objects) ≡ Some q → first_fault inputs ≡ Some (q.object, Range q.section q.offset)
 unfolding range_fault
 out_of_range inputs p q none fine found far =
     only_range inputs p none fine found ∙ ap (λ o. option_or (option_map {U = ℕ × Fault} (λ (r : Place). (r.object, Range r.section r.offset)) o) None) far
 
--- and without any of them there is none
+-- without a fault of the relocations, the start and the branches there is none
 pub no_fault : (inputs : Inputs) (p : Place) → gather_fault inputs ≡ None → relocs_fault (parsed inputs) ≡ None → entry_in (parsed inputs) ≡ Some p
     → find (is_out_of_reach (parsed inputs)) (all_places (parsed inputs).objects) ≡ None → first_fault inputs ≡ None
 unfolding range_fault

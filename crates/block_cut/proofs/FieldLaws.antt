@@ -37,7 +37,7 @@ count_kept p f q (r ∷ rs) =
 count_sorted : (q : ℕ → Bool) (numbers sorted : List ℕ) → IsSortedOf numbers sorted → count_by q sorted ≡ count_by q numbers
 count_sorted q numbers sorted is = sum_by-IsPermutation (λ n. cond (q n) 1 0) numbers sorted is.same
 
--- one passes exactly if the count isn't 0
+-- some element passes a test exactly if the count of those that pass isn't 0
 any_counted : {X : Type 0} (p : X → Bool) (xs : List X) → list_any p xs ≡ nat_lt 0 (count_by p xs)
 any_counted p [] = refl
 any_counted p (x ∷ xs) = by (p x) (any_counted p xs) ∙ ap (nat_lt 0) (sym (sum_by-cons (λ y. cond (p y) 1 0) x xs))
@@ -46,7 +46,7 @@ any_counted p (x ∷ xs) = by (p x) (any_counted p xs) ∙ ap (nat_lt 0) (sym (s
     by true rest = sym (lt-ltb 0 (1 + count_by p xs) (omega arith))
     by false rest = rest ∙ ap (nat_lt 0) (omega arith)
 
--- where a test turns is how many pass it
+-- a partition point is the number of elements that pass the test before it
 pub count_at : (p : ℕ → Bool) (xs : List ℕ) (i : ℕ) → i ≤ length xs → IsPartitionPoint (λ y. p y ≡ true) (λ y. p y ≡ false) xs i → i ≡ count_by p xs
 count_at p [] i within is = omega arith
 count_at p (x ∷ xs) zero within is =
@@ -138,7 +138,7 @@ found_is xs n (Err i) is rise =
       | inr after ↦ λ e. omega (arith, above k after lt, e)
     ]
 
--- one of the numbers of what is kept is this one
+-- an offset is among those of the relocations that are kept exactly if one of these has it
 any_kept : (p : Reloc → Bool) (n : ℕ) (rs : List Reloc) → list_any (λ m. m == n) (map (λ r. r.offset) (filter p rs)) ≡ list_any (λ r. p r && r.offset == n) rs
 any_kept p n [] = refl
 any_kept p n (r ∷ rs) = by (p r) (any_kept p n rs)

@@ -1,4 +1,4 @@
--- The first that is some, of the values of a list: none of a part that is done, then that of the next element.
+-- The first `Some` among the values of a list: none in a part that is done, then that of the next element.
 use Rattle.std.proofs.Common.{◌≡◌, ℕ, ◌+◌, List, [], ◌∷◌, ◌++◌, take, drop, map, Option, Some, None, slice_get, refl, sym, ap, ◌∙◌}
 use Rattle.std.specs.Option.{option_or}
 use Rattle.psabi_sym.specs.Faults.{first_some}
@@ -15,7 +15,7 @@ module _ {X Y : Type 0} (f : X → Option Y) where
       by None none rest = rest none
       by (Some y) none rest = absurd cc
 
-  -- one more without any
+  -- one element more that has no value
   pub none_after : (xs : List X) (x : X) → first_some (map f xs) ≡ None → f x ≡ None → first_some (map f (xs ++ x ∷ [])) ≡ None
   none_after xs x none here = first_after xs (x ∷ []) none ∙ ap (λ o. option_or o None) here
 
@@ -24,7 +24,7 @@ module _ {X Y : Type 0} (f : X → Option Y) where
   some_after xs x rest y none here = first_after xs (x ∷ rest) none ∙ ap (λ o. option_or o (first_some (map f rest))) here
 
   module _ (xs : List X) (k : ℕ) (x : X) (at : slice_get xs k ≡ Some x) (none : first_some (map f (take k xs)) ≡ None) where
-    -- the same of a list that is taken element by element
+    -- the first k + 1 elements have no value if the first k and the next one have none
     pub none_next : f x ≡ None → first_some (map f (take (k + 1) xs)) ≡ None
     none_next here = ap (λ l. first_some (map f l)) (take_next xs k x at) ∙ none_after (take k xs) x none here
 

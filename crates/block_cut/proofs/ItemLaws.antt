@@ -1,6 +1,5 @@
 -- What the item at a place is: it is that of a start of the section, and takes the bytes that its step goes, or it is padding.
 use Rattle.std.proofs.Common.{◌≡◌, ℕ, zero, suc, ◌+◌, ◌%◌, ◌<◌, ◌≤◌, ℤ, pos, negsuc, List, Bool, true, false, cond, Option, Some, None, refl, sym, ap, subst, ◌∙◌, arith, eqb, ltb, eq-eqb}
-use Rattle.std.specs.Prelude.{◌&&◌}
 use Rattle.std.specs.Option.{option_and_then, option_map_or}
 use Rattle.std.proofs.lemmas.Bool.{and_parts, eqb-true, lt-ltb, ltb-true}
 use Rattle.zc_base.specs.declared.place.Place.{Place}
@@ -18,7 +17,7 @@ use Rattle.rv_decode.specs.declared.instr.Instr.{Instr}
 use Rattle.rv_decode.specs.declared.instr.Instr.TheVariants as instr
 use Rattle.block_cut.specs.declared.item.Item.{Item}
 use Rattle.block_cut.specs.declared.item.Item.TheVariants.{Branch, Jump, Align}
-use Rattle.block_cut.specs.Items.{call_item, code_at, instr_item, item_at, item_in, item_under, known_item, of_instr, raw_in, raw_pair, size_on, spelled_item, starts_on, target_away, target_of, to_place, transfer_item, transfer_under}
+use Rattle.block_cut.specs.Items.{call_item, code_at, instr_item, item_at, item_in, item_under, known_item, raw_in, raw_pair, size_on, spelled_item, starts_on, target_away, target_of, to_place, transfer_item, transfer_under}
 use Rattle.block_cut.specs.PlainLayout.{after_item, padding_of}
 use Rattle.block_cut.specs.CodeSizes.{own_size, code_step}
 use Rattle.block_cut.specs.Relocs.{field_of, fits_at, instr_in, is_bad_kind, is_ignored, is_padding, reloc_on}
@@ -29,7 +28,7 @@ use Rattle.block_cut.proofs.RawLaws.{raw_by}
 
 -- ---- the item at a place
 
--- it is that of a start of the section of code
+-- an item is that of an item's start in the section of code
 pub record IsItemAt (inputs : ParsedInputs) (q : Place) (i : Item) : Type 0 where
   pub section : SectionParts
   pub code : code_at inputs.objects q ≡ Some section
@@ -48,7 +47,7 @@ item_found inputs q i is = by (code_at inputs.objects q) refl is
         starts true start is = let same : item_in inputs s q ≡ i = cc in record { section = s; code = at; start = start; item = same }
         starts false start is = absurd cc
 
--- and the other way round
+-- at an item's start in a section of code there is an item
 pub item_there : (inputs : ParsedInputs) (q : Place) (s : SectionParts) → code_at inputs.objects q ≡ Some s → starts_on s q.offset ≡ true → item_at inputs q ≡ Some (item_in inputs s q)
 unfolding item_at
 item_there inputs q s at start = ap (option_and_then (λ s. cond (starts_on s q.offset) (Some (item_in inputs s q)) None)) at ∙ ap (λ b. cond b (Some (item_in inputs s q)) None) start
@@ -63,7 +62,7 @@ item_at-none inputs q at = ap (option_and_then (λ s. cond (starts_on s q.offset
 
 -- ---- padding
 
--- padding of whole units has a power of two above it, from 4 to 256, and so has its relocation room
+-- padding of whole units has a power of two above it, from 4 to 256, and its relocation has that room
 pub record IsPadded (n : ℕ) : Type 0 where
   pub some : 2 ≤ n
   pub even : n % 2 ≡ 0
@@ -114,7 +113,7 @@ align_kind n is =
     last false false true e h = absurd cc
     last false false false e h = absurd cc
 
--- so the room of a relocation that asks for padding is that power
+-- the room of a relocation that asks for padding is the power of two above it
 room_is : (r : Reloc) (m : ℕ) → kind_of r.kind ≡ Some kind.Align → r.addend ≡ pos m → IsPadded m → reloc_room r ≡ power_above m
 unfolding reloc_room
 room_is r m align number padding =
@@ -126,7 +125,7 @@ room_is r m align number padding =
 
 -- ---- sizes
 
--- an item takes the bytes of its step, or it is padding of so many
+-- the n bytes that an item takes: the bytes of its step, or n bytes of padding
 pub data Takes (i : Item) (n : ℕ) : Type 0 where
   Bytes : padding_of i ≡ None → Takes i n
   Padding : i ≡ Align n → IsPadded n → Takes i n
@@ -167,7 +166,7 @@ own_plain objects q size bytes = by (instr_in size bytes q.offset)
     by None = unread
     by (Some i) = of i
 
-instr_plain : (o : Option Instr) (raw : Item) (f : Instr → Item) → padding_of raw ≡ None → ((i : Instr) → padding_of (f i) ≡ None) → padding_of (of_instr o raw f) ≡ None
+instr_plain : (o : Option Instr) (raw : Item) (f : Instr → Item) → padding_of raw ≡ None → ((i : Instr) → padding_of (f i) ≡ None) → padding_of (option_map_or f o raw) ≡ None
 instr_plain None raw f stays is = stays
 instr_plain (Some i) raw f stays is = is i
 
@@ -200,7 +199,7 @@ call_plain : (first second : Option Instr) (other : Item) (p : Place) → paddin
 call_plain (Some (instr.Upper op temp upper)) (Some (instr.Jalr rd base lower)) other p is = refl
 call_plain first second other p is = is
 
--- the same of a relocation of a kind with an addend
+-- an item by its relocation's kind and addend takes the bytes of the field, or it is padding
 data TakesBy (k : Option RelocKind) (addend : ℤ) (i : Item) : Type 0 where
   Field : padding_of i ≡ None → TakesBy k addend i
   Fill : (m : ℕ) → k ≡ Some kind.Align → addend ≡ pos m → i ≡ Align m → IsPadded m → TakesBy k addend i
@@ -251,7 +250,7 @@ module _ (inputs : ParsedInputs) (s : SectionParts) (q : Place) (code : is_code_
           of (kind_of r.kind) r.addend _
           (reloc_takes s (target_of inputs q.object r) s.bytes q.offset (kind_of r.kind) r.addend sound.asks sound.known sound.fits)
 
-  -- and in the plain layout no more than these and its relocation's room
+  -- in the plain layout an item takes no more than its bytes and its relocation's room
   pub item_fits : (a : ℕ) → after_item a (size_on s q.offset) (item_in inputs s q) ≤ a + size_on s q.offset + room_at s q.offset
   item_fits a = by (reloc_on s q.offset) refl
     where

@@ -108,7 +108,7 @@ module _ (inputs : ParsedInputs) (l : IndexedSection) where
       by false false true false = refl
       by false false false false = last leads
 
-  -- so the first of a section is the first of those that are decided
+  -- the first fault of a section's relocations is the first one of those that are resolved
   pub first_resolved : first_some (map (resolved_fault inputs.objects l.index) (placed_relocs inputs l)) ≡ first_some (map (reloc_fault inputs l) l.section.relocs)
   first_resolved = all l.section.relocs
     where
@@ -121,6 +121,6 @@ module _ (inputs : ParsedInputs) (l : IndexedSection) where
           by true asked rest = λ j. option_or (resolved_is r asked j) (rest j)
           by false nothing rest = rest ∙ ap (λ o. option_or o (first_some (map (reloc_fault inputs l) rs))) (sym (ignored_none r nothing))
 
-  -- with its object's index
+  -- the first fault of a section's relocations, with its object's index
   pub section_resolved : option_map {U = ℕ × Fault} (λ (f : Fault). (l.object, f)) (first_some (map (resolved_fault inputs.objects l.index) (placed_relocs inputs l))) ≡ section_fault inputs l
   section_resolved = ap (option_map {U = ℕ × Fault} (λ (f : Fault). (l.object, f))) first_resolved

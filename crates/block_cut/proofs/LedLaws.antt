@@ -2,7 +2,7 @@
 use Rattle.std.proofs.Common.{◌≡◌, ℕ, ◌+◌, ◌<◌, ◌≤◌, ◌/◌, ◌%◌, List, [], ◌∷◌, length, get_or, set, map, filter, take, Bool, true, false, cond, Option, Some, None, slice_get, refl, sym, ap, ◌∙◌, arith, eqb, inl, inr}
 use Rattle.std.specs.Prelude.{Contains, ◌&&◌, ◌||◌}
 use Rattle.std.specs.List.{flat_map, list_any}
-use Rattle.std.specs.Option.{option_and_then, option_map, option_map_or}
+use Rattle.std.specs.Option.{option_map, option_map_or}
 use Rattle.std.proofs.lemmas.Bool.{and_parts, cases_eq, eq-eqb, eqb-false, eqb-true, false≢true, ne_eqb}
 use Rattle.std.proofs.lemmas.List.{get_or-set_other, get_or-set_same, length-map, take_all}
 use Rattle.std.proofs.lemmas.List.Elements.{Contains-push_cases}
@@ -18,7 +18,7 @@ use Rattle.psabi_sym.specs.Indexed.{IndexedSection, IndexedSymbol, IsSectionNumb
 use Rattle.psabi_sym.specs.Invariants.Rows.{section_starts}
 use Rattle.psabi_sym.proofs.FlatLaws.{length-parsed, parsed_more, symbols_push}
 use Rattle.psabi_sym.proofs.SectionNumbers.{has_number, listed_at, number_of_section}
-use Rattle.block_cut.specs.Items.{code_at, code_only, is_target_at, item_at, item_in, next_at, place_of, places_of, size_at, starts_in, starts_on, target_of, targets_in}
+use Rattle.block_cut.specs.Items.{code_at, is_target_at, item_at, item_in, next_at, place_of, places_of, size_at, starts_in, starts_on, target_of, targets_in}
 use Rattle.block_cut.specs.Leaders.{ends_block, goes_to, is_leader_at, is_place, item_leads, reloc_leads, section_leads}
 use Rattle.block_cut.specs.Invariants.Led.{AddsPlaces, has_place, is_led_to, is_marked, mark_at, mark_in, section_number}
 use Rattle.block_cut.specs.Places.{code_place, code_places}
@@ -31,7 +31,7 @@ use Rattle.block_cut.proofs.ItemLaws.{item_at-code}
 use Rattle.block_cut.proofs.ListedLaws.{listed}
 use Rattle.block_cut.proofs.StartLaws.{start_is}
 use Rattle.block_cut.proofs.TakeLaws.{take_next}
-use Rattle.block_cut.proofs.WholeLaws.{inputs_whole}
+use Rattle.block_cut.proofs.WholeLaws.{code_at_is, inputs_whole}
 
 -- ---- tests
 
@@ -45,7 +45,7 @@ or_assoc false b c = refl
 
 -- ---- lists
 
--- one element more
+-- a test of the first k + 1 elements is a test of the first k and of the next one
 pub any_next : {X : Type 0} (p : X → Bool) (xs : List X) (k : ℕ) (x : X) → slice_get xs k ≡ Some x → list_any p (take (k + 1) xs) ≡ (list_any p (take k xs) || p x)
 any_next p xs k x at =
     ap (list_any p) (take_next xs k x at) ∙ list_any-append p (take k xs) (x ∷ []) ∙ ap (λ b. list_any p (take k xs) || b) (or_false (p x))
@@ -75,7 +75,7 @@ number_is objects q None is = ap (option_map (λ s. section_starts objects q.obj
 number_is objects q (Some k) is =
     ap (option_map (λ s. section_starts objects q.object + q.section)) is.1 ∙ ap Some (sym (has_number objects k (listed q.object q.section is.0) is.2).place)
 
--- so a section's own number is that of its places
+-- a section's number among all is that of its places
 pub number_listed : (objects : List ObjectParts) (k : ℕ) (l : IndexedSection) → slice_get (all_sections objects) k ≡ Some l → section_number objects (place_of l 0) ≡ Some k
 number_listed objects k l at = number_is objects (place_of l 0) (Some k) (l.section, listed_at objects k l at, at)
 
@@ -102,7 +102,7 @@ one_section objects p q k first second =
     let are : listed p.object p.section one.0 ≡ listed q.object q.section other.0 = cc in
     (ap (λ l. l.object) are, ap (λ l. l.index) are)
 
--- the same places lie in one section
+-- places that are the same lie in one section
 section_same : (objects : List ObjectParts) (p q : Place) → same_place p q ≡ true → section_number objects p ≡ section_number objects q
 section_same objects p q e =
     let are = same_is p q e in
@@ -177,11 +177,11 @@ module _ (objects : List ObjectParts) where
   pub adds_same : (f g : Place → Bool) (old new : Leaders) → ((q : Place) → f q ≡ g q) → AddsPlaces objects f old new → AddsPlaces objects g old new
   adds_same f g old new same adds q = adds q ∙ ap (λ b. has_place objects old q || b) (same q)
 
-  -- and then others
+  -- places that are added in two steps
   pub adds_more : (f g : Place → Bool) (old mid new : Leaders) → AddsPlaces objects f old mid → AddsPlaces objects g mid new → AddsPlaces objects (λ q. f q || g q) old new
   adds_more f g old mid new first then q = then q ∙ ap (λ b. b || g q) (first q) ∙ or_assoc (has_place objects old q) (f q) (g q)
 
-  -- those of one element more
+  -- the places of one element more
   pub adds_next : {X : Type 0} (leads : Place → X → Bool) (xs : List X) (k : ℕ) (x : X) (old mid new : Leaders) → slice_get xs k ≡ Some x
       → AddsPlaces objects (λ q. list_any (leads q) (take k xs)) old mid → AddsPlaces objects (λ q. leads q x) mid new → AddsPlaces objects (λ q. list_any (leads q) (take (k + 1) xs)) old new
   adds_next leads xs k x old mid new at first then =
@@ -215,7 +215,7 @@ places_are inputs l = by (is_code_section l.section)
     by true = refl
     by false = refl
 
--- one of a section's places
+-- a section's place with number k is that at an offset n
 pub record IsPlaceGot (inputs : ParsedInputs) (l : IndexedSection) (k : ℕ) (place : CodePlace) : Type 0 where
   pub n : ℕ
   pub at : slice_get (offsets_of l) k ≡ Some n
@@ -249,7 +249,7 @@ module _ (inputs : Inputs) (l : IndexedSection) (none : gather_fault inputs ≡ 
     end_none : item_at (parsed inputs) (place_of l (length l.section.bytes)) ≡ None
     end_none =
         let n = length l.section.bytes in
-        let here : code_at (parsed inputs).objects (place_of l n) ≡ Some l.section = ap (option_and_then code_only) found ∙ ap (λ b. cond b (Some l.section) None) code in
+        let here : code_at (parsed inputs).objects (place_of l n) ≡ Some l.section = code_at_is (parsed inputs).objects (place_of l n) l.section found code in
         item_at-code (parsed inputs) (place_of l n) l.section here
         ∙ by (starts_on l.section n) refl
       where
@@ -257,7 +257,7 @@ module _ (inputs : Inputs) (l : IndexedSection) (none : gather_fault inputs ≡ 
         by false at = refl
         by true at = absurd (omega (arith, (start_is l.section code (inputs_whole inputs l.object l.index l.section none found code) (length l.section.bytes) at).inside))
 
-    -- so the section's end leads nowhere
+    -- a section's end leads nowhere
     end_leads : (q : Place) → list_any (λ n. item_leads (parsed inputs) q (place_of l n)) (targets_in l.section) ≡ list_any (item_leads (parsed inputs) q) (map (place_of l) (starts_in l.section))
     end_leads q =
         let f : ℕ → Bool = λ n. item_leads (parsed inputs) q (place_of l n) in

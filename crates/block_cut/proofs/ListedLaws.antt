@@ -58,12 +58,12 @@ found_in objects o i s found = by (slice_get objects o) refl found
     by None at found = absurd cc
     by (Some object) at found = record { object = object; at = at; is = found }
 
--- those of its object that stand before it
+-- a section comes after those of its object that are before it
 of_object : (objects : List ObjectParts) (o i : ℕ) (object : ObjectParts) → slice_get objects o ≡ Some object → sections_before objects o i ≡ all_sections (take o objects) ++ take i (sections_in (o, object))
 unfolding sections_before
 of_object objects o i object at = ap (λ x. all_sections (take o objects) ++ option_map_or (λ t. take i (sections_in (o, t))) x []) at
 
--- with the section they are those before the next
+-- the sections before the next one are those before this one, and this one
 pub before_more : (objects : List ObjectParts) (o i : ℕ) (s : SectionParts) → section_at objects o i ≡ Some s → sections_before objects o (i + 1) ≡ sections_before objects o i ++ listed o i s ∷ []
 before_more objects o i s found =
     let own = found_in objects o i s found in

@@ -26,7 +26,7 @@ use Rattle.block_cut.specs.declared.resolved_reloc.RelocFault.TheVariants.{Kind,
 
 -- ---- upper parts
 
--- one has bytes
+-- the field of an upper part has 4 bytes
 upper_length : (k : Option RelocKind) (addend : ℤ) → is_pcrel_hi k ≡ true → field_length k addend ≡ 4
 upper_length None addend is = absurd cc
 upper_length (Some kind.PcrelHi20) addend is = refl
@@ -44,7 +44,7 @@ upper_length (Some kind.RvcBranch) addend is = absurd cc
 upper_length (Some kind.RvcJump) addend is = absurd cc
 upper_length (Some kind.Align) addend is = absurd cc
 
--- so none stands past where the fields end
+-- no upper part stands where the fields have ended, or after that
 uppers_low : (rs : List Reloc) (n : ℕ) → ((r : Reloc) → Contains rs r → 0 < field_of r → field_end r ≤ n) → (k d : ℕ) → k < length (uppers_of rs) → get_or (uppers_of rs) k d ≤ n
 uppers_low [] n before k d lt = absurd (omega (arith, lt))
 uppers_low (r ∷ rs) n before k d lt = by (uppers_low rs n (λ s held. before s (suc held.0, omega (arith, held.1), held.2))) (is_upper r) refl k lt
@@ -57,7 +57,7 @@ uppers_low (r ∷ rs) n before k d lt = by (uppers_low rs n (λ s held. before s
         omega (arith, before r (0, omega arith, refl) (omega (arith, long)))
     by rest true is (suc k) lt = rest k d (omega (arith, lt))
 
--- one more that stands where the fields have ended rises above them
+-- an upper part that stands where the fields have ended comes after all others
 pub upper_next : (rs : List Reloc) (uppers : List ℕ) (s : Reloc) (n : ℕ) → uppers ≡ uppers_of rs → AreFieldsApart n rs → n ≤ s.offset → IsNonDecreasing uppers → IsNonDecreasing (uppers ++ s.offset ∷ [])
 upper_next rs uppers s n are apart past rise =
     IsNonDecreasingBy-push (λ m. m) uppers s.offset rise (λ d some.
@@ -65,7 +65,7 @@ upper_next rs uppers s n are apart past rise =
     let is : get_or uppers (length uppers - 1) d ≡ get_or (uppers_of rs) (length (uppers_of rs) - 1) d = λ j. get_or (are j) (length (are j) - 1) d in
     omega (arith, low, is, past))
 
--- one relocation more is an upper part or not
+-- one relocation more, which is an upper part or not
 pub one_more : (rs : List Reloc) (fields : Fields) (s : Reloc) → HoldsFields rs fields → (b : Bool) → is_upper s ≡ b → (new : Fields) → new.uppers.items ≡ fields.uppers.items ++ cond b (s.offset ∷ []) []
     → IfSome new.end (λ n. AreFieldsApart n (rs ++ s ∷ [])) → IfSome new.end (λ _. (n : ℕ) × ((fields.end ≡ Some n) × (0 < field_of s → n ≤ s.offset))) → HoldsFields (rs ++ s ∷ []) new
 one_more rs fields s holds b upper new items apart past = record { uppers = items ∙ more; apart = apart; rise = by new.end past }
@@ -149,7 +149,7 @@ module _ (inputs : ParsedInputs) (l : IndexedSection) (k n : ℕ) (apart : AreFi
   three false false true none = absurd cc
   three false false false none = (refl, (refl, refl))
 
-  -- one of relocations that change no byte twice has no fault if it has none by the first of them
+  -- a relocation among those that change no byte twice has no fault if it has none by the first of them
   pub taken_fine : own_fault inputs (with_relocs (take k l.section.relocs) l) r ≡ None → own_fault inputs l r ≡ None
   taken_fine none =
       let part = with_relocs (take k l.section.relocs) l in

@@ -40,7 +40,7 @@ same_by_order p q =
 pub among_by_order : (places : List Place) (q : Place) → list_any (λ p. is_eq (place_cmp q p)) places ≡ is_listed places q
 among_by_order places q = λ j. list_any (λ p. same_by_order p q j) places
 
--- one that is put in is there, and the others stay
+-- a place that is put into a set is in it, and the others stay
 pub put_in : (old new : List Place) (p q : Place) → list_any (λ r. is_eq (place_cmp q r)) new ≡ cond (is_eq (place_cmp p q)) true (list_any (λ r. is_eq (place_cmp q r)) old)
     → is_listed new q ≡ (is_listed old q || same_place p q)
 put_in old new p q is =

@@ -35,7 +35,7 @@ ordered q r is = objects (ltb q.object r.object) refl is
 
 -- ---- any two
 
--- one comes before the other, by their first parts or, if these are equal, by the rest
+-- two places are ordered by their first parts or, if these are equal, by the rest
 by_parts : (a b : ℕ) (less more : Bool) (S : Type 0) → (a ≡ b → (less ≡ true) ⊎ ((more ≡ true) ⊎ S))
     → ((ltb a b || (eqb a b && less)) ≡ true) ⊎ (((ltb b a || (eqb b a && more)) ≡ true) ⊎ S)
 by_parts a b less more S rest = first (cases_lt a b) (cases_lt b a)

@@ -16,6 +16,7 @@ use Rattle.zc_base.specs.MemMap.{IsMap}
 use Rattle.zc_base.specs.Places.{is_before}
 use Rattle.zc_base.specs.declared.place.Place.{Place}
 use Rattle.elf32_read.specs.Parts.{ObjectParts, SectionParts, is_code_section}
+use Rattle.psabi_sym.proofs.BlockLaws.{aligned_up-ge}
 use Rattle.psabi_sym.specs.Blocks.{aligned_up}
 use Rattle.psabi_sym.specs.Faults.{gather_fault, power_above}
 use Rattle.psabi_sym.specs.Inputs.{Inputs, ParsedInputs, parsed}
@@ -27,7 +28,7 @@ use Rattle.block_cut.specs.PlainLayout.{address_on, after_item, after_start, aft
 use Rattle.block_cut.proofs.ItemLaws.{IsItemAt, Takes, Bytes, Padding, after_plain, item_found, item_takes}
 use Rattle.block_cut.proofs.ListedLaws.{between, cut_at, listed}
 use Rattle.block_cut.proofs.PlaceOrder.{IsOrdered, Earlier, Within, ordered, same_or_before}
-use Rattle.block_cut.proofs.RoomLaws.{AreWhole, after_starts-ge, aligned_up-ge, all_whole, ends-ge, plain_end-fits, section_end-code, section_end-other}
+use Rattle.block_cut.proofs.RoomLaws.{AreWhole, after_starts-ge, all_whole, ends-ge, plain_end-fits, section_end-code, section_end-other}
 use Rattle.block_cut.proofs.StartLaws.{among_first, among_later, before_end_all, before_next_start, front, is_among, none_within, start_is, step}
 use Rattle.block_cut.proofs.CodeSizeLaws.{step_even}
 use Rattle.block_cut.proofs.WholeLaws.{code_is_section, code_whole}
@@ -68,7 +69,7 @@ placed inputs q a is = by (code_at inputs.objects q) refl
         tested s at (starts_on s q.offset) (eqb q.offset (length s.bytes)) refl refl
         (sym ((λ j. cond (target_on inputs.objects q s at j) (option_map (address_on inputs q) (at j)) None)) ∙ is)
 
--- and the other way round
+-- a place where an item starts or a section of code ends has an address in the plain layout
 pub place_address : (inputs : ParsedInputs) (q : Place) (s : SectionParts) → code_at inputs.objects q ≡ Some s → (starts_on s q.offset ≡ true) ⊎ (q.offset ≡ length s.bytes) → plain_address inputs q ≡ Some (address_on inputs q s)
 unfolding plain_address
 place_address inputs q s at target =
@@ -126,7 +127,7 @@ module _ (inputs : ParsedInputs) (q : Place) (s : SectionParts) (code : is_code_
       ap (after_starts inputs (spot q s) begin) (before_next_start s code whole k start)
       ∙ fold-append (after_start inputs (spot q s)) begin before (k ∷ [])
 
-  -- it rises
+  -- the address of an offset doesn't fall as the offset rises
   pub offset_rises : (m k : ℕ) → m ≤ k → at_offset m ≤ at_offset k
   offset_rises m k le =
       let begin = plain_start inputs q.object q.section s in
@@ -274,7 +275,7 @@ module _ (inputs : Inputs) (none : gather_fault inputs ≡ None) where
       by s at (inl start) = inl (ap (λ o. option_map_or (λ t. starts_on t (q.offset + size_on s q.offset)) o false) at ∙ start)
       by s at (inr end) = inr (ap (λ o. option_map_or (λ t. eqb (q.offset + size_on s q.offset) (length t.bytes)) o false) at ∙ eq-eqb (q.offset + size_on s q.offset) (length s.bytes) end)
 
-  -- its address is the one after the item
+  -- the address of the next place is the one after the item
   pub next_address : (q : Place) (i : Item) (a : ℕ) → item_at (parsed inputs) q ≡ Some i → plain_address (parsed inputs) q ≡ Some a → plain_address (parsed inputs) (next_at objects q) ≡ Some (after_item a (size_at objects q) i)
   next_address q i a is address =
       let at = item_here q i is in
@@ -324,7 +325,7 @@ module _ (inputs : Inputs) (none : gather_fault inputs ≡ None) where
         omega (arith, at.address, rises, end, last),
       )
 
-  -- and are words
+  -- addresses in the plain layout fit in a word
   pub address_bounds : IsMap inputs.map → (q : Place) (a : ℕ) → plain_address (parsed inputs) q ≡ Some a → AreBounds a
   address_bounds map q a is =
       let at = here q a is in
@@ -391,7 +392,7 @@ module _ (inputs : Inputs) (none : gather_fault inputs ≡ None) where
           λ j. address_on (parsed inputs) (record { object = sym object j; section = sym section j; offset = r.offset }) (sym same j) in
           omega (arith, at.address, to.address, moved, offset_rises (parsed inputs) q at.section at.code_is at.whole q.offset r.offset (omega (arith, lt)))
 
-  -- and what comes after an item lies past its bytes
+  -- an item that comes after another one lies past its bytes
   pub rises_past : (q r : Place) (i : Item) (a b : ℕ) → is_before q r ≡ true → item_at (parsed inputs) q ≡ Some i → plain_address (parsed inputs) q ≡ Some a → plain_address (parsed inputs) r ≡ Some b → after_item a (size_at objects q) i ≤ b
   rises_past q r i a b before is one two = by (here q a one) (item_here q i is) (here r b two) (ordered q r before)
     where

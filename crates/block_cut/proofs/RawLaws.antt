@@ -5,7 +5,7 @@ use Rattle.block_cut.specs.Items.{raw_in}
 use Rattle.block_cut.specs.declared.item.Item.{Item}
 use Rattle.block_cut.specs.declared.item.Item.TheVariants.{Raw, RawShort}
 
--- so what holds of both holds of it, whatever its size
+-- what holds of both kinds of items that are copied unread holds of these bytes, whatever their number
 pub raw_by : (P : Item → Type 0) → ((h : ℕ) → P (RawShort h)) → ((w : ℕ) → P (Raw w)) → (size : ℕ) (bytes : List ℕ) (n : ℕ) → P (raw_in size bytes n)
 raw_by P short word size bytes n = by (eqb size 2)
   where

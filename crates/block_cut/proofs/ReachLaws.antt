@@ -36,7 +36,7 @@ out_by inputs q o = option_map_or (λ i. option_map_or (is_far inputs q (size_at
 pub no_way : (inputs : ParsedInputs) (q : Place) (i : Item) → item_at inputs q ≡ Some i → way_place (size_at inputs.objects q) i ≡ None → is_out_of_reach inputs q ≡ false
 no_way inputs q i at none = ap (out_by inputs q) at ∙ ap (λ o. option_map_or (is_far inputs q (size_at inputs.objects q) i) o false) none
 
--- and else it is by the two addresses
+-- if the item leads to another place, it is out of range by the two addresses
 pub way_there : (inputs : ParsedInputs) (q to : Place) (i : Item) → item_at inputs q ≡ Some i → way_place (size_at inputs.objects q) i ≡ Some to
     → is_out_of_reach inputs q ≡ option_map_or (λ d. not (reaches (size_at inputs.objects q) i d)) (distance_between (plain_address inputs q) (plain_address inputs to)) false
 way_there inputs q to i at leads = ap (out_by inputs q) at ∙ ap (λ o. option_map_or (is_far inputs q (size_at inputs.objects q) i) o false) leads
@@ -46,7 +46,7 @@ abbrev pub branch_place : Item → Option Place
 branch_place (Branch op first second to) = Some to
 branch_place item = None
 
--- it is too far for a branch of 4 bytes
+-- a place is too far for a branch of 4 bytes
 abbrev pub is_far_branch : ParsedInputs → Place → Place → Bool
 is_far_branch inputs q to = option_map_or (λ d. not (branch_reach d)) (plain_distance inputs q to) false
 
@@ -95,7 +95,7 @@ find_through f p (x ∷ xs) = by (p (f x)) (find_through f p xs)
     by true rest = refl
     by false rest = rest
 
--- such a branch stands at a place of a section
+-- the branch or jump at a place of a section is out of range
 abbrev pub is_out_at : ParsedInputs → IndexedSection → CodePlace → Bool
 is_out_at inputs l p = is_out_of_reach inputs (place_of l p.offset)
 
@@ -141,9 +141,9 @@ place_own inputs l k p at = by (is_code_section l.section) at
     by true at = named (slice_get (targets_in l.section) k) (sym (slice_get-map (code_place inputs l) (targets_in l.section) k) ∙ at)
     by false at = absurd cc
 
--- ---- so many elements
+-- ---- lists of elements
 
--- one more that doesn't pass
+-- none of the first k + 1 elements passes if none of the first k does, nor the next one
 pub none_next : {X : Type 0} (p : X → Bool) (xs : List X) (k : ℕ) (x : X) → slice_get xs k ≡ Some x → find p (take k xs) ≡ None → p x ≡ false → find p (take (k + 1) xs) ≡ None
 none_next p xs k x at none fails = found_next p xs k x at ∙ (λ j. option_or (none j) (cond (fails j) (Some x) None))
 
@@ -154,7 +154,7 @@ first_next p xs k x at none passes =
 
 -- ---- sections
 
--- one more without such a place
+-- no place of one section more passes
 pub none_more : (p : Place → Bool) (sections : List IndexedSection) (k : ℕ) (l : IndexedSection) → slice_get sections k ≡ Some l → find p (flat_map places_of (take k sections)) ≡ None → find p (places_of l) ≡ None
     → find p (flat_map places_of (take (k + 1) sections)) ≡ None
 none_more p sections k l at before own =

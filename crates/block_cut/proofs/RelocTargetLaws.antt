@@ -3,7 +3,7 @@ use Rattle.std.proofs.Common.{◌≡◌, ◌≢◌, ℕ, ◌*◌, ◌/◌, ◌%�
 use Rattle.std.specs.Prelude.{is_some, ◌&&◌, ◌||◌, not}
 use Rattle.std.specs.List.{list_any}
 use Rattle.block_cut.specs.Invariants.Led.{is_marked, mark_in, section_number}
-use Rattle.std.specs.Option.{option_map_or, option_map, option_and_then}
+use Rattle.std.specs.Option.{option_map_or, option_map}
 use Rattle.std.proofs.lemmas.Bool.{cases_lt, eq-eqb, eqb-true, false≢true}
 use Rattle.std.proofs.lemmas.List.{get_or_past}
 use Rattle.std.proofs.lemmas.List.Folds.{list_any-append, list_any_at}
@@ -20,21 +20,22 @@ use Rattle.zc_base.specs.Places.{same_place}
 use Rattle.zc_base.specs.declared.place.Place.{Place}
 use Rattle.block_cut.specs.Invariants.CodeTargets.{code_leads, is_wrong, is_wrong_target}
 use Rattle.block_cut.specs.Faults.{if_so, is_bad_target, section_fault}
-use Rattle.block_cut.specs.Items.{code_only, is_target_at, place_of}
+use Rattle.block_cut.specs.Items.{is_target_at, place_of}
 use Rattle.block_cut.specs.Leaders.{is_place, section_leads}
 use Rattle.block_cut.specs.Relocs.{is_transfer}
 use Rattle.block_cut.specs.Resolved.{code_relocs, fault_of, resolved_fault, placed_relocs}
-use Rattle.block_cut.specs.Invariants.SectionText.{by_halfword, number_on, numbers_of_section}
+use Rattle.block_cut.specs.Invariants.HalfwordTables.{by_halfword, number_on, numbers_of_section}
 use Rattle.block_cut.specs.declared.resolved_reloc.RelocFault.{RelocFault}
 use Rattle.block_cut.specs.declared.resolved_reloc.ResolvedReloc.{ResolvedReloc}
 use Rattle.block_cut.proofs.JudgeLaws.{section_resolved}
 use Rattle.block_cut.proofs.LedLaws.{or_assoc, or_false}
 use Rattle.block_cut.proofs.StrayLaws.{placed_lead}
+use Rattle.block_cut.proofs.WholeLaws.{code_at_is}
 use Rattle.block_cut.proofs.WordLaws.{number_got, some_target}
 
 -- ---- lists
 
--- one element more at the end
+-- a test of a list with one element more at its end
 pub any_pushed : {X : Type 0} (p : X → Bool) (xs : List X) (x : X) → (list_any p xs || p x) ≡ list_any p (xs ++ x ∷ [])
 any_pushed p xs x = sym (list_any-append p xs (x ∷ []) ∙ ap (λ b. list_any p xs || b) (or_false (p x)))
 
@@ -67,7 +68,7 @@ any_weaker p q weaker (x ∷ xs) is = by (p x) refl is (any_weaker p q weaker xs
 same_self : (p : Place) → same_place p p ≡ true
 same_self p = λ j. eq-eqb p.object p.object refl j && (eq-eqb p.section p.section refl j && eq-eqb p.offset p.offset refl j)
 
--- one that isn't wrong has no fault if code may lead where it leads
+-- a relocation that isn't wrong has no fault if code may lead where it leads
 fine_one : (objects : List ObjectParts) (i : ℕ) (d : ResolvedReloc) → is_wrong d ≡ false → ((q : Place) → is_place q d.target ≡ true → is_target_at objects q ≡ true) → resolved_fault objects i d ≡ None
 fine_one objects i d right leads = by d.fault refl right
   where
@@ -119,7 +120,7 @@ module _ (inputs : ParsedInputs) (l : IndexedSection) (b : Bool) (own : List Res
       by true fine = sym (fine refl)
       by false fine = section_resolved inputs l
 
-  -- and leads where it does, but for what was added before
+  -- with the section's own relocations the places are those of all, and those before
   pub left_leads : (q : Place) (before : Bool) → (b ≡ true → section_leads inputs q l ≡ true → before ≡ true) → (rest : Bool)
       → ((before || rest) || list_any (λ d. is_place q d.target) own) ≡ (before || (rest || section_leads inputs q l))
   left_leads q before kept rest = ap (λ ds. (before || rest) || list_any (λ d. is_place q d.target) ds) is ∙ by b kept
@@ -139,7 +140,7 @@ module _ (inputs : ParsedInputs) (l : IndexedSection) (b : Bool) (own : List Res
 pub code_lead : (inputs : ParsedInputs) (q : Place) (l : IndexedSection) → is_code_section l.section ≡ true → code_leads inputs q l ≡ section_leads inputs q l
 code_lead inputs q l code = ap (λ b. list_any (λ d. is_place q d.target) (cond b (placed_relocs inputs l) [])) code ∙ placed_lead inputs l q
 
--- so no place is added by them that isn't by all
+-- the relocations of code add no place that those of all don't
 pub code_led : (inputs : ParsedInputs) (q : Place) (ls : List IndexedSection) → (list_any (code_leads inputs q) ls || list_any (section_leads inputs q) ls) ≡ list_any (section_leads inputs q) ls
 code_led inputs q ls = both (list_any (code_leads inputs q) ls) (list_any (section_leads inputs q) ls) (any_weaker (code_leads inputs q) (section_leads inputs q) one ls)
   where
@@ -154,7 +155,7 @@ code_led inputs q ls = both (list_any (code_leads inputs q) ls) (list_any (secti
         by true code leads = sym (placed_lead inputs l q) ∙ leads
         by false other leads = absurd cc
 
--- one of the elements settles a test of all
+-- one element that passes settles a test of all
 pub any_here : {X : Type 0} (p : X → Bool) (xs : List X) (k : ℕ) (x : X) → slice_get xs k ≡ Some x → p x ≡ true → list_any p xs ≡ true
 any_here p xs k x at is = list_any_at p xs k x (slice_get_within xs k x at) (ap p (get_or_from_slice_get xs k x x at) ∙ is)
 
@@ -198,7 +199,7 @@ numbered_target inputs l numbers n none found are even some = by (is_code_sectio
           let got = (number_got l.section numbers (n / 2) 0 are lt).1 in
           let twice : 2 * (n / 2) ≡ n = omega (arith, even) in
           some_target (parsed inputs).objects (place_of l n) l.section
-          (ap (option_and_then code_only) found ∙ ap (λ b. cond b (Some l.section) None) code)
+          (code_at_is (parsed inputs).objects (place_of l n) l.section found code)
           (λ e. some (got ∙ ap (number_on l.section) twice ∙ e))
       | inr past ↦ absurd (some (get_or_past numbers (n / 2) 0 past))
     ]

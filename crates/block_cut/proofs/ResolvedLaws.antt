@@ -47,7 +47,7 @@ find_kept f keeps p q same (x ∷ xs) = by (keeps x) (p (f x)) (q x) refl (same 
         found false rest = rest
     by false here own at is rest = rest ∙ ap (λ b. option_map f (cond b (Some x) (find q xs))) is
 
--- one that is right stands as it should, by its kind and its place
+-- a relocation decides an item exactly if its kind and its place are right
 right_is : (kind place pair : Bool) → is_right (cond kind (Some Kind) (cond place (Some Place) (cond pair (Some Pair) None))) ≡ (not kind && not place)
 right_is true place pair = refl
 right_is false true pair = refl
@@ -70,7 +70,7 @@ resolved_on inputs l n = find_kept (resolved_reloc inputs l) asks (is_right_at n
 
 -- ---- what it says
 
--- of the addend an item needs no more than how many bytes the relocation changes
+-- of the addend an item needs only how many bytes the relocation changes
 field_tells : (k : Option RelocKind) (addend : ℤ) (t : Target) (bytes : List ℕ) (n : ℕ) → known_item k (pos (field_length k addend)) t bytes n ≡ known_item k addend t bytes n
 field_tells None addend t bytes n = refl
 field_tells (Some Ignored) addend t bytes n = refl
@@ -88,7 +88,7 @@ field_tells (Some RvcBranch) addend t bytes n = refl
 field_tells (Some RvcJump) addend t bytes n = refl
 field_tells (Some Align) addend t bytes n = refl
 
--- the one at an offset of code, resolved: where it stands, how many bytes it changes, and which item it says
+-- the resolved relocation at an offset of code: its offset, the number of bytes that it changes, and its item
 pub record IsResolvedAt (inputs : ParsedInputs) (l : IndexedSection) (n : ℕ) (r : Reloc) : Type 0 where
   pub at : (resolved_reloc inputs l r).offset ≡ n
   pub size : (resolved_reloc inputs l r).size ≡ field_of r

@@ -22,7 +22,7 @@ use Rattle.psabi_sym.specs.Inputs.{Inputs, ParsedInputs, parsed}
 use Rattle.psabi_sym.specs.Indexed.{IndexedSection, all_sections, section_at, sections_in}
 use Rattle.psabi_sym.specs.declared.section_row.SectionRole.{SectionRole}
 use Rattle.psabi_sym.specs.declared.section_row.SectionRole.TheVariants.{Code, InClass, Dropped}
-use Rattle.psabi_sym.proofs.BlockLaws.{aligned_up-lt}
+use Rattle.psabi_sym.proofs.BlockLaws.{aligned_up-ge, aligned_up-lt}
 use Rattle.psabi_sym.proofs.BridgeLaws.{map-map}
 use Rattle.psabi_sym.proofs.Gathered.{all_none}
 use Rattle.psabi_sym.proofs.PlaceLaws.{code_is}
@@ -116,7 +116,7 @@ sum_of_none : (f : ℕ → ℕ) (xs : List ℕ) → ((x : ℕ) → f x ≡ 0) �
 sum_of_none f [] none = refl
 sum_of_none f (x ∷ xs) none = omega (arith, sum_by-cons f x xs, none x, sum_of_none f xs none)
 
--- a room that one offset has
+-- the room that a relocation at `at` gives to the offset m
 abbrev own_room : ℕ → ℕ → ℕ → ℕ
 own_room at room m = cond (eqb at m) room 0
 
@@ -130,7 +130,7 @@ own_room_none at room low (x ∷ xs) above lt =
 abbrev found_room : SectionParts → List Reloc → ℕ → ℕ
 found_room s relocs m = option_map_or reloc_room (find (λ r. is_sound s r && eqb r.offset m) relocs) 0
 
--- with one relocation more, that room is found there at most
+-- with one relocation more, an offset has that relocation's room more at most
 found_more : (s : SectionParts) (r : Reloc) (rs : List Reloc) (m : ℕ) → found_room s (r ∷ rs) m ≤ own_room r.offset (reloc_room r) m + found_room s rs m
 found_more s r rs m = by (is_sound s r) (eqb r.offset m)
   where
@@ -156,7 +156,7 @@ module _ (s : SectionParts) (code : is_code_section s ≡ true) (whole : IsWhole
               let other : own_room at room n ≡ 0 = ap (λ b. cond b room 0) e in
               omega (arith, sum_by-cons (own_room at room) n xs, other, rest)
 
-  -- so the rooms that starts have are no more than those of all relocations
+  -- the rooms at all starts are no more than those of all relocations
   rooms_found : (rs : List Reloc) → sum_by (found_room s rs) (starts_in s) ≤ sum_by reloc_room rs
   rooms_found [] = omega (arith, sum_of_none (found_room s []) (starts_in s) (λ m. refl))
   rooms_found (r ∷ rs) =
@@ -194,12 +194,7 @@ module _ (s : SectionParts) (code : is_code_section s ≡ true) (whole : IsWhole
           (λ a. omega arith)
           (λ n xs lt words st above rest a. omega (arith, rest (after_start inputs (listed o i s) a n), item_fits inputs s (place_of (listed o i s) n) code a, sum_by-cons (room_at s) n xs))
 
--- rounding up doesn't go back
-pub aligned_up-ge : (align at : ℕ) → at ≤ aligned_up align at
-unfolding aligned_up
-aligned_up-ge align at = grind arith
-
--- nor does an item
+-- an item doesn't go back
 pub after_item-ge : (a n : ℕ) (i : Item) → a ≤ after_item a n i
 after_item-ge a n i = by (padding_of i)
   where
@@ -249,7 +244,7 @@ are_whole-append : (first second : List IndexedSection) → AreWhole first → A
 are_whole-append [] second one two = two
 are_whole-append (l ∷ ls) second one two = (one.0, are_whole-append ls second one.1 two)
 
--- so is that of inputs without a fault
+-- in inputs without a fault all sections of code are whole
 module _ (inputs : Inputs) (none : gather_fault inputs ≡ None) where
   whole_sections : (o n : ℕ) (ss : List SectionParts) → ((i : ℕ) (s : SectionParts) → slice_get ss i ≡ Some s → section_at (parsed inputs).objects o (n + i) ≡ Some s) → AreWhole (map (λ s. record { object = o; index = s.0; section = s.1 }) (enumerate_from n ss))
   whole_sections o n [] at = tt

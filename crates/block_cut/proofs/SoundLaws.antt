@@ -114,7 +114,7 @@ sound_parts s r code sound =
     not_false true h = refl
     not_false false h = absurd cc
 
--- that at an offset is
+-- the relocation at an offset of code is sound there
 pub sound_at : (s : SectionParts) (n : ℕ) (r : Reloc) → is_code_section s ≡ true → reloc_on s n ≡ Some r → IsSoundAt s n r
 unfolding reloc_on
 sound_at s n r code found =
@@ -131,7 +131,7 @@ sound_at s n r code found =
       inside = omega (arith, at, is.inside);
     }
 
--- and it is sound
+-- the relocation at an offset is one that changes something, whose kind and place are right
 pub sound_is : (s : SectionParts) (n : ℕ) (r : Reloc) → reloc_on s n ≡ Some r → is_sound s r ≡ true
 unfolding reloc_on
 sound_is s n r found = (and_parts (is_sound s r) (eqb r.offset n) (found_passes (λ t. is_sound s t && eqb t.offset n) s.relocs r found)).0

@@ -30,7 +30,7 @@ pub above_less : (low high : ℕ) (xs : List ℕ) → low ≤ high → Above hig
 above_less low high [] le all = tt
 above_less low high (x ∷ xs) le all = (omega (arith, all.0), above_less low high xs le all.1)
 
--- those below aren't among them
+-- numbers below all of a list aren't among it
 pub above_none : (low k : ℕ) (xs : List ℕ) → Above low xs → k < low → is_among k xs ≡ false
 above_none low k [] all lt = refl
 above_none low k (x ∷ xs) all lt =
@@ -43,7 +43,7 @@ above_filter low k (x ∷ xs) all le =
     let past : ltb x k ≡ false = le-ltb x k (omega (arith, all.0)) in
     ap (λ b. cond b (x ∷ filter (λ m. ltb m k) xs) (filter (λ m. ltb m k) xs)) past ∙ above_filter low k xs all.1 le
 
--- if none lies between, as many lie below both
+-- if no number of a list lies between two, as many lie below either
 pub filter_between : (low high : ℕ) (xs : List ℕ) → low ≤ high → ((m : ℕ) → low ≤ m → m < high → is_among m xs ≡ false) → filter (λ m. ltb m high) xs ≡ filter (λ m. ltb m low) xs
 filter_between low high [] le none = refl
 filter_between low high (x ∷ xs) le none =
@@ -227,7 +227,7 @@ module _ (s : SectionParts) (code : is_code_section s ≡ true) (whole : IsWhole
             | inr le ↦ not_among n m xs (λ same. omega (arith, same, le, low)) (rest k m is low high)
           ]
 
-  -- with one, those before the next are those before it and itself
+  -- the starts before the next start are those before this one, and this one
   pub before_next_start : (k : ℕ) → starts_on s k ≡ true → filter (λ m. ltb m (k + size_on s k)) (starts_in s) ≡ filter (λ m. ltb m k) (starts_in s) ++ k ∷ []
   before_next_start = along (λ n xs. (k : ℕ) → is_among k xs ≡ true → filter (λ m. ltb m (k + size_on s k)) xs ≡ filter (λ m. ltb m k) xs ++ k ∷ [])
       (λ k is. absurd cc)
@@ -260,7 +260,7 @@ module _ (s : SectionParts) (code : is_code_section s ≡ true) (whole : IsWhole
   before_first_none = along (λ n xs. filter (λ m. ltb m 0) xs ≡ []) refl
       (λ n xs lt words st above rest. ap (λ b. cond b (n ∷ filter (λ m. ltb m 0) xs) (filter (λ m. ltb m 0) xs)) (le-ltb n 0 (omega arith)) ∙ rest)
 
-  -- those before an offset begin those before a later one
+  -- the starts before an offset are the front of those before a later one
   pub front : (m k : ℕ) → m ≤ k → IsFront (starts_in s) m k
   front = along (λ n xs. (m k : ℕ) → m ≤ k → IsFront xs m k) (λ m k le. record { rest = []; are = refl }) each
     where

@@ -24,7 +24,7 @@ use Rattle.block_cut.specs.declared.resolved_reloc.RelocFault.TheVariants.{Kind,
 use Rattle.block_cut.specs.declared.resolved_reloc.ResolvedReloc.{ResolvedReloc}
 use Rattle.zc_base.specs.declared.place.Place.{Place}
 use Rattle.block_cut.specs.Whole.{IsWhole}
-use Rattle.block_cut.specs.Invariants.SectionText.{number_on}
+use Rattle.block_cut.specs.Invariants.HalfwordTables.{number_on}
 use Rattle.block_cut.proofs.CodeSizeLaws.{step_even}
 use Rattle.block_cut.proofs.LedLaws.{relocs_lead}
 use Rattle.block_cut.proofs.WordLaws.{number_other, number_target}
@@ -33,7 +33,7 @@ use Rattle.block_cut.proofs.StartLaws.{IsStart, along, among_first, among_later,
 
 -- ---- stray ones don't count
 
--- the same search with a further test that holds of what passes
+-- a search with a further test that holds of all that passes finds the same
 same_find : (p q : Reloc → Bool) (xs : List Reloc) → ((r : Reloc) → p r ≡ true → q r ≡ true) → find (λ r. p r && q r) xs ≡ find p xs
 same_find p q [] holds = refl
 same_find p q (x ∷ xs) holds = by (p x) refl (same_find p q xs holds)
@@ -198,7 +198,7 @@ placed_data inputs l other = all (resolved_relocs inputs l)
     all [] = refl
     all (d ∷ ds) = λ j. placed_same l.section d (ap (λ b. b && not (starts_on l.section d.offset)) other) j ∷ all ds j
 
--- they lead where they did
+-- with the faults of places the relocations lead where they led
 pub placed_lead : (inputs : ParsedInputs) (l : IndexedSection) (q : Place) → list_any (λ d. is_place q d.target) (placed_relocs inputs l) ≡ section_leads inputs q l
 placed_lead inputs l q = all (resolved_relocs inputs l) ∙ relocs_lead inputs l q
   where
@@ -206,7 +206,7 @@ placed_lead inputs l q = all (resolved_relocs inputs l) ∙ relocs_lead inputs l
     all [] = refl
     all (d ∷ ds) = ap (λ b. is_place q d.target || b) (all ds)
 
--- and where no object is compressed none strays in code either
+-- where no object is compressed, no relocation of code stands where no item starts, unless it has a fault already
 pub placed_plain : (inputs : ParsedInputs) (l : IndexedSection) → is_code_section l.section ≡ true → IsWhole l.section → l.section.compressed ≡ false → placed_relocs inputs l ≡ resolved_relocs inputs l
 placed_plain inputs l code whole plain = all s.relocs (λ r held. held)
   where
@@ -244,7 +244,7 @@ placed_plain inputs l code whole plain = all s.relocs (λ r held. held)
         by true asked rest = λ j. one r (held r (0, omega arith, refl)) asked j ∷ rest j
         by false other rest = rest
 
--- so all that is wrong is known, if it is looked for in compressed objects
+-- all that is wrong is known if stray relocations are looked for in compressed objects alone
 pub placed_either : (inputs : ParsedInputs) (l : IndexedSection) → is_code_section l.section ≡ true → IsWhole l.section
     → cond l.section.compressed (map (placed_reloc l.section) (resolved_relocs inputs l)) (resolved_relocs inputs l) ≡ placed_relocs inputs l
 placed_either inputs l code whole = by l.section.compressed refl
@@ -259,7 +259,7 @@ placed_either inputs l code whole = by l.section.compressed refl
 pub no_start : (s : SectionParts) (n : ℕ) → number_on s n ≡ 0 → starts_on s n ≡ false
 no_start s n none = (or_parts (starts_on s n) (eqb n (length s.bytes)) (number_other s n none)).0
 
--- and else one does unless that is the end
+-- where the number isn't 0 an item starts, unless that is the end
 pub some_start : (s : SectionParts) → is_code_section s ≡ true → IsWhole s → (n : ℕ) → number_on s n ≢ 0 → ltb (n / 2 + 1) (length s.bytes / 2 + 1) ≡ starts_on s n
 some_start s code whole n some = by (starts_on s n) refl (number_target s n some)
   where

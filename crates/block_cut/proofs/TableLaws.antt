@@ -1,4 +1,5 @@
--- Which relocation stands at each halfword, as a table is filled: the first of those so far that are right and begin there.
+-- Which relocation decides the item at each halfword, as a table is filled: the first of those so far that are right and begin
+-- there.
 use Rattle.std.proofs.Common.{◌≡◌, ◌≢◌, ℕ, ◌+◌, ◌-◌, ◌*◌, ◌/◌, ◌%◌, ◌<◌, ◌≤◌, List, length, get_or, take, Bool, true, false, cond, Option, Some, None, slice_get, refl, sym, ap, ◌∙◌, arith, eqb, eq-eqb, inl, inr}
 use Rattle.std.specs.Prelude.{◌&&◌}
 use Rattle.std.specs.List.{find}
@@ -13,13 +14,13 @@ use Rattle.psabi_sym.specs.Indexed.{IndexedSection}
 use Rattle.block_cut.specs.Items.{item_in, item_under, place_of, size_on}
 use Rattle.block_cut.specs.Relocs.{field_of, reloc_on}
 use Rattle.block_cut.specs.Resolved.{is_right, is_right_at, resolved_item, resolved_reloc, resolved_relocs}
-use Rattle.block_cut.specs.Invariants.SectionText.{IsRelocTable, numbered}
+use Rattle.block_cut.specs.Invariants.HalfwordTables.{IsRelocTable, numbered}
 use Rattle.block_cut.specs.CodeSizes.{own_size}
 use Rattle.block_cut.specs.declared.resolved_reloc.ResolvedReloc.{ResolvedReloc}
 use Rattle.block_cut.proofs.ResolvedLaws.{resolved_at, resolved_on}
 use Rattle.block_cut.proofs.WordLaws.{found_next, or_none}
 
--- after so many relocations
+-- the table after k relocations
 pub record IsTableSoFar (relocs : List ResolvedReloc) (count k : ℕ) (table : List ℕ) : Type 0 where
   pub count_is : length table ≡ count
   pub low : (j : ℕ) → j < count → get_or table j 0 ≤ k
@@ -33,7 +34,7 @@ numbered_some : (relocs : List ResolvedReloc) (n : ℕ) → n ≢ 0 → numbered
 numbered_some relocs n ne = ap (λ b. cond b None (slice_get relocs (n - 1))) (ne_eqb n 0 ne)
 
 module _ (relocs : List ResolvedReloc) (count k : ℕ) (r : ResolvedReloc) (at : slice_get relocs k ≡ Some r) where
-  -- one more, which is right
+  -- the table with one relocation more, which is right
   pub table_next : (old new : List ℕ) → is_right r.fault ≡ true → r.offset % 2 ≡ 0 → IsTableSoFar relocs count k old → length new ≡ length old
       → ((j : ℕ) → j < length old → get_or new j 0 ≡ cond (eqb j (r.offset / 2)) (cond (eqb (get_or old j 0) 0) (k + 1) (get_or old j 0)) (get_or old j 0))
       → IsTableSoFar relocs count (k + 1) new
@@ -96,7 +97,7 @@ module _ (relocs : List ResolvedReloc) (count k : ℕ) (r : ResolvedReloc) (at :
         ∙ or_none (find (is_right_at (2 * j)) (take k relocs)));
   }
 
-  -- one that isn't right, or stands at an odd offset
+  -- a relocation that isn't right, or stands at an odd offset, is right at no halfword
   pub wrong_fails : is_right r.fault ≡ false → (j : ℕ) → is_right_at (2 * j) r ≡ false
   wrong_fails wrong j = ap (λ b. b && eqb r.offset (2 * j)) wrong
 
@@ -127,7 +128,7 @@ table_all relocs count k table past is = record {
 
 -- ---- what the relocation at an offset says
 
--- how many bytes what stands there has
+-- the number of bytes of the item at an offset, by the relocation in the table
 pub sized_on : (inputs : ParsedInputs) (l : IndexedSection) (n : ℕ) → is_code_section l.section ≡ true
     → option_map_or (λ d. d.size) (find (is_right_at n) (resolved_relocs inputs l)) (own_size l.section.compressed l.section.bytes n) ≡ size_on l.section n
 sized_on inputs l n code = ap (λ o. option_map_or (λ (d : ResolvedReloc). d.size) o own) (resolved_on inputs l n) ∙ by (reloc_on l.section n) refl
@@ -139,7 +140,7 @@ sized_on inputs l n code = ap (λ o. option_map_or (λ (d : ResolvedReloc). d.si
     by None at = refl
     by (Some r) at = (resolved_at inputs l n r code at).size
 
--- which item stands there with it
+-- the item at an offset by its relocation in the table
 pub item_with : (inputs : ParsedInputs) (l : IndexedSection) (n : ℕ) (d : ResolvedReloc) → is_code_section l.section ≡ true → find (is_right_at n) (resolved_relocs inputs l) ≡ Some d
     → resolved_item d l.section.bytes n ≡ item_in inputs l.section (place_of l n)
 item_with inputs l n d code found = by (reloc_on l.section n) refl (sym (resolved_on inputs l n) ∙ found)
@@ -151,7 +152,7 @@ item_with inputs l n d code found = by (reloc_on l.section n) refl (sym (resolve
         ap (λ x. resolved_item x l.section.bytes n) (sym same) ∙ (resolved_at inputs l n r code at).item l.section.bytes n
         ∙ ap (λ o. item_under inputs (place_of l n) o (size_on l.section n) l.section.bytes) (sym at)
 
--- and without one
+-- the item at an offset without a relocation in the table
 pub item_without : (inputs : ParsedInputs) (l : IndexedSection) (n : ℕ) → find (is_right_at n) (resolved_relocs inputs l) ≡ None
     → item_under inputs (place_of l n) None (own_size l.section.compressed l.section.bytes n) l.section.bytes ≡ item_in inputs l.section (place_of l n)
 item_without inputs l n found = by (reloc_on l.section n) refl (sym (resolved_on inputs l n) ∙ found)

@@ -2,7 +2,7 @@
 use Rattle.std.proofs.Common.{◌≡◌, ◌≢◌, ℕ, ◌+◌, ◌-◌, ◌*◌, ◌/◌, ◌%◌, ◌<◌, ◌≤◌, List, [], ◌∷◌, ◌++◌, length, filter, get_or, map, drop, take, Bool, true, false, cond, ℤ, Option, Some, None, refl, sym, ap, subst, ◌∙◌, arith, eqb, ltb, inl, inr, slice_get}
 use Rattle.std.specs.Prelude.{◌||◌}
 use Rattle.std.specs.List.{find, flat_map}
-use Rattle.std.specs.Option.{option_and_then, option_map, option_map_or, unwrap_or}
+use Rattle.std.specs.Option.{option_map, option_map_or, unwrap_or}
 use Rattle.std.proofs.lemmas.Bool.{eqb-false, eqb-true, le-ltb, lt-ltb, ne_eqb, or_parts}
 use Rattle.std.proofs.lemmas.List.Elements.{filter-append}
 use Rattle.std.proofs.lemmas.List.{append-nil, take-append-drop, length-append, length-map, map-append}
@@ -19,18 +19,17 @@ use Rattle.psabi_sym.specs.Faults.{code_room, gather_fault}
 use Rattle.psabi_sym.specs.Inputs.{Inputs, ParsedInputs, parsed}
 use Rattle.psabi_sym.specs.Indexed.{IndexedSection, all_sections, section_at, sections_before}
 use Rattle.psabi_sym.proofs.SectionNumbers.{before_number, has_number, listed_at}
-use Rattle.block_cut.specs.Invariants.CodeSection.{IsCodeSection}
-use Rattle.block_cut.specs.Items.{code_at, code_only, index_on, is_target_at, item_in, items_in, place_of, size_at, size_on, starts_in, starts_on, targets_in}
+use Rattle.block_cut.specs.Items.{code_at, index_on, is_target_at, item_in, items_in, place_of, size_at, size_on, starts_in, starts_on, targets_in}
 use Rattle.block_cut.specs.Places.{IsPlaceNumber, code_place, code_places}
 use Rattle.block_cut.specs.PlainLayout.{address_on, after_item, after_start, after_starts, plain_address, plain_end_of, plain_start, section_end, starts_before}
 use Rattle.block_cut.specs.CodeSizes.{code_step, own_size}
 use Rattle.block_cut.specs.Relocs.{is_bad_kind, is_ignored, reloc_on}
 use Rattle.block_cut.specs.Resolved.{asks, is_right_at, resolved_reloc, resolved_relocs}
-use Rattle.block_cut.specs.Invariants.SectionText.{HasRoom, SectionTables, by_halfword, number_on, numbered, numbers_of_section, read_length, section_tables}
+use Rattle.block_cut.specs.Invariants.HalfwordTables.{HasRoom, IsRelocTable, by_halfword, number_on, numbered, numbers_of_section, read_length}
+use Rattle.block_cut.specs.Invariants.SectionItems.{SectionTables, section_tables}
 use Rattle.block_cut.specs.Invariants.CodeTables.{IsCodeSpan}
 use Rattle.block_cut.specs.Whole.{IsWhole}
 use Rattle.block_cut.specs.declared.code_place.CodePlace.{CodePlace}
-use Rattle.block_cut.specs.declared.code_section.CodeSection.{CodeSection}
 use Rattle.block_cut.specs.declared.code_span.CodeSpan.{CodeSpan}
 use Rattle.block_cut.specs.declared.resolved_reloc.ResolvedReloc.{ResolvedReloc}
 use Rattle.block_cut.proofs.ItemLaws.{item_at-code}
@@ -41,18 +40,16 @@ use Rattle.block_cut.proofs.SoundLaws.{sound_at}
 use Rattle.block_cut.proofs.StartLaws.{IsStart, along, before_end_all, before_first_none, start_is}
 use Rattle.block_cut.proofs.TakeLaws.{take_next}
 use Rattle.block_cut.proofs.CodeSizeLaws.{counted_least, own_sized, step_even}
-use Rattle.block_cut.proofs.WholeLaws.{inputs_whole}
+use Rattle.block_cut.proofs.WholeLaws.{code_at_is, code_at_none, inputs_whole}
 use Rattle.block_cut.proofs.WordLaws.{IsCodeHere, before_other, before_start, code_here, end_other, last_got, no_target, number_target, some_target, target_got, target_nowhere}
 
 -- ---- the relocation at a halfword
 
--- the one that the table of a section of code has
-pub reloc_found : (inputs : Inputs) (l : IndexedSection) (section : CodeSection) (n : ℕ) (reloc : Option ResolvedReloc) → IsCodeSection inputs l section → n % 2 ≡ 0 → n ≤ length l.section.bytes
-    → reloc ≡ numbered section.relocs.now (get_or section.table.now (n / 2) 0) → find (is_right_at n) (resolved_relocs (parsed inputs) l) ≡ reloc
-reloc_found inputs l section n reloc is words inside got =
+-- the one that a table of relocations has at an even offset
+pub reloc_found : (relocs : List ResolvedReloc) (count : ℕ) (table : List ℕ) (n : ℕ) → IsRelocTable relocs count table → n % 2 ≡ 0 → n / 2 < count → numbered relocs (get_or table (n / 2) 0) ≡ find (is_right_at n) relocs
+reloc_found relocs count table n is words inside =
     let even : 2 * (n / 2) ≡ n = omega (arith, words) in
-    ap (λ m. find (is_right_at m) (resolved_relocs (parsed inputs) l)) (sym even) ∙ ap (find (is_right_at (2 * (n / 2)))) (sym is.relocs_are)
-    ∙ sym (is.table_is.each (n / 2) (omega (arith, inside))) ∙ sym got
+    is.each (n / 2) inside ∙ ap (λ m. find (is_right_at m) relocs) even
 
 -- what says which item stands with a kind that is known lies in the bytes that it changes
 read_inside : (k : Option RelocKind) (addend : ℤ) (s : SectionParts) → is_ignored k ≡ false → is_bad_kind s k ≡ false → read_length k ≤ field_length k addend
@@ -72,29 +69,25 @@ read_inside (Some kind.RvcBranch) addend s asks known = omega arith
 read_inside (Some kind.RvcJump) addend s asks known = omega arith
 read_inside (Some kind.Align) addend s asks known = omega arith
 
--- an item has room where one starts, by that relocation
-pub room_there : (inputs : Inputs) (l : IndexedSection) (section : CodeSection) (n : ℕ) (reloc : Option ResolvedReloc) → IsCodeSection inputs l section → IsWhole l.section → starts_on l.section n ≡ true
-    → reloc ≡ numbered section.relocs.now (get_or section.table.now (n / 2) 0) → HasRoom section.content n reloc
-room_there inputs l section n reloc is whole start got =
-    let found = reloc_found inputs l section n reloc is (step_even s.compressed n own.words) (omega (arith, own.inside)) got in
-    let room : n + option_map_or (λ (d : ResolvedReloc). read_length d.kind) reloc (own_size s.compressed s.bytes n) ≤ length s.bytes = by (reloc_on s n) refl reloc (sym (resolved_on (parsed inputs) l n) ∙ found) in
-    subst (λ bytes. n + option_map_or (λ (d : ResolvedReloc). read_length d.kind) reloc (own_size section.content.compressed bytes n) ≤ length bytes) (sym is.bytes_are)
-    (subst (λ c. n + option_map_or (λ (d : ResolvedReloc). read_length d.kind) reloc (own_size c s.bytes n) ≤ length s.bytes) (sym is.compressed_is) room)
+-- an item has room where one starts, by the relocation there
+pub room_there : (inputs : ParsedInputs) (l : IndexedSection) (n : ℕ) → is_code_section l.section ≡ true → IsWhole l.section → starts_on l.section n ≡ true
+    → HasRoom (record { bytes = l.section.bytes; compressed = l.section.compressed }) n (find (is_right_at n) (resolved_relocs inputs l))
+room_there inputs l n code whole start = by (reloc_on s n) refl (find (is_right_at n) (resolved_relocs inputs l)) (sym (resolved_on inputs l n))
   where
     s : SectionParts
     s = l.section
 
     own : IsStart s (starts_in s) n
-    own = start_is s is.code whole n start
+    own = start_is s code whole n start
 
-    by : (o : Option Reloc) → reloc_on s n ≡ o → (d : Option ResolvedReloc) → option_map (resolved_reloc (parsed inputs) l) o ≡ d
+    by : (o : Option Reloc) → reloc_on s n ≡ o → (d : Option ResolvedReloc) → option_map (resolved_reloc inputs l) o ≡ d
         → n + option_map_or (λ (x : ResolvedReloc). read_length x.kind) d (own_size s.compressed s.bytes n) ≤ length s.bytes
     by None at None none = (own_sized s.compressed s.bytes n own.words own.inside whole.words).inside
     by None at (Some d) same = absurd cc
     by (Some r) at None same = absurd cc
     by (Some r) at (Some d) same =
-        let own : resolved_reloc (parsed inputs) l r ≡ d = cc in
-        let sound = sound_at s n r is.code at in
+        let own : resolved_reloc inputs l r ≡ d = cc in
+        let sound = sound_at s n r code at in
         omega (arith, sound.inside, whole.bytes, read_inside (kind_of r.kind) r.addend s sound.asks sound.known, ap (λ x. read_length x.kind) (sym own))
 
 -- relocations that ask for something are no more than all
@@ -112,7 +105,7 @@ resolved_few inputs l = omega (arith, length-map (filter asks l.section.relocs) 
 -- ---- what starts at a halfword
 
 module _ (s : SectionParts) (code : is_code_section s ≡ true) (whole : IsWhole s) (n : ℕ) (is : (starts_on s n || eqb n (length s.bytes)) ≡ true) where
-  -- it is a step of the code
+  -- the offset is a multiple of the code's step
   pub target_step : n % code_step s.compressed ≡ 0
   target_step = by (starts_on s n) refl is
     where
@@ -120,7 +113,7 @@ module _ (s : SectionParts) (code : is_code_section s ≡ true) (whole : IsWhole
       by true start is = (start_is s code whole n start).words
       by false other is = ap (λ m. m % code_step s.compressed) (eqb-true n (length s.bytes) is) ∙ whole.words
 
-  -- and an item if it isn't the end
+  -- an item starts at the offset if that isn't the end
   pub target_start : n ≢ length s.bytes → starts_on s n ≡ true
   target_start ne = by (starts_on s n) (eqb n (length s.bytes)) is (ne_eqb n (length s.bytes) ne)
     where
@@ -130,11 +123,11 @@ module _ (s : SectionParts) (code : is_code_section s ≡ true) (whole : IsWhole
 
 -- ---- places so far
 
--- those before an offset
+-- the places of a section before an offset
 abbrev pub targets_before : SectionParts → ℕ → List ℕ
 targets_before s n = filter (λ m. ltb m n) (targets_in s)
 
--- after so many halfwords of a section
+-- what is kept after the first k halfwords of a section
 pub record IsSoFar (inputs : ParsedInputs) (l : IndexedSection) (k : ℕ) (places : List CodePlace) (address : ℕ) : Type 0 where
   pub places_are : places ≡ map (code_place inputs l) (targets_before l.section (2 * k))
   pub address_is : address ≡ after_starts inputs l (plain_start inputs l.object l.index l.section) (starts_before l.section (2 * k))
@@ -146,7 +139,7 @@ module _ (s : SectionParts) where
       filter-append (λ m. ltb m n) (starts_in s) (length s.bytes ∷ [])
       ∙ ap (λ b. starts_before s n ++ cond b (length s.bytes ∷ []) []) (le-ltb (length s.bytes) n le) ∙ append-nil (starts_before s n)
 
-  -- and past it the end too
+  -- the places before an offset past the end include the end
   targets_past : (n : ℕ) → length s.bytes < n → targets_before s n ≡ starts_before s n ++ length s.bytes ∷ []
   targets_past n lt =
       filter-append (λ m. ltb m n) (starts_in s) (length s.bytes ∷ [])
@@ -198,7 +191,7 @@ module _ (inputs : Inputs) (none : gather_fault inputs ≡ None) (l : IndexedSec
         size : size_on s (2 * k) ≡ size_at given.objects q
         size = sym (ap (λ x. option_map_or (λ t. size_on t (2 * k)) x 4) (here.at (2 * k)))
 
-        -- with the place there
+        -- with a place at the halfword, the places up to it are those before it and this one
         with_place : place ≡ code_place given l (2 * k) → targets_before s (2 * (k + 1)) ≡ targets_before s (2 * k) ++ 2 * k ∷ [] → places ++ place ∷ [] ≡ map (code_place given l) (targets_before s (2 * (k + 1)))
         with_place own more =
             (λ j. so_far.places_are j ++ own j ∷ []) ∙ sym (map-append (code_place given l) (targets_before s (2 * k)) (2 * k ∷ []))
@@ -266,7 +259,7 @@ module _ (inputs : Inputs) (none : gather_fault inputs ≡ None) (l : IndexedSec
   pub before_fits : plain_end_of given (sections_before given.objects l.object l.index) ≤ inputs.map.text + 0x4_0000
   before_fits = omega (arith, section_end-ge given (plain_end_of given (sections_before given.objects l.object l.index)) l, section_ends inputs none l.object l.index s here.found, plain_end-fits inputs none)
 
-  -- so do its halfwords
+  -- the addresses at a section's halfwords fit in a word
   pub address_fits : (k : ℕ) (places : List CodePlace) (address : ℕ) → 2 * k ≤ length s.bytes → IsSoFar given l k places address → address ≤ inputs.map.text + 0x4_0000
   address_fits k places address le so_far =
       omega (
@@ -313,7 +306,7 @@ by_number inputs l n number numbers none found are value empty = by (is_code_sec
         }
     by false other =
         let zero_is = empty (are ∙ ap (λ b. cond b (by_halfword (number_on l.section) l.section) []) other) in
-        let nowhere : code_at objects (place_of l n) ≡ None = ap (option_and_then code_only) found ∙ ap (λ b. cond b (Some l.section) None) other in
+        let nowhere = code_at_none objects (place_of l n) l.section found other in
         record { none = λ e. target_nowhere objects (place_of l n) nowhere; some = λ ne. absurd (ne zero_is); index = λ ne. absurd (ne zero_is) }
 
 -- what is kept of a section, one by one
@@ -325,7 +318,7 @@ pub tables_of : (inputs : ParsedInputs) (l : IndexedSection) (t : SectionTables)
 unfolding section_tables
 tables_of inputs l t is = record { numbers = ap (λ x. x.numbers) is; places = ap (λ x. x.places) is }
 
--- those of the section with a number
+-- what is kept of the section with number k
 pub kept_at : (inputs : ParsedInputs) (sections : List SectionTables) (k : ℕ) (l : IndexedSection) (d : SectionTables) → sections ≡ map (section_tables inputs) (all_sections inputs.objects) → slice_get (all_sections inputs.objects) k ≡ Some l
     → get_or sections k d ≡ section_tables inputs l
 kept_at inputs sections k l d are at =
@@ -345,8 +338,8 @@ place_number objects q k n s found at target index = record {
 }
   where
     by : (b : Bool) → is_code_section s ≡ b → code_at objects q ≡ Some s
-    by true code = ap (option_and_then code_only) found ∙ ap (λ b. cond b (Some s) None) code
-    by false other = absurd (cc (target, target_nowhere objects q (ap (option_and_then code_only) found ∙ ap (λ b. cond b (Some s) None) other)))
+    by true code = code_at_is objects q s found code
+    by false other = absurd (cc (target, target_nowhere objects q (code_at_none objects q s found other)))
 
 -- ---- how far code comes
 
@@ -399,7 +392,7 @@ module _ (inputs : Inputs) (none : gather_fault inputs ≡ None) (k : ℕ) (l : 
   pub end_before : (a : ℕ) → a ≡ plain_end_of (parsed inputs) front → a ≡ plain_end_of (parsed inputs) (sections_before (parsed inputs).objects l.object l.index)
   end_before a is = is ∙ ap (plain_end_of (parsed inputs)) (sym (before_number (parsed inputs).objects k l at))
 
-  -- there are few items
+  -- the number of items fits in a word
   pub count_fits : (span : CodeSpan) (places : List CodePlace) → IsCodeSpan (parsed inputs) front span → places ≡ code_places (parsed inputs) l → span.count + length places < 0x100_0000
   count_fits span places is are =
       let all : front ++ drop k (all_sections (parsed inputs).objects) ≡ all_sections (parsed inputs).objects = take-append-drop k (all_sections (parsed inputs).objects) in
@@ -435,7 +428,7 @@ module _ (inputs : Inputs) (none : gather_fault inputs ≡ None) (k : ℕ) (l : 
       ap (slice_get (map (code_place (parsed inputs) l) (targets_in l.section))) count
       ∙ slice_get-map (code_place (parsed inputs) l) (targets_in l.section) (length (starts_in l.section)) ∙ ap (option_map (code_place (parsed inputs) l)) (last_got (starts_in l.section) (length l.section.bytes))
 
-  -- with a section that isn't code it comes no further
+  -- with a section that isn't code, the code ends where it ended
   pub none_added : (old : CodeSpan) (places : List CodePlace) → places ≡ code_places (parsed inputs) l → None ≡ slice_get places (length places - 1) → IsCodeSpan (parsed inputs) front old → IsCodeSpan (parsed inputs) (take (k + 1) (all_sections (parsed inputs).objects)) old
   none_added old places are last is = by (is_code_section l.section) refl
     where
@@ -452,7 +445,7 @@ module _ (inputs : Inputs) (none : gather_fault inputs ≡ None) (k : ℕ) (l : 
             ∙ ap (λ x. length (flat_map (items_in (parsed inputs)) front) + length (x ++ [])) (items_in-other (parsed inputs) l other) ∙ omega arith);
       }
 
-  -- with code it comes to the end's address, and has an item for each other place
+  -- with a section of code, the code ends at the end's address, and has an item for each other place
   pub code_added : (old : CodeSpan) (places : List CodePlace) (end : CodePlace) → places ≡ code_places (parsed inputs) l → Some end ≡ slice_get places (length places - 1) → IsCodeSpan (parsed inputs) front old
       → IsCodeSpan (parsed inputs) (take (k + 1) (all_sections (parsed inputs).objects)) (record { end = end.address; count = old.count + (length places - 1) })
   code_added old places end are last is = by (is_code_section l.section) refl

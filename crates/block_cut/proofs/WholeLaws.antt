@@ -18,7 +18,7 @@ use Rattle.psabi_sym.specs.Inputs.{Inputs, parsed}
 use Rattle.psabi_sym.specs.Indexed.{section_at}
 use Rattle.psabi_sym.proofs.Gathered.{readable}
 use Rattle.psabi_sym.proofs.PartLaws.{section_count_is, section_got}
-use Rattle.block_cut.specs.Items.{code_at, code_only}
+use Rattle.block_cut.specs.Items.{code_at}
 use Rattle.block_cut.specs.CodeSizes.{code_step}
 pub use Rattle.block_cut.specs.Whole.{IsWhole}
 
@@ -31,7 +31,7 @@ none_askew : list_any is_askew (range_with_len 0 257) ≡ false
 unfolding lib.Count.ones
 none_askew = refl
 
--- so is each alignment
+-- each alignment of code is a multiple of 4
 word_aligned : (n : ℕ) → IsAlignment 256 n → max 4 n % 4 ≡ 0
 word_aligned n is = elim (cases_eq n 0) [
   | inl e ↦ ap (λ m. max 4 m % 4) e
@@ -42,7 +42,7 @@ word_aligned n is = elim (cases_eq n 0) [
       eqb-true (max 4 n % 4) 0 (not-false (eqb (max 4 n % 4) 0) same)
 ]
 
--- of an object
+-- the sections of code of an object are whole
 pub file_whole : (file : List ℕ) (i : ℕ) → object_fault file ≡ None → i < section_count file → is_code_section (section_parts file i) ≡ true → IsWhole (section_parts file i)
 file_whole file i read lt code =
     let h = header_of file i in
@@ -65,7 +65,7 @@ section_there inputs o i file at within =
     ap (option_and_then (λ (object : ObjectParts). slice_get object.sections i)) (slice_get-map object_parts inputs.files o ∙ ap (option_map object_parts) at)
     ∙ section_got file i within
 
--- and the other way round
+-- a section of the inputs is the one with its index in a file
 pub record IsSectionOf (inputs : Inputs) (o i : ℕ) (s : SectionParts) : Type 0 where
   pub file : List ℕ
   pub at : slice_get inputs.files o ≡ Some file
@@ -86,17 +86,24 @@ section_of inputs o i s is =
       | inr le ↦ absurd (cc (is, slice_get_past (object_parts file).sections i (omega (arith, le, section_count_is file))))
     ]
 
--- of inputs
+-- the sections of code of inputs are whole
 pub inputs_whole : (inputs : Inputs) (o i : ℕ) (s : SectionParts) → gather_fault inputs ≡ None → section_at (parsed inputs).objects o i ≡ Some s → is_code_section s ≡ true → IsWhole s
 inputs_whole inputs o i s none is code =
     let of = section_of inputs o i s is in
     rw of.is (file_whole of.file i (readable inputs o of.file none of.at) of.within (ap is_code_section (sym of.is) ∙ code))
 
+-- at a place in a section that is code stands that section, and in any other none
+pub code_at_is : (objects : List ObjectParts) (q : Place) (s : SectionParts) → section_at objects q.object q.section ≡ Some s → is_code_section s ≡ true → code_at objects q ≡ Some s
+code_at_is objects q s found code = ap (option_and_then (λ t. cond (is_code_section t) (Some t) None)) found ∙ ap (λ b. cond b (Some s) None) code
+
+pub code_at_none : (objects : List ObjectParts) (q : Place) (s : SectionParts) → section_at objects q.object q.section ≡ Some s → is_code_section s ≡ false → code_at objects q ≡ None
+code_at_none objects q s found other = ap (option_and_then (λ t. cond (is_code_section t) (Some t) None)) found ∙ ap (λ b. cond b (Some s) None) other
+
 -- code is a section that is code
 pub code_is_section : (objects : List ObjectParts) (q : Place) (s : SectionParts) → code_at objects q ≡ Some s → (section_at objects q.object q.section ≡ Some s) × (is_code_section s ≡ true)
 code_is_section objects q s at = by (section_at objects q.object q.section) refl at
   where
-    by : (o : Option SectionParts) → section_at objects q.object q.section ≡ o → option_and_then code_only o ≡ Some s → (section_at objects q.object q.section ≡ Some s) × (is_code_section s ≡ true)
+    by : (o : Option SectionParts) → section_at objects q.object q.section ≡ o → option_and_then (λ t. cond (is_code_section t) (Some t) None) o ≡ Some s → (section_at objects q.object q.section ≡ Some s) × (is_code_section s ≡ true)
     by None is at = absurd cc
     by (Some t) is at = tested (is_code_section t) refl at
       where
@@ -104,7 +111,7 @@ code_is_section objects q s at = by (section_at objects q.object q.section) refl
         tested true code at = let same : t ≡ s = cc in (is ∙ ap Some same, ap is_code_section (sym same) ∙ code)
         tested false code at = absurd cc
 
--- so the code at a place is whole
+-- the code at a place is whole
 pub code_whole : (inputs : Inputs) (q : Place) (s : SectionParts) → gather_fault inputs ≡ None → code_at (parsed inputs).objects q ≡ Some s → IsWhole s
 code_whole inputs q s none at =
     let is = code_is_section (parsed inputs).objects q s at in

@@ -2,7 +2,7 @@
 use Rattle.std.proofs.Common.{◌≡◌, ◌≢◌, ℕ, zero, suc, ◌+◌, ◌*◌, ◌/◌, ◌%◌, ◌<◌, ◌≤◌, ◌⊎◌, List, [], ◌∷◌, ◌++◌, filter, length, get_or, take, Bool, true, false, cond, Option, Some, None, slice_get, refl, sym, ap, subst, ◌∙◌, arith, eqb, ltb, eq-eqb, inl, inr}
 use Rattle.std.specs.Prelude.{◌||◌}
 use Rattle.std.specs.List.{find}
-use Rattle.std.specs.Option.{option_and_then, option_map, option_map_or, option_or}
+use Rattle.std.specs.Option.{option_map, option_map_or, option_or}
 use Rattle.std.proofs.lemmas.Bool.{cases_eq, cases_lt, eqb-true, false_from_ne_true, le-ltb, lt-ltb, ne_eqb}
 use Rattle.std.proofs.lemmas.List.{take_more}
 use Rattle.std.proofs.lemmas.List.Folds.{find-append}
@@ -15,16 +15,16 @@ use Rattle.psabi_sym.specs.Faults.{gather_fault}
 use Rattle.psabi_sym.specs.Inputs.{Inputs, ParsedInputs, parsed}
 use Rattle.psabi_sym.specs.Indexed.{section_at}
 use Rattle.block_cut.specs.Invariants.Cut.{place_at}
-use Rattle.block_cut.specs.Items.{code_at, code_only, is_target_at, item_at, item_in, size_on, starts_in, starts_on, targets_in}
+use Rattle.block_cut.specs.Items.{code_at, is_target_at, item_at, item_in, size_on, starts_in, starts_on, targets_in}
 use Rattle.block_cut.specs.PlainLayout.{address_on, plain_address, starts_before}
-use Rattle.block_cut.specs.Invariants.SectionText.{by_halfword, number_on}
+use Rattle.block_cut.specs.Invariants.HalfwordTables.{by_halfword, number_on}
 use Rattle.block_cut.specs.CodeSizes.{code_step}
 use Rattle.block_cut.specs.Whole.{IsWhole}
 use Rattle.block_cut.proofs.ItemLaws.{item_at-code, item_at-none}
 use Rattle.block_cut.proofs.PlainLaws.{target_on}
 use Rattle.block_cut.proofs.StartLaws.{Above, Among, Here, There, IsStep, above_filter, above_none, along, among, before_end_all, before_next_start, filter_between, is_among, none_within, start_first, start_is, step}
 use Rattle.block_cut.proofs.CodeSizeLaws.{step_even, step_four, step_sum}
-use Rattle.block_cut.proofs.WholeLaws.{inputs_whole}
+use Rattle.block_cut.proofs.WholeLaws.{code_at_is, inputs_whole}
 
 -- ---- halfwords of a section
 
@@ -34,7 +34,7 @@ halfword_there f s n even le =
     let at : 2 * (n / 2) ≡ n = omega (arith, even) in
     slice_get-listed (λ k. f (2 * k)) (length s.bytes / 2 + 1) (n / 2) (omega (arith, le)) ∙ ap (λ m. Some (f m)) at
 
--- how many there are, and what stands at one
+-- the length of a table by halfwords, and its entry at an offset
 pub halfword_count : {W : Type 0} (f : ℕ → W) (s : SectionParts) → length (by_halfword f s) ≡ length s.bytes / 2 + 1
 halfword_count f s = length-map-range_with_len (λ k. f (2 * k)) 0 (length s.bytes / 2 + 1)
 
@@ -43,7 +43,7 @@ halfword_got f s k d lt = get_or-map-range_with_len (λ j. f (2 * j)) 0 (length 
 
 -- ---- places that nothing leads to
 
--- there is no code
+-- where there is no code, code may not lead
 pub target_nowhere : (objects : List ObjectParts) (q : Place) → code_at objects q ≡ None → is_target_at objects q ≡ false
 target_nowhere objects q at = λ j. option_map_or (λ t. starts_on t q.offset) (at j) false || option_map_or (λ t. eqb q.offset (length t.bytes)) (at j) false
 
@@ -139,7 +139,7 @@ module _ (s : SectionParts) (code : is_code_section s ≡ true) (whole : IsWhole
             between = λ m low high. none_within s code whole at m start (omega (arith, low)) high;
           }
 
-  -- and if none does
+  -- the next item's start, if none starts at a halfword
   pub next_word : (at next : ℕ) → IsNext s at next → at % 2 ≡ 0 → next ≢ at → IsNext s (at + 2) next
   next_word at next is words ne = record {
     low = omega (arith, is.low, ne, words, step_even s.compressed next is.words);
@@ -162,7 +162,7 @@ front_got (z ∷ zs) ys zero x at = at
 front_got (z ∷ zs) ys (suc k) x at = front_got zs ys k x at
 
 module _ (s : SectionParts) (code : is_code_section s ≡ true) (whole : IsWhole s) where
-  -- a start comes after as many as there are before it
+  -- the start at an offset comes after all starts before it
   start_got : (k : ℕ) → starts_on s k ≡ true → slice_get (starts_in s) (length (filter (λ m. ltb m k) (starts_in s))) ≡ Some k
   start_got = along s code whole (λ n xs. (k : ℕ) → is_among k xs ≡ true → slice_get xs (length (filter (λ m. ltb m k) xs)) ≡ Some k)
       (λ k is. absurd cc)
@@ -182,7 +182,7 @@ module _ (s : SectionParts) (code : is_code_section s ≡ true) (whole : IsWhole
             ap (λ l. slice_get (n ∷ xs) (length l)) kept ∙ rest k is
       ]
 
-  -- so does the end, after all of them
+  -- the end comes after all starts
   pub target_got : (n : ℕ) → (starts_on s n || eqb n (length s.bytes)) ≡ true → slice_get (targets_in s) (length (starts_before s n)) ≡ Some n
   target_got n is = by (starts_on s n) refl is
     where
@@ -260,6 +260,6 @@ pub code_here : (inputs : Inputs) (o i : ℕ) (s : SectionParts) → gather_faul
 code_here inputs o i s none found code = record {
   found = found;
   code = code;
-  at = λ n. ap (option_and_then code_only) found ∙ ap (λ b. cond b (Some s) None) code;
+  at = λ n. code_at_is (parsed inputs).objects (record { object = o; section = i; offset = n }) s found code;
   whole = inputs_whole inputs o i s none found code;
 }

@@ -1,4 +1,4 @@
--- What the words of a section spell, in a table: how many there are, and what it has for an offset.
+-- The instructions of a section's words, in a table: their number, and the entry for an offset.
 use Rattle.std.proofs.Common.{◌≡◌, ℕ, ◌+◌, ◌*◌, ◌/◌, ◌%◌, ◌≤◌, List, length, Some, slice_get, ap, ◌∙◌, arith}
 use Rattle.std.proofs.lemmas.List.FromFn.{length-map-range_with_len}
 use Rattle.elf32_read.proofs.Listed.{slice_get-listed}

@@ -16,13 +16,13 @@ use Rattle.block_cut.specs.declared.resolved_reloc.ResolvedReloc.{ResolvedReloc}
 abbrev pub data_word : ParsedInputs → IndexedSection → ℕ → Reloc → DataWord
 data_word inputs l at r = record { at = at + r.offset; target = target_of inputs l.object r }
 
--- those of a section, in the order of its relocations; code has none, and in NOBITS (8) nothing is filled in
+-- the words that a section's relocations fill in, in their order; code has none, and in NOBITS (8) nothing is filled in
 abbrev pub data_words_in : ParsedInputs → IndexedSection → List DataWord
 data_words_in inputs l =
     if l.section.kind == 8 then []
     else option_map_or (λ at. map (data_word inputs l at) (filter (λ r. is_word (kind_of r.kind)) l.section.relocs)) (data_address inputs l.object l.index) []
 
--- those of all data, by object, section and relocation
+-- the words of all data, by object, section and relocation
 unfoldable pub data_words : ParsedInputs → List DataWord
 data_words inputs = flat_map (data_words_in inputs) (all_sections inputs.objects)
 
@@ -32,6 +32,6 @@ data_words inputs = flat_map (data_words_in inputs) (all_sections inputs.objects
 abbrev pub held_address : ParsedInputs → IndexedSection → Option ℕ
 held_address inputs l = if l.section.kind == 8 then None else data_address inputs l.object l.index
 
--- the word that one fills in, in a section of data that begins at an address
+-- the word that a resolved relocation fills in, in a section of data that begins at an address
 abbrev pub resolved_word : ℕ → ResolvedReloc → DataWord
 resolved_word at d = record { at = at + d.offset; target = d.target }

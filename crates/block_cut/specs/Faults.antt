@@ -1,4 +1,4 @@
--- Why objects are refused: the first fault that stands in them, with its object's index.
+-- Why objects are refused: the first fault in them, with its object's index.
 use Rattle.std.specs.Prelude.{ℕ, ℤ, pos, negsuc, ◌-ℤ◌, Bool, true, false, not, ◌&&◌, ◌||◌, ◌==◌, is_none, if◌then◌else◌, List, [], ◌∷◌, map, Option, Some, None}
 use Rattle.std.specs.List.{find}
 use Rattle.std.specs.Option.{option_map, option_map_or}
@@ -23,35 +23,36 @@ use Rattle.block_cut.specs.declared.item.Item.TheVariants.{Branch, Jump}
 
 -- ---- relocations
 
--- a lower part goes with an upper part that stands where its symbol is, in the same section
+-- a lower part goes with an upper part: one stands in the same section where the lower part's symbol is
 abbrev pub is_pair_at : IndexedSection → Target → Bool
 is_pair_at l (Code q) = (q.object == l.object) && ((q.section == l.index) && has_pcrel_hi_at l.section q.offset)
 is_pair_at l (Number n) = false
 is_pair_at l (Absent n) = false
 is_pair_at l Nowhere = false
 
--- an addend of 0
+-- the addend is 0
 abbrev pub is_zero_addend : ℤ → Bool
 is_zero_addend (pos n) = n == 0
 is_zero_addend (negsuc n) = false
 
--- a lower part that doesn't
+-- a lower part of a PC-relative pair has no upper part, or has an addend
 abbrev pub lacks_pcrel_hi : ParsedInputs → IndexedSection → Reloc → Bool
 lacks_pcrel_hi inputs l r =
     is_pcrel_lo (kind_of r.kind) && (not (is_zero_addend r.addend) || not (is_pair_at l (resolved inputs l.object r.symbol (pos 0))))
 
--- code and data may lead to an item's start or to a section's end, and what makes an instruction go somewhere to no number
+-- a target is wrong: a place that is neither an item's start nor a section's end, a number that an instruction would go to, or
+-- nowhere
 abbrev pub is_bad_target : List ObjectParts → Bool → Target → Bool
 is_bad_target objects transfers (Code to) = not (is_target_at objects to)
 is_bad_target objects transfers (Number n) = transfers
 is_bad_target objects transfers (Absent n) = false
 is_bad_target objects transfers Nowhere = true
 
--- a relocation that leads nowhere
+-- a relocation's target is wrong
 abbrev pub has_bad_target : ParsedInputs → IndexedSection → Reloc → Bool
 has_bad_target inputs l r = not (is_ignored (kind_of r.kind)) && is_bad_target inputs.objects (is_transfer (kind_of r.kind)) (target_of inputs l.object r)
 
--- a fault, if it stands
+-- a fault, if there is one
 abbrev pub if_so : Bool → Fault → Option Fault
 if_so true fault = Some fault
 if_so false fault = None
@@ -69,11 +70,11 @@ reloc_fault inputs l r = first_some (
     ∷ if_so (has_bad_target inputs l r) (BadTarget l.index r.offset)
     ∷ [])
 
--- that of a section, in the order of its relocations, with its object's index
+-- the first fault of a section's relocations, in their order, with its object's index
 abbrev pub section_fault : ParsedInputs → IndexedSection → Option (ℕ × Fault)
 section_fault inputs l = option_map (λ fault. (l.object, fault)) (first_some (map (reloc_fault inputs l) l.section.relocs))
 
--- the first of all relocations, by object, section and entry
+-- the first fault of all relocations, by object, section and entry
 unfoldable pub relocs_fault : ParsedInputs → Option (ℕ × Fault)
 relocs_fault inputs = first_some (map (section_fault inputs) (all_sections inputs.objects))
 
@@ -95,29 +96,30 @@ distance_between (Some from) (Some to) = Some (pos to -ℤ pos from)
 abbrev pub plain_distance : ParsedInputs → Place → Place → Option ℤ
 plain_distance inputs q to = distance_between (plain_address inputs q) (plain_address inputs to)
 
--- where an item of so many bytes leads that has to reach: a branch, or a jump of 2 bytes; code is too short for each other to be far
+-- where an item of `size` bytes leads, if that may be out of its range: a branch, or a jump of 2 bytes; there is too little code
+-- for any other to be out of range
 abbrev pub way_place : ℕ → Item → Option Place
 way_place size (Branch op first second to) = Some to
 way_place size (Jump rd to) = if size == 2 then Some to else None
 way_place size item = None
 
--- a branch or jump of so many bytes reaches so far
+-- whether a branch or jump of `size` bytes reaches a distance
 abbrev pub reaches : ℕ → Item → ℤ → Bool
 reaches size (Branch op first second to) distance = if size == 2 then short_branch_reach distance else branch_reach distance
 reaches size (Jump rd to) distance = if size == 2 then short_jump_reach distance else jal_reach distance
 reaches size item distance = true
 
--- an item of so many bytes at a place doesn't reach another
+-- an item of `size` bytes at a place can't reach another place in the plain layout
 abbrev pub is_far : ParsedInputs → Place → ℕ → Item → Place → Bool
 is_far inputs q size i to = option_map_or (λ d. not (reaches size i d)) (plain_distance inputs q to) false
 
--- what stands at a place doesn't reach in the plain layout where it has to
+-- the branch or jump at a place is out of range in the plain layout
 abbrev pub is_out_of_reach : ParsedInputs → Place → Bool
 is_out_of_reach inputs q =
     let size = size_at inputs.objects q in
     option_map_or (λ i. option_map_or (is_far inputs q size i) (way_place size i) false) (item_at inputs q) false
 
--- the first such place
+-- the fault of the first branch or jump that is out of range
 unfoldable pub range_fault : ParsedInputs → Option (ℕ × Fault)
 range_fault inputs = option_map (λ q. (q.object, Range q.section q.offset)) (find (is_out_of_reach inputs) (all_places inputs.objects))
 

@@ -6,8 +6,9 @@ pub mod CodeTargets
 pub mod Cut
 pub mod CutSection
 pub mod Fields
+pub mod HalfwordTables
 pub mod Home
 pub mod Led
 pub mod RelocTargets
 pub mod Relocated
-pub mod SectionText
+pub mod SectionItems

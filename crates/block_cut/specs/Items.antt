@@ -1,4 +1,4 @@
--- What the bytes and relocations of objects spell at places in code (System V gABI, "Sections"; RISC-V ELF psABI, "Relocations";
+-- What the bytes and relocations of objects mean at places in code (System V gABI, "Sections"; RISC-V ELF psABI, "Relocations";
 -- RISC-V unprivileged manual, "Base Instruction Formats" and "Control Transfer Instructions").
 use Rattle.std.specs.Prelude.{ℕ, zero, suc, ◌+◌, ℤ, pos, negsuc, ◌+ℤ◌, Bool, false, ◌||◌, ◌==◌, nat_lt, if◌then◌else◌, List, [], ◌∷◌, ◌++◌, filter, length, map, Option, Some, None}
 use Rattle.std.specs.List.{flat_map, list_any}
@@ -25,26 +25,22 @@ use Rattle.block_cut.specs.declared.item.Item.TheVariants.{Op, Hi, Lo, PcHi, PcL
 
 -- ---- sections of code
 
--- a section, if it is code
-abbrev pub code_only : SectionParts → Option SectionParts
-code_only section = if is_code_section section then Some section else None
-
 -- the section of code that a place lies in
 abbrev pub code_at : List ObjectParts → Place → Option SectionParts
-code_at objects q = option_and_then code_only (section_at objects q.object q.section)
+code_at objects q = option_and_then (λ s. if is_code_section s then Some s else None) (section_at objects q.object q.section)
 
 -- ---- places
 
--- the bytes of what stands at an offset of a section: those that its relocation changes, and else its own
+-- the number of bytes of the item at an offset of a section: those that its relocation changes, or else its own
 abbrev pub size_on : SectionParts → ℕ → ℕ
 size_on s n = option_map_or field_of (reloc_on s n) (own_size s.compressed s.bytes n)
 
--- the offsets where items start, from one on: each after the item before it, as long as the section goes on
+-- the offsets where items start, from one on: each after the item before it, up to the section's end
 abbrev pub starts_from : ℕ → SectionParts → ℕ → List ℕ
 starts_from zero s n = []
 starts_from (suc fuel) s n = if nat_lt n (length s.bytes) then n ∷ starts_from fuel s (n + size_on s n) else []
 
--- all of a section; there are no more than bytes
+-- all offsets where a section's items start; there are no more of them than bytes
 unfoldable pub starts_in : SectionParts → List ℕ
 starts_in s = starts_from (length s.bytes) s 0
 
@@ -52,11 +48,11 @@ starts_in s = starts_from (length s.bytes) s 0
 abbrev pub starts_on : SectionParts → ℕ → Bool
 starts_on s n = list_any (λ m. m == n) (starts_in s)
 
--- how many items of a section start before an offset
+-- the number of a section's items that start before an offset
 abbrev pub index_on : SectionParts → ℕ → ℕ
 index_on s n = length (filter (λ m. nat_lt m n) (starts_in s))
 
--- the bytes of what stands at a place
+-- the number of bytes of the item at a place
 abbrev pub size_at : List ObjectParts → Place → ℕ
 size_at objects q = option_map_or (λ s. size_on s q.offset) (code_at objects q) 4
 
@@ -64,7 +60,7 @@ size_at objects q = option_map_or (λ s. size_on s q.offset) (code_at objects q)
 abbrev pub next_at : List ObjectParts → Place → Place
 next_at objects q = record q { offset = q.offset + size_at objects q }
 
--- the place after so many items from a place on
+-- the place after n items from a place on
 abbrev pub after_items : List ObjectParts → ℕ → Place → Place
 after_items objects zero q = q
 after_items objects (suc n) q = after_items objects n (next_at objects q)
@@ -90,21 +86,14 @@ abbrev pub place_on : Place → ℤ → Option Place
 place_on q (pos n) = Some (record q { offset = n })
 place_on q (negsuc n) = None
 
--- the place so many bytes on in its section
-abbrev pub place_away : Place → ℤ → Option Place
-place_away q distance = place_on q (pos q.offset +ℤ distance)
-
 -- ---- items without relocation
 
--- a place, if code may lead there
-abbrev pub target_only : List ObjectParts → Place → Option Place
-target_only objects p = if is_target_at objects p then Some p else None
-
--- where a branch or jump leads from a place, if it may lead there
+-- the place at a distance in its section, if code may lead there
 abbrev pub target_away : List ObjectParts → Place → ℤ → Option Place
-target_away objects q distance = option_and_then (target_only objects) (place_away q distance)
+target_away objects q distance =
+    option_and_then (λ to. if is_target_at objects to then Some to else None) (place_on q (pos q.offset +ℤ distance))
 
--- so many bytes that are copied unread: 2 or 4
+-- 2 or 4 bytes that are copied unread
 abbrev pub raw_in : ℕ → List ℕ → ℕ → Item
 raw_in size bytes n = if size == 2 then RawShort (half_in bytes n) else Raw (word_in bytes n)
 
@@ -125,16 +114,12 @@ instr_item objects q instr.Ecall raw = Op instr.Ecall
 instr_item objects q instr.Ebreak raw = Op instr.Ebreak
 instr_item objects q (instr.Csrrw rd source) raw = raw
 
--- what stands at a place: its instruction's item, or else bytes that are copied unread
+-- the item at a place: that of its instruction, or else bytes that are copied unread
 abbrev pub spelled_item : List ObjectParts → Place → Option Instr → Item → Item
 spelled_item objects q None raw = raw
 spelled_item objects q (Some i) raw = instr_item objects q i raw
 
 -- ---- items with one
-
--- the item of an instruction, or else bytes that are copied unread
-abbrev pub of_instr : Option Instr → Item → (Instr → Item) → Item
-of_instr first raw item = option_map_or item first raw
 
 -- the item that goes to a place, or another, which goes nowhere: a weak symbol that no object defines is no place
 abbrev pub to_place : Target → (Place → Item) → Item → Item
@@ -149,10 +134,10 @@ transfer_item (instr.Branch op first second distance) other to = Branch op first
 transfer_item (instr.Jal rd distance) other to = Jump rd to
 transfer_item i other to = other
 
--- the branch or jump to a target that so many bytes are
+-- the branch or jump to a target that the `size` bytes at an offset are
 abbrev pub transfer_under : ℕ → Target → List ℕ → ℕ → Item
 transfer_under size t bytes n =
-    of_instr (instr_in size bytes n) (raw_in size bytes n) (λ i. to_place t (transfer_item i (raw_in size bytes n)) (raw_in size bytes n))
+    option_map_or (λ i. to_place t (transfer_item i (raw_in size bytes n)) (raw_in size bytes n)) (instr_in size bytes n) (raw_in size bytes n)
 
 -- the call that an `auipc` and a `jalr` are
 abbrev pub call_item : Option Instr → Option Instr → Item → Place → Item
@@ -172,14 +157,14 @@ known_item (Some kind.Branch) addend t bytes n = transfer_under 4 t bytes n
 known_item (Some kind.Jal) addend t bytes n = transfer_under 4 t bytes n
 known_item (Some kind.Call) addend t bytes n =
     to_place t (call_item (instr_in 4 bytes n) (instr_in 4 bytes (n + 4)) (raw_pair bytes n)) (raw_pair bytes n)
-known_item (Some kind.PcrelHi20) addend t bytes n = of_instr (instr_in 4 bytes n) (raw_in 4 bytes n) (λ i. PcHi i t)
+known_item (Some kind.PcrelHi20) addend t bytes n = option_map_or (λ i. PcHi i t) (instr_in 4 bytes n) (raw_in 4 bytes n)
 known_item (Some kind.PcrelLo12I) addend t bytes n =
-    of_instr (instr_in 4 bytes n) (raw_in 4 bytes n) (λ i. to_place t (PcLo i) (raw_in 4 bytes n))
+    option_map_or (λ i. to_place t (PcLo i) (raw_in 4 bytes n)) (instr_in 4 bytes n) (raw_in 4 bytes n)
 known_item (Some kind.PcrelLo12S) addend t bytes n =
-    of_instr (instr_in 4 bytes n) (raw_in 4 bytes n) (λ i. to_place t (PcLo i) (raw_in 4 bytes n))
-known_item (Some kind.Hi20) addend t bytes n = of_instr (instr_in 4 bytes n) (raw_in 4 bytes n) (λ i. Hi i t)
-known_item (Some kind.Lo12I) addend t bytes n = of_instr (instr_in 4 bytes n) (raw_in 4 bytes n) (λ i. Lo i t)
-known_item (Some kind.Lo12S) addend t bytes n = of_instr (instr_in 4 bytes n) (raw_in 4 bytes n) (λ i. Lo i t)
+    option_map_or (λ i. to_place t (PcLo i) (raw_in 4 bytes n)) (instr_in 4 bytes n) (raw_in 4 bytes n)
+known_item (Some kind.Hi20) addend t bytes n = option_map_or (λ i. Hi i t) (instr_in 4 bytes n) (raw_in 4 bytes n)
+known_item (Some kind.Lo12I) addend t bytes n = option_map_or (λ i. Lo i t) (instr_in 4 bytes n) (raw_in 4 bytes n)
+known_item (Some kind.Lo12S) addend t bytes n = option_map_or (λ i. Lo i t) (instr_in 4 bytes n) (raw_in 4 bytes n)
 known_item (Some kind.RvcBranch) addend t bytes n = transfer_under 2 t bytes n
 known_item (Some kind.RvcJump) addend t bytes n = transfer_under 2 t bytes n
 known_item (Some kind.Align) addend t bytes n = Align (padding_length addend)
@@ -190,7 +175,7 @@ known_item (Some kind.Align) addend t bytes n = Align (padding_length addend)
 abbrev pub target_of : ParsedInputs → ℕ → Reloc → Target
 target_of inputs o r = resolved inputs o r.symbol r.addend
 
--- the item at a place with this relocation, by its bytes, of which it has so many if there is none
+-- the item at a place, by its relocation and its bytes; without a relocation it has `size` bytes
 abbrev pub item_under : ParsedInputs → Place → Option Reloc → ℕ → List ℕ → Item
 item_under inputs q None size bytes = spelled_item inputs.objects q (instr_in size bytes q.offset) (raw_in size bytes q.offset)
 item_under inputs q (Some r) size bytes = known_item (kind_of r.kind) r.addend (target_of inputs q.object r) bytes q.offset
@@ -213,7 +198,7 @@ place_of l n = record { object = l.object; section = l.index; offset = n }
 abbrev pub places_of : IndexedSection → List Place
 places_of l = if is_code_section l.section then map (place_of l) (starts_in l.section) else []
 
--- those of all code, by object, section and offset
+-- the places of all code where items start, by object, section and offset
 abbrev pub all_places : List ObjectParts → List Place
 all_places objects = flat_map places_of (all_sections objects)
 
@@ -225,7 +210,7 @@ targets_in s = starts_in s ++ length s.bytes ∷ []
 abbrev pub targets_of : IndexedSection → List Place
 targets_of l = if is_code_section l.section then map (place_of l) (targets_in l.section) else []
 
--- those of all code, by object, section and offset
+-- the places of all code that code may lead to, by object, section and offset
 abbrev pub all_targets : List ObjectParts → List Place
 all_targets objects = flat_map targets_of (all_sections objects)
 
@@ -250,6 +235,6 @@ start_only objects Nowhere = None
 abbrev pub entry_in : ParsedInputs → Option Place
 entry_in inputs = start_only inputs.objects (name_target inputs start_name)
 
--- where a program starts: objects without that place are refused
+-- where a program starts; objects that have no such place are refused
 abbrev pub entry_of : ParsedInputs → Place
 entry_of inputs = unwrap_or (entry_in inputs) (record { object = 0; section = 0; offset = 0 })

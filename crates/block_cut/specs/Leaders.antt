@@ -31,13 +31,13 @@ is_place q Nowhere = false
 abbrev pub reloc_leads : ParsedInputs → Place → ℕ → Reloc → Bool
 reloc_leads inputs q o r = not (is_ignored (kind_of r.kind)) && is_place q (target_of inputs o r)
 
--- one of a section does; what is dropped has none
+-- one of a section's relocations leads to a place; a section that is dropped has none
 abbrev pub section_leads : ParsedInputs → Place → IndexedSection → Bool
 section_leads inputs q l = list_any (reloc_leads inputs q l.object) l.section.relocs
 
 -- ---- items that lead somewhere
 
--- `jalr`
+-- an instruction is a `jalr`
 abbrev pub is_jalr : Instr → Bool
 is_jalr (instr.Jalr rd base imm) = true
 is_jalr i = false
@@ -66,7 +66,8 @@ item_leads inputs q p =
 
 -- ---- symbols
 
--- global (1) or weak (2), or a function (STT_FUNC, 2), and defined (SHN_UNDEF is 0) at this place of a section of code
+-- a symbol is global (1) or weak (2), or a function (STT_FUNC, 2), and defined (SHN_UNDEF is 0) at this place of a section of
+-- code
 abbrev pub symbol_leads : List ObjectParts → Place → IndexedSymbol → Bool
 symbol_leads objects q l =
     not (l.symbol.home == 0) && (l.symbol.bind == 1 || (l.symbol.bind == 2 || l.symbol.kind == 2))

@@ -1,4 +1,4 @@
--- The places of code with what stands there: where items start, and where a section of code ends.
+-- The places of code, each with its item: where items start, and where a section of code ends.
 use Rattle.std.specs.Prelude.{◌≡◌, ℕ, ◌+◌, if◌then◌else◌, List, [], map, Some}
 use Rattle.std.specs.Option.{unwrap_or}
 use Rattle.zc_base.specs.declared.place.Place.{Place}
@@ -11,7 +11,7 @@ use Rattle.block_cut.specs.PlainLayout.{plain_address}
 use Rattle.block_cut.specs.declared.code_place.CodePlace.{CodePlace}
 use Rattle.block_cut.specs.declared.place_number.PlaceNumber.{PlaceNumber}
 
--- a place with what stands there
+-- a place with its item, its address and its size
 abbrev pub place_there : ParsedInputs → Place → CodePlace
 place_there inputs q = record {
   item = item_at inputs q;
@@ -20,17 +20,17 @@ place_there inputs q = record {
   size = size_at inputs.objects q;
 }
 
--- that at an offset of a section
+-- the place at an offset of a section
 abbrev pub code_place : ParsedInputs → IndexedSection → ℕ → CodePlace
 code_place inputs l n = place_there inputs (place_of l n)
 
--- those of a section; what isn't code has none
+-- the places of a section; what isn't code has none
 abbrev pub code_places : ParsedInputs → IndexedSection → List CodePlace
 code_places inputs l = if is_code_section l.section then map (code_place inputs l) (targets_in l.section) else []
 
 -- ---- numbers
 
--- a place of code stands in the section with this number among all, after so many of that section's items
+-- a place of code lies in the section with this number among all, after this many of that section's items
 pub record IsPlaceNumber (objects : List ObjectParts) (q : Place) (number : PlaceNumber) : Type 0 where
   pub section : SectionParts
   pub here : code_at objects q ≡ Some section

@@ -20,7 +20,8 @@ abbrev pub padding_of : Item → Option ℕ
 padding_of (Align bytes) = Some bytes
 padding_of item = None
 
--- the address after an item at an address that has so many bytes in its section: padding goes up to the power of two above its bytes
+-- the address after an item of `size` bytes at an address: padding goes up to the next multiple of the power of two above its
+-- bytes
 abbrev pub after_item : ℕ → ℕ → Item → ℕ
 after_item a size item = option_map_or (λ bytes. aligned_up (power_above bytes) a) (padding_of item) (a + size)
 
@@ -34,11 +35,11 @@ after_starts inputs l a ns = fold (after_start inputs l) a ns
 
 -- ---- sections
 
--- where a section of code begins if what stands before it ends at an address: it is aligned to 4 at least
+-- where a section of code begins if what comes before it ends at an address: it is aligned to 4 at least
 abbrev pub section_begin : ℕ → SectionParts → ℕ
 section_begin a s = aligned_up (max 4 s.align) a
 
--- where it ends then; what isn't code takes no room
+-- where a section ends, if what comes before it ends at an address; what isn't code takes no room
 abbrev pub section_end : ParsedInputs → ℕ → IndexedSection → ℕ
 section_end inputs a l = if is_code_section l.section then after_starts inputs l (section_begin a l.section) (starts_in l.section) else a
 
@@ -46,7 +47,7 @@ section_end inputs a l = if is_code_section l.section then after_starts inputs l
 abbrev pub plain_end_of : ParsedInputs → List IndexedSection → ℕ
 plain_end_of inputs sections = fold (section_end inputs) inputs.map.text sections
 
--- where a section of code begins: after those that stand before it
+-- where a section of code begins: after the sections before it
 abbrev pub plain_start : ParsedInputs → ℕ → ℕ → SectionParts → ℕ
 plain_start inputs o i s = section_begin (plain_end_of inputs (sections_before inputs.objects o i)) s
 
@@ -65,12 +66,12 @@ abbrev pub address_on : ParsedInputs → Place → SectionParts → ℕ
 address_on inputs q s =
     after_starts inputs (record { object = q.object; index = q.section; section = s }) (plain_start inputs q.object q.section s) (starts_before s q.offset)
 
--- the address of a place where an item starts or a section of code ends; none of another
+-- the address of a place where an item starts or a section of code ends; other places have none
 unfoldable pub plain_address : ParsedInputs → Place → Option ℕ
 plain_address inputs q =
     if is_target_at inputs.objects q then option_map (address_on inputs q) (code_at inputs.objects q) else None
 
--- the text's bytes, and how many items there are; code that is written as it is has no short forms
+-- the number of the text's bytes, and of its items; code that is written as it is has no short forms
 abbrev pub plain_counts : ParsedInputs → Counts
 plain_counts inputs = record {
   text = plain_end inputs - inputs.map.text;

@@ -1,4 +1,5 @@
--- Relocations of a section: which field each has, which say what an item is, and which can't (RISC-V ELF psABI, "Relocations").
+-- Relocations of a section: which field each has, which ones decide an item, and which ones are wrong (RISC-V ELF psABI,
+-- "Relocations").
 use Rattle.std.specs.Prelude.{ℕ, ℤ, pos, negsuc, ◌+◌, ◌%◌, Bool, true, false, not, ◌&&◌, ◌||◌, ◌==◌, if◌then◌else◌, nat_lt, nat_le, max, min, List, length, filter, Option, Some, None}
 use Rattle.std.specs.List.{find, list_any}
 use Rattle.zc_base.specs.Fields.{half_in, word_in}
@@ -17,34 +18,34 @@ use Rattle.block_cut.specs.CodeSizes.{code_step}
 
 -- ---- fields
 
--- the bytes that a relocation changes: how many, and where they end; they begin at its offset
+-- the number of bytes that a relocation changes, and where they end; they begin at its offset
 abbrev pub field_of : Reloc → ℕ
 field_of r = field_length (kind_of r.kind) r.addend
 
 abbrev pub field_end : Reloc → ℕ
 field_end r = r.offset + field_of r
 
--- a byte is changed by both
+-- both relocations change one byte
 abbrev pub overlap : Reloc → Reloc → Bool
 overlap r s = nat_lt (max r.offset s.offset) (min (field_end r) (field_end s))
 
--- a byte is changed by this one of the relocations and by another; with itself each overlaps that changes anything
+-- a byte is changed by this relocation and by another one; each relocation that changes a byte overlaps itself
 abbrev pub overlaps_another : List Reloc → Reloc → Bool
 overlaps_another relocs r = nat_lt 1 (length (filter (overlap r) relocs))
 
 -- ---- kinds
 
--- one that asks for nothing
+-- a kind that the linker ignores
 abbrev pub is_ignored : Option RelocKind → Bool
 is_ignored (Some Ignored) = true
 is_ignored other = false
 
--- a word, which may stand in data as well
+-- a kind that fills in a word, which may be in data as well
 abbrev pub is_word : Option RelocKind → Bool
 is_word (Some Word) = true
 is_word other = false
 
--- the upper part of a PC-relative pair, and a lower part
+-- the kinds of the upper part and of the lower parts of a PC-relative pair
 abbrev pub is_pcrel_hi : Option RelocKind → Bool
 is_pcrel_hi (Some PcrelHi20) = true
 is_pcrel_hi other = false
@@ -54,7 +55,7 @@ is_pcrel_lo (Some PcrelLo12I) = true
 is_pcrel_lo (Some PcrelLo12S) = true
 is_pcrel_lo other = false
 
--- one that makes its instruction go to its target
+-- a kind that makes its instruction go to its target
 abbrev pub is_transfer : Option RelocKind → Bool
 is_transfer (Some Branch) = true
 is_transfer (Some Jal) = true
@@ -63,7 +64,7 @@ is_transfer (Some RvcBranch) = true
 is_transfer (Some RvcJump) = true
 is_transfer other = false
 
--- one that changes an instruction of 2 bytes
+-- a kind that changes an instruction of 2 bytes
 abbrev pub is_rvc : Option RelocKind → Bool
 is_rvc (Some RvcBranch) = true
 is_rvc (Some RvcJump) = true
@@ -71,23 +72,23 @@ is_rvc other = false
 
 -- ---- what can't stand
 
--- a kind that isn't known, or not in data, or that changes an instruction of 2 bytes where all have 4
+-- a kind that isn't known, that can't be in data, or that changes an instruction of 2 bytes where all have 4
 abbrev pub is_bad_kind : SectionParts → Option RelocKind → Bool
 is_bad_kind s None = true
 is_bad_kind s (Some k) =
     not (is_code_section s) && (not (is_ignored (Some k)) && not (is_word (Some k))) || is_rvc (Some k) && not s.compressed
 
--- padding of so many bytes, in whole steps
+-- padding of n bytes, in whole steps
 abbrev pub is_padding : Bool → ℤ → Bool
 is_padding compressed (pos n) = nat_lt 0 n && (nat_lt n 256 && (n % code_step compressed == 0))
 is_padding compressed (negsuc n) = false
 
--- the instruction that a halfword spells, if a word spells it too, in its normal form
+-- the 32-bit instruction that a short one stands for, in its normal form; those of Zcmp and Zcmt have none
 abbrev pub normal_base : Option Short → Option Instr
 normal_base (Some (Base i)) = Some (normal_of i)
 normal_base other = None
 
--- the instruction of so many bytes at an offset
+-- the instruction of `size` bytes at an offset
 abbrev pub instr_in : ℕ → List ℕ → ℕ → Option Instr
 instr_in size bytes n = if size == 2 then normal_base (decoded16 (half_in bytes n)) else decoded (word_in bytes n)
 
@@ -103,18 +104,18 @@ fits_at s n addend (Some k) = fits k (instr_in 4 s.bytes n) (instr_in 4 s.bytes 
 abbrev pub is_placed : SectionParts → Reloc → Bool
 is_placed s r = not (is_code_section s) || ((r.offset % code_step s.compressed == 0) && fits_at s r.offset r.addend (kind_of r.kind))
 
--- a field that passes the section's end, isn't placed as its kind asks, or that another changes as well
+-- a field that goes beyond the section's end, isn't placed as its kind asks, or is changed by another relocation as well
 abbrev pub is_bad_place : SectionParts → Reloc → Bool
 is_bad_place s r =
     not (is_ignored (kind_of r.kind)) && (nat_lt s.size (field_end r) || (not (is_placed s r) || overlaps_another s.relocs r))
 
 -- ---- what says what an item is
 
--- one that changes something, and can stand
+-- a relocation that changes something, whose kind and place are right
 abbrev pub is_sound : SectionParts → Reloc → Bool
 is_sound s r = not (is_ignored (kind_of r.kind)) && (not (is_bad_kind s (kind_of r.kind)) && not (is_bad_place s r))
 
--- the one at an offset of a section
+-- the relocation that decides the item at an offset of a section
 unfoldable pub reloc_on : SectionParts → ℕ → Option Reloc
 reloc_on s n = find (λ r. is_sound s r && r.offset == n) s.relocs
 

@@ -35,11 +35,11 @@ resolved_reloc inputs l r = record {
   fault = own_fault inputs l r;
 }
 
--- those of a section that ask for something, in order
+-- a section's relocations that ask for something, in order
 abbrev pub resolved_relocs : ParsedInputs → IndexedSection → List ResolvedReloc
 resolved_relocs inputs l = map (resolved_reloc inputs l) (filter asks l.section.relocs)
 
--- what is wrong with one where items start is known: its place is, if none starts there
+-- what is wrong with a relocation once it is known where items start: its place is, if none starts there
 abbrev pub placed_fault : Bool → Option RelocFault → Option RelocFault
 placed_fault strays (Some Kind) = Some Kind
 placed_fault strays other = if strays then Some Place else other
@@ -47,35 +47,35 @@ placed_fault strays other = if strays then Some Place else other
 abbrev pub placed_reloc : SectionParts → ResolvedReloc → ResolvedReloc
 placed_reloc s d = record d { fault = placed_fault (is_code_section s && not (starts_on s d.offset)) d.fault }
 
--- those of a section with all that is wrong with them by themselves
+-- a section's relocations with all that is wrong with them by themselves
 abbrev pub placed_relocs : ParsedInputs → IndexedSection → List ResolvedReloc
 placed_relocs inputs l = map (placed_reloc l.section) (resolved_relocs inputs l)
 
--- those that are kept until all code is cut: what isn't code has none
+-- the relocations that are kept until all code is cut; what isn't code has none
 abbrev pub code_relocs : ParsedInputs → IndexedSection → List ResolvedReloc
 code_relocs inputs l = if is_code_section l.section then placed_relocs inputs l else []
 
--- a fault by what is wrong at an offset of a section; another if nothing is
+-- the fault for what is wrong with a relocation at an offset of a section; if nothing is, the other one
 abbrev pub fault_of : Option RelocFault → Option Fault → ℕ → ℕ → Option Fault
 fault_of (Some Kind) other i n = Some (RelocKind i n)
 fault_of (Some Place) other i n = Some (RelocPlace i n)
 fault_of (Some Pair) other i n = Some (LoPair i n)
 fault_of None other i n = other
 
--- the first fault of one of a section, by the section's index
+-- the first fault of a section's relocations, by the section's index
 abbrev pub resolved_fault : List ObjectParts → ℕ → ResolvedReloc → Option Fault
 resolved_fault objects i d = fault_of d.fault (if_so (is_bad_target objects (is_transfer d.kind) d.target) (BadTarget i d.offset)) i d.offset
 
--- it can say what stands at its offset: its kind and its place are right
+-- a relocation decides the item at its offset: its kind and its place are right
 abbrev pub is_right : Option RelocFault → Bool
 is_right (Some Kind) = false
 is_right (Some Place) = false
 is_right other = true
 
--- and it stands at this offset
+-- a relocation decides the item at this offset
 abbrev pub is_right_at : ℕ → ResolvedReloc → Bool
 is_right_at n d = is_right d.fault && d.offset == n
 
--- the item at an offset of a section with these bytes, by the relocation that stands there
+-- the item at an offset of a section with these bytes, by the relocation that decides it
 abbrev pub resolved_item : ResolvedReloc → List ℕ → ℕ → Item
 resolved_item d bytes n = known_item d.kind (pos d.size) d.target bytes n

@@ -1,6 +1,6 @@
 // Places in code.
 
-ghost use Rattle.std.specs.Prelude.{◌≡◌, ◌+◌, ◌^◌, ◌<◌};
+ghost use Rattle.std.specs.Prelude.{◌≡◌, ◌+◌, ◌-◌, ◌^◌, ◌<◌, length, take};
 ghost use Rattle.std.specs.Option.{option_map_or};
 ghost use Rattle.block_cut.specs.PlainLayout.{after_item};
 
@@ -8,7 +8,7 @@ use crate::item::Item;
 use crate::plain_layout::after_item;
 
 /// A place where an item of code starts or a section of code ends: the item, if one starts there, the address in the
-/// plain layout, the offset in its section, and how many bytes the item has there.
+/// plain layout, the offset in its section, and the item's number of bytes there.
 #[derive(Clone, Copy)]
 pub struct CodePlace {
     pub item: Option<Item>,
@@ -17,7 +17,7 @@ pub struct CodePlace {
     pub size: u8,
 }
 
-/// The address after what stands at an address and has so many bytes in its section.
+/// The address after an item at an address, by its size in its section.
 pub fn address_after(at: u32, size: u8, item: &Option<Item>) -> u32
     requires { at + 256 < 2 ^ 32 }
     ensures { result ≡ option_map_or (after_item at size) item.now at }
@@ -26,4 +26,11 @@ pub fn address_after(at: u32, size: u8, item: &Option<Item>) -> u32
         None => at,
         Some(item) => after_item(at, size, item),
     }
+}
+
+/// The places of a section where items start: all but the last, where the section ends.
+pub fn item_places(places: &[CodePlace]) -> &[CodePlace]
+    ensures { result.now ≡ take (length places.now - 1) places.now }
+{
+    &places[..places.len().saturating_sub(1)]
 }

@@ -10,7 +10,7 @@ ghost use Rattle.block_cut.specs.Places.{code_places};
 
 use crate::code_place::CodePlace;
 
-/// Where code ends in the plain layout, and how many items it has.
+/// Where code ends in the plain layout, and its number of items.
 #[derive(Clone, Copy)]
 pub struct CodeSpan {
     pub end: u32,
@@ -18,7 +18,7 @@ pub struct CodeSpan {
 }
 
 impl CodeSpan {
-    /// With one section more, by its places.
+    /// The span with one section more, by that section's places.
     pub fn with(self, places: &[CodePlace]) -> CodeSpan
         requires { self.count + length places.now < 2 ^ 32 }
         ensures { (inputs : Inputs) (k : ℕ) (l : IndexedSection) → gather_fault inputs ≡ None

@@ -11,7 +11,8 @@ ghost use Rattle.block_cut.specs.Invariants.Led.{has_place, mark_in};
 ghost use Rattle.block_cut.specs.Items.{is_target_at, item_at};
 ghost use Rattle.block_cut.specs.Places.{IsPlaceNumber, code_places, place_there};
 ghost use Rattle.block_cut.specs.PlainLayout.{plain_address};
-ghost use Rattle.block_cut.specs.Invariants.SectionText.{no_tables, numbers_of_section};
+ghost use Rattle.block_cut.specs.Invariants.HalfwordTables.{numbers_of_section};
+ghost use Rattle.block_cut.specs.Invariants.SectionItems.{no_tables};
 
 use crate::code_place::CodePlace;
 use crate::code_span::CodeSpan;
@@ -20,15 +21,15 @@ use crate::item::Item;
 use crate::leaders::Leaders;
 use crate::marks::Marks;
 use crate::place_number::PlaceNumber;
-use crate::section_text::{CutSection, SectionText};
+use crate::section_items::{CutSection, SectionItems};
 use psabi_sym::objects::Objects;
 use std::alloc::{AllocError, Global};
 use zc_base::place::Place;
 
-/// What is kept of each section, by its number among all, and how far code comes.
+/// What is kept of each section, by its number among all, and where code ends.
 #[derive(Drop)]
 pub struct CodeTables {
-    pub sections: Vec<SectionText>,
+    pub sections: Vec<SectionItems>,
     pub span: CodeSpan,
 }
 
@@ -80,8 +81,7 @@ impl CodeTables {
         self.sections[section as usize].numbers()
     }
 
-    /// The place here, if an item starts here or a section of code ends here. It takes constant time, as do all that
-    /// follow.
+    /// A place, if an item starts there or a section of code ends there. It takes constant time, as do all that follow.
     pub fn place(&self, objects: &Objects, p: Place) -> Option<&CodePlace>
         requires tables { AreCodeTables (parsed objects.now) self.now }
         ensures { MatchOption result (is_target_at (parsed objects.now).objects p ≡ false)
@@ -89,7 +89,7 @@ impl CodeTables {
             × (place.now ≡ place_there (parsed objects.now) p)) }
     {
         // Sections without a fault are whole, so each place stands at a halfword.
-        let _count = objects.section_count();
+        objects.recall_invariant();
         let section = objects.section_number(p.object, p.section)?;
         self.sections[section as usize].place(p.offset)
     }
@@ -102,7 +102,7 @@ impl CodeTables {
             × IsPlaceNumber (parsed objects.now).objects p number) }
     {
         // Sections without a fault are whole, so each place stands at a halfword.
-        let _count = objects.section_count();
+        objects.recall_invariant();
         let section = objects.section_number(p.object, p.section)?;
         let index = self.sections[section as usize].index(p.offset)?;
         Some(PlaceNumber { section, index })
@@ -123,7 +123,7 @@ impl CodeTables {
             → is_target_at (parsed objects.now).objects q ≡ true }
     {
         // Sections without a fault are whole, so each place stands at a halfword.
-        let _count = objects.section_count();
+        objects.recall_invariant();
         if !leaders.others.is_empty() {
             return false;
         }

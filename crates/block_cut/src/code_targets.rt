@@ -37,7 +37,7 @@ fn is_wrong(reloc: &ResolvedReloc) -> bool
 }
 
 impl CodeTargets {
-    /// Those of no sections.
+    /// An empty set of targets.
     pub fn new(alloc: Global, objects: &Objects) -> Result<CodeTargets, AllocError>
         ensures { IfOk result (AreCodeTargets (parsed objects.now) []) }
     {
@@ -47,7 +47,7 @@ impl CodeTargets {
         })
     }
 
-    /// Adds those of the next section, by its relocations if it is code. It looks at each once.
+    /// Adds the targets of the next section, by its relocations if it is code. It looks at each once.
     pub fn add(&mut self, objects: &Objects, relocs: &[ResolvedReloc]) -> Result<(), AllocError>
         ensures { IfOk result (λ _. (sections : List IndexedSection) (l : IndexedSection)
             → relocs.now ≡ code_relocs (parsed objects.now) l → AreCodeTargets (parsed objects.now) sections self.old

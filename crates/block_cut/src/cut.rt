@@ -1,16 +1,17 @@
 // The objects with their code cut into items.
 
 ghost use Rattle.std.specs.Prelude.{◌≡◌, ◌<◌, ◌+◌, ◌^◌, None, Some, IfOk, IfErr, IfSome, MatchOption, false, true, length, slice_get};
+ghost use Rattle.zc_base.specs.MemMap.{IsMap};
 ghost use Rattle.psabi_sym.specs.Faults.{gather_fault};
 ghost use Rattle.psabi_sym.specs.Inputs.{parsed};
 ghost use Rattle.psabi_sym.specs.LinkFault.{IsRefusal};
 ghost use Rattle.psabi_sym.specs.Indexed.{all_sections, IndexedSection};
 ghost use Rattle.block_cut.specs.DataWords.{data_words};
 ghost use Rattle.block_cut.specs.Faults.{first_fault, relocs_fault};
-ghost use Rattle.block_cut.specs.Items.{entry_in, entry_of, is_target_at, item_at, place_after, start_only};
+ghost use Rattle.block_cut.specs.Items.{all_items, entry_in, entry_of, is_target_at, item_at, place_after, start_only};
 ghost use Rattle.block_cut.specs.Leaders.{is_leader_at};
 ghost use Rattle.block_cut.specs.Invariants.CodeTables.{AreCodeTables};
-ghost use Rattle.block_cut.specs.Invariants.SectionText.{numbers_of_section};
+ghost use Rattle.block_cut.specs.Invariants.HalfwordTables.{numbers_of_section};
 ghost use Rattle.block_cut.specs.Places.{IsPlaceNumber, code_places, place_there};
 ghost use Rattle.block_cut.specs.PlainLayout.{plain_address, plain_counts};
 
@@ -81,7 +82,18 @@ impl Cut {
         })
     }
 
-    /// What stands at a place, if an item starts there or a section of code ends there. It takes constant time, as do
+    /// Says what holds of every cut, for the proof of a caller that needs no value of it. Nothing runs.
+    #[inline]
+    pub fn recall_invariant(&self)
+        ensures gathered { gather_fault self.now ≡ None }
+        ensures faultless { first_fault self.now ≡ None }
+        ensures is_map { IsMap self.now.map }
+        ensures few { length (all_items (parsed self.now)) < 2 ^ 32 }
+    {
+        let _count = self.tables.span.count;
+    }
+
+    /// The place with its item, if an item starts there or a section of code ends there. It takes constant time, as do
     /// all that follow unless they say otherwise.
     pub fn at(&self, p: Place) -> Option<&CodePlace>
         ensures { MatchOption result (is_target_at (parsed self.now).objects p ≡ false)
@@ -134,8 +146,8 @@ impl Cut {
         self.tables.places(section)
     }
 
-    /// The numbers of those places, from 1 on, by the halfword that they stand at; 0 where no item starts and the
-    /// section doesn't end.
+    /// For each halfword of a section, the number of the place there, from 1 on; 0 where no item starts and the section
+    /// doesn't end. The section is given by its number among all.
     pub fn numbers(&self, section: u32) -> &[u32]
         requires { section < length (all_sections (parsed self.now).objects) }
         ensures { (l : IndexedSection) → slice_get (all_sections (parsed self.now).objects) section ≡ Some l
@@ -192,7 +204,7 @@ impl Cut {
     }
 }
 
-// The place so many bytes on in its section.
+// The place after an item of `size` bytes at a place.
 fn moved(p: Place, size: u8) -> Place
     requires { p.offset + 256 < 2 ^ 32 }
     ensures { result ≡ record p { offset = p.offset + size } }
@@ -203,7 +215,7 @@ fn moved(p: Place, size: u8) -> Place
     }
 }
 
-// The place where the program starts, unless there is none or a branch doesn't reach.
+// The place where the program starts, unless there is none or a branch is out of range.
 fn entry_in_reach(objects: &Objects, tables: &CodeTables) -> Result<Place, LinkFault>
     requires gathered { gather_fault objects.now ≡ None }
     requires relocs { relocs_fault (parsed objects.now) ≡ None }

@@ -18,7 +18,7 @@ use psabi_sym::section_ref::SectionRef;
 use psabi_sym::section_row::SectionRole;
 use std::alloc::AllocError;
 
-// The address of a section, if it is data that a file holds.
+// The address of a section, if it is data whose bytes a file holds.
 fn held_address(objects: &Objects, section: &SectionRef) -> Option<u32>
     requires { section_at (parsed objects.now).objects section.now.object section.now.index
         ≡ Some section.now.section }
@@ -64,8 +64,8 @@ pub fn add_section_words(
     requires faultless { section_fault (parsed objects.now) section.now ≡ None }
     ensures { IfOk result (λ _. words.new.items ≡ words.old.items ++ data_words_in (parsed objects.now) section.now) }
 {
-    // No data lie beyond this, so no address is too large.
-    let _end = objects.data_end();
+    // Data end within the map, so no address is too large.
+    objects.recall_invariant();
     match held_address(objects, section) {
         None => Ok(()),
         Some(at) => {

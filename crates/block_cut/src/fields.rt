@@ -32,7 +32,7 @@ pub struct Fields {
     pub unordered: FieldEnds,
 }
 
-/// How many bytes a relocation of this kind changes, with its addend.
+/// The number of bytes that a relocation of this kind changes, with its addend.
 pub fn field_length(kind: Option<RelocKind>, addend: i32) -> u32
     ensures { result ≡ field_length kind addend }
 {
@@ -42,7 +42,7 @@ pub fn field_length(kind: Option<RelocKind>, addend: i32) -> u32
     }
 }
 
-/// Where the bytes end that a relocation of this kind changes.
+/// Where the field of a relocation of this kind ends.
 pub fn field_end(reloc: Reloc, kind: Option<RelocKind>) -> u64
     requires { kind ≡ kind_of reloc.kind }
     ensures { result ≡ field_end reloc }
@@ -50,7 +50,7 @@ pub fn field_end(reloc: Reloc, kind: Option<RelocKind>) -> u64
     u64::from(reloc.offset) + u64::from(field_length(kind, reloc.addend))
 }
 
-// How many numbers lie below another.
+// The number of entries that are smaller than `most`, in a list in ascending order.
 fn count_below(numbers: &[u64], most: u64) -> usize
     ensures value { IsNonDecreasing numbers.now → result ≡ count_by (λ n. nat_lt n most) numbers.now }
     ensures bound { result ≤ length numbers.now }
@@ -58,7 +58,7 @@ fn count_below(numbers: &[u64], most: u64) -> usize
     numbers.partition_point(|n| *n < most)
 }
 
-// Brings numbers into ascending order, if they aren't.
+// Sorts numbers in ascending order, unless they are sorted already.
 fn sort(numbers: &mut Vec<u32>)
     ensures { IsSortedOf numbers.old.items numbers.new.items }
 {
@@ -68,7 +68,7 @@ fn sort(numbers: &mut Vec<u32>)
     numbers.sort_unstable();
 }
 
-// Whether a number is the last of some.
+// Whether a number is the last one of a list.
 fn is_last(numbers: &[u32], number: u32) -> bool
     ensures { result ≡ true → list_any (λ n. n == number) numbers.now ≡ true }
 {
@@ -79,7 +79,7 @@ fn is_last(numbers: &[u32], number: u32) -> bool
 }
 
 impl FieldEnds {
-    // Those of no relocations.
+    // The ends of no fields.
     fn none(alloc: Global) -> FieldEnds
         ensures { HoldsEnds [] result }
     {
@@ -89,7 +89,7 @@ impl FieldEnds {
         }
     }
 
-    // Adds those of one more relocation.
+    // Adds the field of one more relocation.
     fn add(&mut self, reloc: Reloc) -> Result<(), AllocError>
         ensures { IfOk result (λ _. (relocs : List Reloc) → HoldsEnds relocs self.old
             → HoldsEnds (relocs ++ reloc ∷ []) self.new) }
@@ -103,7 +103,7 @@ impl FieldEnds {
         Ok(())
     }
 
-    // Those of the relocations of a section, as they come.
+    // The fields of a section's relocations, in the order of the relocations.
     fn held(alloc: Global, section: &SectionRef) -> Result<FieldEnds, AllocError>
         ensures { IfOk result (HoldsEnds section.now.section.relocs) }
     {
@@ -114,7 +114,7 @@ impl FieldEnds {
         Ok(ends)
     }
 
-    // Those of the relocations of a section, in ascending order.
+    // The fields of a section's relocations, in ascending order.
     fn new(alloc: Global, section: &SectionRef) -> Result<FieldEnds, AllocError>
         ensures { IfOk result (AreEnds section.now.section.relocs) }
     {
@@ -156,7 +156,7 @@ fn end_with(before: Option<u64>, reloc: Reloc, kind: Option<RelocKind>) -> Optio
 }
 
 impl Fields {
-    /// Those of no relocations.
+    /// The fields of no relocations.
     pub fn none(alloc: Global) -> Fields
         ensures holds { HoldsFields [] result }
         ensures end { result.end ≡ Some 0 }
@@ -168,7 +168,7 @@ impl Fields {
         }
     }
 
-    /// Adds those of one more relocation, which is of this kind, but where it begins and ends.
+    /// Adds a relocation of this kind, but not where its field begins and ends.
     #[inline(always)]
     pub fn add(&mut self, reloc: Reloc, kind: Option<RelocKind>) -> Result<(), AllocError>
         requires { kind ≡ kind_of reloc.kind }
@@ -182,7 +182,7 @@ impl Fields {
         Ok(())
     }
 
-    // Those of the relocations of a section, as they come.
+    // The fields of a section's relocations, in the order of the relocations.
     fn held(alloc: Global, section: &SectionRef) -> Result<Fields, AllocError>
         ensures { IfOk result (HoldsFields section.now.section.relocs) }
     {
@@ -194,8 +194,8 @@ impl Fields {
         Ok(fields)
     }
 
-    /// Those of the relocations of a section. It looks at each relocation once if they are in order, and else
-    /// twice, and sorts.
+    /// The fields of a section's relocations. It looks at each relocation once if they are in order, and else twice,
+    /// and sorts.
     pub fn new(alloc: Global, section: &SectionRef) -> Result<Fields, AllocError>
         ensures { IfOk result (AreFields section.now.section.relocs) }
     {

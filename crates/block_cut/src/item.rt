@@ -5,7 +5,7 @@ use rv_decode::instr::{BranchOp, Instr};
 use zc_base::place::Place;
 use zc_base::reg::Reg;
 
-/// What the bytes and relocations at a place in code spell.
+/// What the bytes and relocations at a place in code mean.
 ///
 /// | Item | Stands for |
 /// |---|---|
@@ -15,10 +15,10 @@ use zc_base::reg::Reg;
 /// | `PcLo` | an instruction with the lower part that goes with the `auipc` at that place |
 /// | `Branch`, `Jump` | a branch with its operation and registers, or a `jal` with its link register `rd`, to a place |
 /// | `Call` | an `auipc` of `temp` and a `jalr` with the link register `rd`, to a place |
-/// | `Align` | so many bytes of padding |
+/// | `Align` | this number of bytes of padding |
 /// | `Word` | a word of data in code that holds the target |
 /// | `Raw` | a word that is copied unread |
-/// | `RawShort` | two bytes that are copied unread |
+/// | `RawShort` | two bytes that are copied as they are: a halfword of Zcmp, or one that isn't read as an instruction |
 /// | `RawPair` | the two words of a call to a weak symbol that no object defines |
 #[derive(Clone, Copy)]
 pub enum Item {

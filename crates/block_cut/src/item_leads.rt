@@ -89,7 +89,7 @@ fn add_target(leaders: &mut Leaders, home: &Home, item: &Item) -> Result<(), All
     Ok(())
 }
 
-// Adds the place after an item, if a basic block ends with it.
+// Adds the place after an item, if a basic block ends with that item.
 fn add_next(leaders: &mut Leaders, home: &Home, offset: u32, item: &Item) -> Result<(), AllocError>
     requires { IsHome home.now }
     ensures { IfOk result (λ _. AddsPlaces (parsed home.now.objects.now).objects
@@ -107,7 +107,7 @@ fn add_next(leaders: &mut Leaders, home: &Home, offset: u32, item: &Item) -> Res
     Ok(())
 }
 
-// Adds the places that what stands at a place of a section leads to.
+// Adds the places that the item at a place of a section leads to.
 fn add_place(leaders: &mut Leaders, home: &Home, place: &CodePlace) -> Result<(), AllocError>
     requires home { IsHome home.now }
     requires room { place.now.offset + 256 < 2 ^ 32 }

@@ -14,7 +14,8 @@ use elf32_read::fault::Fault;
 use psabi_sym::objects::Objects;
 use psabi_sym::target::Target;
 
-// Whether a target is where nothing may lead: what makes an instruction go somewhere leads to no number.
+// Whether a target is wrong: a place that is neither an item's start nor a section's end, a number that an instruction
+// would go to, or nowhere.
 fn is_bad_target(objects: &Objects, tables: &CodeTables, transfers: bool, target: Target) -> bool
     requires { AreCodeTables (parsed objects.now) tables.now }
     ensures { result ≡ is_bad_target (parsed objects.now).objects transfers target }

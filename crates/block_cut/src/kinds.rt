@@ -12,14 +12,14 @@ use zc_base::fields::{u16_at, u32_at};
 use zc_decode::decode16::decode16;
 use zc_decode::short::Short;
 
-/// Whether a kind asks for nothing.
+/// Whether the linker ignores a kind.
 pub fn is_ignored(kind: Option<RelocKind>) -> bool
     ensures { result ≡ is_ignored kind }
 {
     kind == Some(RelocKind::Ignored)
 }
 
-/// Whether a kind asks for the address as a word.
+/// Whether a kind fills in the address as a word.
 pub fn is_word(kind: Option<RelocKind>) -> bool
     ensures { result ≡ is_word kind }
 {
@@ -63,7 +63,8 @@ pub fn is_rvc(kind: Option<RelocKind>) -> bool
     matches!(kind, Some(RelocKind::RvcBranch | RelocKind::RvcJump))
 }
 
-/// Whether items may start at an offset and have so many bytes, by whether their object is compressed.
+/// Whether n is a multiple of the step of code, and so may be an item's offset and size: 2 bytes if its object is
+/// compressed, and else 4.
 #[inline(always)]
 pub fn is_step(compressed: bool, n: u32) -> bool
     ensures { result ≡ (n % code_step compressed == 0) }
@@ -74,14 +75,14 @@ pub fn is_step(compressed: bool, n: u32) -> bool
     n % 4 == 0
 }
 
-/// Whether padding may have so many bytes: 1 to 255, in whole steps.
+/// Whether the addend is a number of bytes that padding may have: 1 to 255, in whole steps.
 pub fn is_padding(compressed: bool, addend: i32) -> bool
     ensures { result ≡ is_padding compressed addend }
 {
     0 < addend && addend < 256 && is_step(compressed, addend as u32)
 }
 
-/// The instruction that the word at an offset spells; none if there is no whole word.
+/// The instruction that the word at an offset is; none if there is no whole word.
 pub fn instr_at(bytes: &[u8], at: usize) -> Option<Instr>
     ensures { result ≡ (if nat_le (at + 4) (length bytes.now) then instr_in 4 bytes.now at else None) }
 {
@@ -91,7 +92,7 @@ pub fn instr_at(bytes: &[u8], at: usize) -> Option<Instr>
     decode(u32_at(bytes, at))
 }
 
-// The instruction that a halfword spells, if a word spells it too, in its normal form.
+// The 32-bit instruction that a short one stands for, in its normal form; those of Zcmp and Zcmt have none.
 fn normal_base(short: Option<Short>) -> Option<Instr>
     ensures { result ≡ normal_base short }
 {
@@ -110,7 +111,7 @@ fn normal_base(short: Option<Short>) -> Option<Instr>
     }
 }
 
-/// The instruction that the halfword at an offset spells; none if there is no whole halfword.
+/// The instruction that the halfword at an offset is; none if there is no whole halfword.
 pub fn short_instr_at(bytes: &[u8], at: usize) -> Option<Instr>
     ensures { result ≡ (if nat_le (at + 2) (length bytes.now) then instr_in 2 bytes.now at else None) }
 {

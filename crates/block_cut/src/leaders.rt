@@ -22,7 +22,7 @@ pub struct Leaders {
     pub others: BTreeSet<Place>,
 }
 
-// How many halfwords a section of code has, with its end; none of another section.
+// The number of halfwords of a section of code, with its end; 0 for any other section.
 fn halfwords(row: SectionRow) -> usize {
     if !row.is_code() {
         return 0;
@@ -74,7 +74,7 @@ impl Leaders {
         Ok(())
     }
 
-    /// Adds a place, in as much time.
+    /// Adds a place, in constant time at a halfword, and in logarithmic time elsewhere.
     pub fn add(&mut self, objects: &Objects, p: Place) -> Result<(), AllocError>
         ensures { IfOk result (λ _. AddsPlaces (parsed objects.now).objects (same_place p) self.old self.new) }
     {
@@ -102,7 +102,7 @@ impl Leaders {
         }
     }
 
-    /// Whether a place is among them. It takes constant time if all are at halfwords, and else logarithmic time.
+    /// Whether a place was added. It takes constant time if all are at halfwords, and else logarithmic time.
     pub fn has(&self, objects: &Objects, p: Place) -> bool
         ensures { result ≡ has_place (parsed objects.now).objects self.now p }
     {

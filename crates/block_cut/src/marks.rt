@@ -6,7 +6,8 @@ ghost use Rattle.block_cut.specs.Invariants.Led.{mark_at};
 use std::alloc::{AllocError, Global};
 use std::marker::Model;
 
-/// Which halfwords of a section of code are marked, with its end at last; none of another section.
+/// Which halfwords of a section of code are marked, and at last whether its end is; for any other section there are
+/// none.
 #[derive(Drop)]
 pub struct Marks {
     marks: Vec<bool>,
@@ -43,7 +44,7 @@ fn are_numbered(marks: &[bool], numbers: &[u32]) -> bool
 }
 
 impl Marks {
-    /// So many halfwords without a mark.
+    /// `count` halfwords without a mark.
     pub fn new(alloc: Global, count: usize) -> Result<Marks, AllocError>
         ensures { IfOk result (λ marks. (k : ℕ) → mark_at marks k ≡ false) }
     {

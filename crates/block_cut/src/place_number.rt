@@ -1,7 +1,6 @@
 // Where places stand among all.
 
-/// Where a place of code stands: the number of its section among all, and how many items of that section stand before
-/// it.
+/// Where a place of code stands: the number of its section among all, and the number of that section's items before it.
 #[derive(Clone, Copy)]
 pub struct PlaceNumber {
     pub section: u32,

@@ -19,7 +19,7 @@ pub fn begin_after(end: u32, align: u32) -> u32
     end.next_multiple_of(align.max(LEAST_ALIGN))
 }
 
-/// The address after an item at an address, by its bytes in its section.
+/// The address after an item at an address, by its number of bytes in its section.
 #[tactic(auto, unfolding(psabi_sym::specs::Blocks::aligned_up))]
 pub fn after_item(at: u32, size: u8, item: &Item) -> u32
     requires { at + 256 < 2 ^ 32 }

@@ -1,4 +1,4 @@
-// Branches and jumps that don't reach in the plain layout.
+// Branches and jumps that are out of range in the plain layout.
 
 ghost use Rattle.std.specs.Prelude.{◌≡◌, ◌≤◌, ◌+◌, ℕ, false, not, IfSome, None, Some};
 ghost use Rattle.std.specs.List.{find};
@@ -19,7 +19,7 @@ use psabi_reloc::reaches::{branch_reaches, jal_reaches, short_branch_reaches, sh
 use psabi_sym::objects::Objects;
 use zc_base::place::Place;
 
-// Where an item of so many bytes leads that has to reach: a branch, or a jump of 2 bytes.
+// Where an item of `size` bytes leads, if that may be out of its range: a branch, or a jump of 2 bytes.
 fn way_place(size: u8, item: &Item) -> Option<Place>
     ensures { result ≡ way_place size item.now }
 {
@@ -45,7 +45,7 @@ fn way_place(size: u8, item: &Item) -> Option<Place>
     }
 }
 
-// Whether a branch or jump of so many bytes reaches so far.
+// Whether a branch or jump of `size` bytes reaches a distance.
 fn reaches(size: u8, item: &Item, distance: i32) -> bool
     ensures { result ≡ reaches size item.now distance }
 {
@@ -76,7 +76,7 @@ fn reaches(size: u8, item: &Item, distance: i32) -> bool
     }
 }
 
-// Whether an item at a place doesn't reach an address, if that is known.
+// Whether an item at a place is out of range of an address, if that address is known.
 fn is_far(place: &CodePlace, item: &Item, to: Option<u32>) -> bool
     ensures { (least : ℕ) → (least ≤ place.now.address) × (place.now.address ≤ least + 0x4_0000)
         → IfSome to (λ a. (least ≤ a) × (a ≤ least + 0x4_0000))
@@ -90,7 +90,7 @@ fn is_far(place: &CodePlace, item: &Item, to: Option<u32>) -> bool
     !reaches(place.size, item, distance)
 }
 
-// Whether what stands at a place doesn't reach where it has to.
+// Whether the branch or jump at a place is out of range.
 fn is_out_of_reach(objects: &Objects, tables: &CodeTables, place: &CodePlace) -> bool
     requires faultless { gather_fault objects.now ≡ None }
     requires tables { AreCodeTables (parsed objects.now) tables.now }
@@ -106,7 +106,7 @@ fn is_out_of_reach(objects: &Objects, tables: &CodeTables, place: &CodePlace) ->
     is_far(place, item, tables.address(objects, to))
 }
 
-// The offset of the first such place among those of a section.
+// The offset of the first branch or jump of a section that is out of range.
 fn first_offset(objects: &Objects, tables: &CodeTables, places: &[CodePlace]) -> Option<u32>
     requires faultless { gather_fault objects.now ≡ None }
     requires tables { AreCodeTables (parsed objects.now) tables.now }
@@ -122,7 +122,7 @@ fn first_offset(objects: &Objects, tables: &CodeTables, places: &[CodePlace]) ->
     None
 }
 
-/// The first place of a branch or jump that doesn't reach in the plain layout. It looks at each place once.
+/// The first place of a branch or jump that is out of range in the plain layout. It looks at each place once.
 pub fn first_out_of_reach(objects: &Objects, tables: &CodeTables) -> Option<Place>
     requires { AreCodeTables (parsed objects.now) tables.now }
     ensures { result ≡ find (is_out_of_reach (parsed objects.now)) (all_places (parsed objects.now).objects) }

@@ -1,8 +1,9 @@
-// What bytes with a relocation spell.
+// Items under relocations.
 
 ghost use Rattle.std.specs.Prelude.{◌≡◌, ◌≤◌, ◌+◌, ◌%◌, ◌==◌, false, if◌then◌else◌, length, Some};
-ghost use Rattle.block_cut.specs.Invariants.SectionText.{HasRoom};
-ghost use Rattle.block_cut.specs.Items.{call_item, of_instr, raw_in, raw_pair, to_place, transfer_item, transfer_under};
+ghost use Rattle.std.specs.Option.{option_map_or};
+ghost use Rattle.block_cut.specs.Invariants.HalfwordTables.{HasRoom};
+ghost use Rattle.block_cut.specs.Items.{call_item, raw_in, raw_pair, to_place, transfer_item, transfer_under};
 ghost use Rattle.block_cut.specs.Relocs.{instr_in};
 ghost use Rattle.block_cut.specs.Resolved.{resolved_item};
 ghost use Rattle.block_cut.specs.declared.item.Item.TheVariants.{Hi, Lo, PcHi, PcLo, RawPair};
@@ -71,7 +72,7 @@ fn call_item(first: Option<Instr>, second: Option<Instr>, other: Item, to: Place
     }
 }
 
-// The branch or jump to a target that so many bytes at an offset are.
+// The branch or jump to a target that the `size` bytes at an offset are.
 fn transfer_under(content: &Content, size: u8, at: usize, target: Target) -> Item
     requires aligned { content.now.compressed ≡ false → at % 4 ≡ 0 }
     requires inside { at + (if size == 2 then 2 else 4) ≤ length content.now.bytes }
@@ -84,12 +85,12 @@ fn transfer_under(content: &Content, size: u8, at: usize, target: Target) -> Ite
     }
 }
 
-// The upper part of a target that the word at an offset is, PC-relative or not.
+// The `lui` or `auipc` item at an offset, with the upper part of a target.
 fn upper_item(content: &Content, at: usize, relative: bool, target: Target) -> Item
     requires aligned { content.now.compressed ≡ false → at % 4 ≡ 0 }
     requires inside { at + 4 ≤ length content.now.bytes }
-    ensures { result ≡ of_instr (instr_in 4 content.now.bytes at) (raw_in 4 content.now.bytes at)
-        (λ i. if relative then PcHi i target else Hi i target) }
+    ensures { result ≡ option_map_or (λ i. if relative then PcHi i target else Hi i target)
+        (instr_in 4 content.now.bytes at) (raw_in 4 content.now.bytes at) }
 {
     match content.instr(4, at) {
         None => content.raw(4, at),
@@ -103,11 +104,12 @@ fn upper_item(content: &Content, at: usize, relative: bool, target: Target) -> I
     }
 }
 
-// The lower part of a target that the word at an offset is.
+// The item at an offset with the lower part of a target.
 fn lower_item(content: &Content, at: usize, target: Target) -> Item
     requires aligned { content.now.compressed ≡ false → at % 4 ≡ 0 }
     requires inside { at + 4 ≤ length content.now.bytes }
-    ensures { result ≡ of_instr (instr_in 4 content.now.bytes at) (raw_in 4 content.now.bytes at) (λ i. Lo i target) }
+    ensures { result ≡ option_map_or (λ i. Lo i target) (instr_in 4 content.now.bytes at)
+        (raw_in 4 content.now.bytes at) }
 {
     match content.instr(4, at) {
         None => content.raw(4, at),
@@ -115,12 +117,12 @@ fn lower_item(content: &Content, at: usize, target: Target) -> Item
     }
 }
 
-// The lower part that goes with the upper part at a place, which the word at an offset is.
+// The item at an offset with the lower part that goes with the upper part at a place.
 fn paired_item(content: &Content, at: usize, target: Target) -> Item
     requires aligned { content.now.compressed ≡ false → at % 4 ≡ 0 }
     requires inside { at + 4 ≤ length content.now.bytes }
-    ensures { result ≡ of_instr (instr_in 4 content.now.bytes at) (raw_in 4 content.now.bytes at)
-        (λ i. to_place target (PcLo i) (raw_in 4 content.now.bytes at)) }
+    ensures { result ≡ option_map_or (λ i. to_place target (PcLo i) (raw_in 4 content.now.bytes at))
+        (instr_in 4 content.now.bytes at) (raw_in 4 content.now.bytes at) }
 {
     match (content.instr(4, at), target) {
         (Some(instr), Target::Code(from)) => Item::PcLo(instr, from),
@@ -128,7 +130,7 @@ fn paired_item(content: &Content, at: usize, target: Target) -> Item
     }
 }
 
-// The call that the two words at an offset are, if it goes to a place.
+// The item of the call at an offset, if it goes to a place.
 fn calling_item(content: &Content, at: u32, target: Target) -> Item
     requires aligned { content.now.compressed ≡ false → at % 4 ≡ 0 }
     requires inside { at + 8 ≤ length content.now.bytes }
@@ -145,7 +147,7 @@ fn calling_item(content: &Content, at: u32, target: Target) -> Item
     }
 }
 
-/// The item at an offset of a section of code, by the relocation that stands there.
+/// The item at an offset of a section of code, by the relocation that decides it.
 pub fn reloc_item(reloc: &ResolvedReloc, content: &Content, at: u32) -> Item
     requires aligned { content.now.compressed ≡ false → at % 4 ≡ 0 }
     requires room { HasRoom content.now at (Some reloc.now) }

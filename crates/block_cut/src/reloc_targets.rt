@@ -9,7 +9,7 @@ ghost use Rattle.psabi_sym.specs.Indexed.{all_sections, section_at, IndexedSecti
 ghost use Rattle.block_cut.specs.Invariants.CodeTargets.{AreCodeTargets};
 ghost use Rattle.block_cut.specs.Faults.{relocs_fault, section_fault};
 ghost use Rattle.block_cut.specs.Invariants.RelocTargets.{AreRelocTargets};
-ghost use Rattle.block_cut.specs.Invariants.SectionText.{numbers_of_section};
+ghost use Rattle.block_cut.specs.Invariants.HalfwordTables.{numbers_of_section};
 ghost use Rattle.block_cut.specs.Resolved.{placed_relocs};
 ghost use Rattle.block_cut.specs.Invariants.CodeTables.{AreCodeTables};
 
@@ -17,13 +17,13 @@ use crate::code_tables::CodeTables;
 use crate::code_targets::CodeTargets;
 use crate::data_word::DataWord;
 use crate::data_words::add_section_words;
+use crate::halfword_tables::place_relocs;
 use crate::judge::section_fault;
 use crate::leaders::Leaders;
 use crate::leads::add_relocs;
 use crate::relocated::resolve_relocs;
 use crate::resolved_reloc::ResolvedReloc;
 use crate::section_words::decode_words;
-use crate::walk::place_relocs;
 use elf32_read::fault::Fault;
 use psabi_sym::link_fault::LinkFault;
 use psabi_sym::objects::Objects;
@@ -62,7 +62,8 @@ fn relocs_left(
     requires section { section_at (parsed objects.now).objects section.now.object section.now.index
         ≡ Some section.now.section }
     requires numbers { IfSome numbers (λ ns. ns.now ≡ numbers_of_section section.now.section) }
-    ensures { IfOk result (λ relocs. relocs.items ≡ (if is_code_section section.now.section && is_none numbers.entry then []
+    ensures { IfOk result (λ relocs. relocs.items
+        ≡ (if is_code_section section.now.section && is_none numbers.entry then []
         else placed_relocs (parsed objects.now) section.now)) }
 {
     if !section.is_code() {
@@ -94,8 +95,8 @@ fn numbers_left(tables: &CodeTables, section: u32, fine: bool) -> Option<&[u32]>
 }
 
 impl RelocTargets {
-    /// Those of all relocations, by the ones of code; or the first fault of one. It looks at each relocation a fixed
-    /// number of times.
+    /// The targets of all relocations, by those of code; or the first fault of a relocation. It looks at each
+    /// relocation a fixed number of times.
     pub fn find(
         alloc: Global,
         objects: &Objects,

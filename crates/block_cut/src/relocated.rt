@@ -30,9 +30,9 @@ use psabi_sym::target::Target;
 use rv_decode::instr::Instr;
 use std::alloc::{AllocError, Global};
 
-/// A section with what its relocations change: its object's index and its own, whether it is code, its size in
-/// memory, its content, whether its object is compressed, what its words spell if it is code and that isn't, and the
-/// fields of its relocations.
+/// A section with what its relocations change: its object's index and its own, whether it is code, its size in memory,
+/// its content, whether its object is compressed, its words' instructions if it is code of an object that isn't
+/// compressed, and the fields of its relocations.
 #[derive(Drop)]
 pub struct Relocated<'a> {
     pub object: u16,
@@ -46,7 +46,7 @@ pub struct Relocated<'a> {
 }
 
 impl<'a> Relocated<'a> {
-    // A section, by what its words spell if it is code, with the fields of some relocations.
+    // A section with the fields of some relocations, and its words' instructions if it is code.
     fn new(section: &SectionRef<'a>, words: &'a [Option<Instr>], fields: Fields) -> Relocated<'a>
         requires words { is_code_section section.now.section ≡ true → section.now.section.compressed ≡ false
             → words.now ≡ instrs_in section.now.section.bytes }
@@ -80,7 +80,7 @@ impl<'a> Relocated<'a> {
         }
     }
 
-    // What the word at a step of code spells; nothing if there is no whole word.
+    // The instruction of the word at a step of code; none if there is no whole word.
     #[inline(always)]
     fn word_at(&self, at: usize) -> Option<Instr>
         ensures { (l : IndexedSection) → IsRelocated l self.now → self.now.is_code ≡ true
@@ -140,8 +140,8 @@ impl<'a> Relocated<'a> {
         }
     }
 
-    // Whether the field of one of its relocations, which is of this kind, passes the section's end, isn't whole steps
-    // of its kind, or is changed by another as well.
+    // Whether the field of one of its relocations, which is of this kind, goes beyond the section's end, isn't whole
+    // steps of its kind, or is changed by another as well.
     #[inline(always)]
     fn is_bad_place(&self, reloc: Reloc, kind: Option<RelocKind>) -> bool
         requires kind { kind ≡ kind_of reloc.kind }
@@ -154,7 +154,7 @@ impl<'a> Relocated<'a> {
             || self.fields.overlaps_another(reloc, kind)
     }
 
-    // What the bytes at an offset spell; nothing if there is no whole word.
+    // The instruction at an offset; none if there is no whole word.
     fn spelled_at(&self, offset: usize) -> Option<Instr>
         ensures { (l : IndexedSection) → IsRelocated l self.now
             → result
@@ -205,7 +205,7 @@ impl<'a> Relocated<'a> {
         None
     }
 
-    // One of its relocations, which is of this kind, decided.
+    // One of the section's relocations, which is of this kind, resolved.
     #[inline(always)]
     fn resolve(&self, objects: &Objects, reloc: Reloc, kind: Option<RelocKind>) -> ResolvedReloc
         requires kind { kind ≡ kind_of reloc.kind }
@@ -260,8 +260,8 @@ fn resolve_in_order(
     Ok(Some(relocs))
 }
 
-/// The relocations of a section that ask for something, decided, in order; by what its words spell if it is code. It
-/// resolves each once, in logarithmic time, if they are in order and without a fault, and else twice at most.
+/// The relocations of a section that ask for something, resolved, in order, by its words' instructions if it is code.
+/// It resolves each once, in logarithmic time, if they are in order and without a fault, and else twice at most.
 pub fn resolve_relocs(
     alloc: Global,
     objects: &Objects,

@@ -12,8 +12,8 @@ pub enum RelocFault {
     Pair,
 }
 
-/// A relocation that asks for something: what its symbol with its addend resolves to, its offset in its section,
-/// how many bytes it changes (255 stands for more), its kind, if that is known, and what is wrong with it.
+/// A relocation that asks for something: what its symbol with its addend resolves to, its offset in its section, the
+/// number of bytes that it changes (255 stands for more), its kind, if that is known, and what is wrong with it.
 #[derive(Clone, Copy)]
 pub struct ResolvedReloc {
     pub target: Target,

@@ -1,4 +1,4 @@
-// What the words of a section of code spell.
+// The words of a section of code, as instructions.
 
 ghost use Rattle.std.specs.Prelude.{◌≡◌, ◌+◌, ◌%◌, ℕ, IfOk, List, None, false, if◌then◌else◌, length, nat_le};
 ghost use Rattle.block_cut.specs.Relocs.{instr_in};
@@ -9,7 +9,7 @@ use rv_decode::instr::Instr;
 use std::alloc::{AllocError, Global};
 use zc_base::fields::u32_at;
 
-/// The instruction that each word of these bytes spells, by offset / 4. It decodes each word once, and none of a
+/// The instruction that each word of these bytes is, by the offset / 4. It decodes each word once, and none of a
 /// compressed object, where an instruction may begin at any halfword.
 pub fn decode_words(
     alloc: Global,
@@ -29,7 +29,7 @@ pub fn decode_words(
     Ok(words)
 }
 
-/// What the word at an offset spells, which is a multiple of 4; nothing if there is no whole word.
+/// The instruction of the word at an offset that is a multiple of 4; none if there is no whole word.
 pub fn instr_on(words: &[Option<Instr>], at: usize) -> Option<Instr>
     ensures { (bytes : List ℕ) → words.now ≡ instrs_in bytes → at % 4 ≡ 0
         → result ≡ (if nat_le (at + 4) (length bytes) then instr_in 4 bytes at else None) }

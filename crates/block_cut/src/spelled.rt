@@ -1,20 +1,20 @@
-// What bytes without a relocation spell.
+// The items of bytes without a relocation.
 
 ghost use Rattle.std.specs.Prelude.{◌≡◌, ◌<◌, ◌^◌, ◌+ℤ◌, ◌-◌, pos, IfSome, List, None, Some};
 ghost use Rattle.elf32_read.specs.Parts.{ObjectParts, SectionParts};
 ghost use Rattle.psabi_sym.specs.Resolve.{offset_within};
 ghost use Rattle.rv_decode.specs.Immediates.{InRange};
 ghost use Rattle.zc_base.specs.declared.place.Place.{Place};
-ghost use Rattle.block_cut.specs.Invariants.SectionText.{by_halfword, number_on};
+ghost use Rattle.block_cut.specs.Invariants.HalfwordTables.{by_halfword, number_on};
 ghost use Rattle.block_cut.specs.Items.{code_at, instr_item, spelled_item, target_away};
 ghost use Rattle.block_cut.specs.Whole.{IsWhole};
 
+use crate::halfword_tables::number_at;
 use crate::item::Item;
-use crate::walk::number_at;
 use rv_decode::instr::Instr;
 use zc_base::place::Place;
 
-// An offset that is so far away, if it can be one.
+// The offset at a distance from another, if that is one.
 fn offset_away(offset: u32, distance: i32) -> Option<u32>
     ensures { result ≡ offset_within (2 ^ 32 - 1) (pos offset +ℤ distance) }
 {
@@ -41,7 +41,7 @@ fn target_away(numbers: &[u32], q: Place, distance: i32) -> Option<Place>
     Some(to)
 }
 
-// The item of an instruction at a place, or else its bytes unread.
+// The item of an instruction at a place, or else its bytes, copied unread.
 fn instr_item(numbers: &[u32], q: Place, instr: Instr, raw: Item) -> Item
     requires { InRange instr }
     ensures { (objects : List ObjectParts) (s : SectionParts) → code_at objects q ≡ Some s → IsWhole s
@@ -79,8 +79,8 @@ fn instr_item(numbers: &[u32], q: Place, instr: Instr, raw: Item) -> Item
     }
 }
 
-/// The item of bytes without a relocation at a place, by the numbers of its section's places, by the instruction that
-/// they spell, if they are one, and by what they are unread.
+/// The item of bytes without a relocation at a place, by the numbers of its section's places, the instruction that the
+/// bytes are, if they are one, and the item that copies them unread.
 pub fn item_of(numbers: &[u32], q: Place, instr: Option<Instr>, raw: Item) -> Item
     requires { IfSome instr InRange }
     ensures { (objects : List ObjectParts) (s : SectionParts) → code_at objects q ≡ Some s → IsWhole s

@@ -20,7 +20,7 @@ use Rattle.frame_match.proofs.MemberLaws.{all_from, all_get, any_get, get_drop, 
 
 -- ---- slots
 
--- the registers of the list that leaves out so many
+-- the registers of the list that leaves out n registers
 regs_is : (n : ℕ) → IsKnown n → registers_of (list_leaving_out n) ≡ drop n saved_registers
 regs_is zero k = refl
 regs_is (suc m) k =

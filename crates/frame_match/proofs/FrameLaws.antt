@@ -21,7 +21,7 @@ frame_facts list bytes h =
     let q = and_parts (leb (stack_adjust_base list) bytes) _ p.1 in
     record { whole = eqb-true _ _ p.0; least = leb-true _ _ q.0; most = leb-true _ _ q.1 }
 
--- the first instruction uses a slot of it, and the frame has room for that one
+-- the first instruction uses a slot of the frame, and the frame has room for that slot
 pub record FirstSlot (which : Access) (bytes left_out : ℕ) (i : Option Instr) : Type 0 where
   pub number : ℕ
   pub room : 4 * (number + 1) ≤ bytes

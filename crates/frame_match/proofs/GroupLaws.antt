@@ -175,7 +175,7 @@ joined left s ss h = by s.leader s.op refl h
     by false None e h = absurd (omega (arith, h))
     by false (Some i) e h = (e, omega (arith, h))
 
--- so many items belong to the group that starts at one
+-- a group has no more items after its first than there are instructions
 left_within : (s : Spot) (ss : List Spot) → items_behind (group_role s.place (longest_of (ops_from s ss))) ≤ length (ops_behind ss)
 left_within s ss = by (longest_of (ops_from s ss)) refl
   where
@@ -291,7 +291,7 @@ first_from zero (s ∷ ss) (suc j) g h =
     one_on s ss (group_role s.place (longest_of (ops_from s ss))) (roles_from (items_behind (group_role s.place (longest_of (ops_from s ss)))) ss) j g
     (first_from (items_behind (group_role s.place (longest_of (ops_from s ss)))) ss j g h)
 
--- so it is with each group of a section, by the index of its first item
+-- each group of a section starts at an item, by the index of its first item
 pub group_starts : (inputs : ParsedInputs) (l : IndexedSection) (j : ℕ) (g : Group) → is_code_section l.section ≡ true
     → slice_get (roles_in inputs l) j ≡ Some (First g) → StartsGroup (map (spot_on inputs l) (starts_in l.section)) (roles_in inputs l) j g
 unfolding roles_in

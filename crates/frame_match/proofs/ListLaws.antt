@@ -7,7 +7,7 @@ use Rattle.std.proofs.Common.{inl, inr}
 use Rattle.zc_decode.specs.Lists.{stack_adjust_base, registers_of}
 use Rattle.frame_match.specs.Invariants.Frames.{list_leaving_out, IsKnown}
 
--- the list that leaves out so many has the others, and a frame of its least size has room for them
+-- the list that leaves out `left_out` registers has the others, and a frame of its least size has room for them
 pub record KnownFacts (left_out : ℕ) : Type 0 where
   pub low : 4 ≤ list_leaving_out left_out
   pub high : list_leaving_out left_out ≤ 15

@@ -185,7 +185,7 @@ longest_is xs r known each = longest_from xs None r (wider r known) (λ g h. eac
     narrower g (inl e) = absurd (none-some g e)
     narrower g (inr h) = h
 
--- that of two lists
+-- the longest of two lists
 none_longer : (o : Option Found) → longer_or None o ≡ o
 none_longer None = refl
 none_longer (Some g) = refl

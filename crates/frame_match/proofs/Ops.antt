@@ -8,7 +8,7 @@ use Rattle.block_cut.specs.declared.code_place.CodePlace.{CodePlace}
 use Rattle.frame_match.specs.Groups.{op_then}
 use Rattle.frame_match.specs.Invariants.Runs.{op_in, ops_of, HaveOps}
 
--- with one before them
+-- after one more instruction in front, the others have indices that are one larger
 get_then : (o : Option Instr) (is : List Instr) (n : ℕ) → is_some o ≡ true → slice_get (op_then o is) (suc n) ≡ slice_get is n
 get_then None is n h = absurd cc
 get_then (Some i) is n h = refl

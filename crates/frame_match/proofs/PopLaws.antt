@@ -1,4 +1,4 @@
--- A pop by what the code finds: how many loads stand there, and what stands behind them.
+-- A pop by what the code finds: the number of its loads, and its instructions after them.
 use Rattle.std.proofs.Common.{◌≡◌, ◌∙◌, ℕ, ◌+◌, ◌<◌, List, Option, Some, Bool, true, false, cond, refl, sym, ap, arith, subst, inl, inr}
 use Rattle.std.specs.Prelude.{◌⊎◌}
 use Rattle.std.specs.List.{slice_get}
@@ -21,7 +21,7 @@ use Rattle.frame_match.proofs.TailLaws.{before_is, begun_is, frame_no_load, tail
 abbrev pub is_load : List Instr → ℕ → Bool
 is_load run n = is_some (slot_accessed Restores (slice_get run n))
 
--- what the code knows of how many loads stand from an index on
+-- what the code knows of `count` loads from an index on
 pub record Loads (run : List Instr) (from count : ℕ) : Type 0 where
   pub loads : (m : ℕ) → m < count → is_load run (from + m) ≡ true
   pub stops : count < 14 → is_load run (from + count) ≡ false
@@ -93,7 +93,7 @@ pub found_best : (run : List Instr) (g : Found) (count : ℕ) (x : PopFound run 
     → BestTail (tail_at (is_zero (slice_get run 0)) run (start (is_zero (slice_get run 0)) + count)) x.ending x.bytes
 found_best run g count x = tail_best (is_zero (slice_get run 0)) run _ x.ending x.bytes x.first x.raises
 
--- what is found stands there
+-- what is found is a pop there
 pub pop_made : (run : List Instr) (count left_out : ℕ) (t : Tail) → IsKnown left_out → count + left_out ≡ 13
     → Some t ≡ tail_at (is_zero (slice_get run 0)) run (start (is_zero (slice_get run 0)) + count)
     → IsFramed Restores t.bytes left_out run (start (is_zero (slice_get run 0))) → IsPop run (pop_of t.ending (list_leaving_out left_out) t.bytes)
@@ -113,7 +113,7 @@ pop_made run count left_out t known size is framed =
       found_is = refl;
     }
 
--- and has more items than any other pop there, or is it
+-- what is found has more items than any other pop there, or is it
 pub pop_beats : (run : List Instr) (g : Found) (count left_out : ℕ) (t : Tail) (h : Found) → PopFound run g count → count + left_out ≡ 13
     → Some t ≡ tail_at (is_zero (slice_get run 0)) run (start (is_zero (slice_get run 0)) + count)
     → h ≡ pop_of t.ending (list_leaving_out left_out) t.bytes → Beats (Some h) g
@@ -146,7 +146,7 @@ pop_beats run g count left_out t h x size is h_is = record { best = h; is = refl
 
 -- ---- in the code's words
 
--- whether a0 is set first, where the loads begin, and how many there are
+-- whether a0 is set first, where the loads begin, and their number
 pub record Told (run : List Instr) (zeroed : Bool) (from count : ℕ) : Type 0 where
   pub zeroed_is : zeroed ≡ is_zero (slice_get run 0)
   pub from_is : from ≡ start (is_zero (slice_get run 0))

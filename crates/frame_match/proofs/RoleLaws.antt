@@ -358,7 +358,7 @@ module _ (view now : Inputs) (groups : List Group) (sections : List (List Mark))
             let all : index_on s q.offset ≡ length (starts_in s) = ap (index_on s) over ∙ ap length (before_end_all s two.1 whole) in
             absurd (omega (arith, less, all, has.index_is, many_read))
 
-    -- and none if it hasn't
+    -- where no mark is read, no item starts
     pub unmarked_start : length read ≤ number.index → is_start_at p.objects q ≡ false
     unmarked_start over = false_from_ne_true (is_start_at p.objects q) (λ start.
         let starts : starts_on s q.offset ≡ true = sym (ap (λ o. option_map_or (λ t. starts_on t q.offset) o false) has.here) ∙ start in

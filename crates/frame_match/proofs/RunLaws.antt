@@ -36,7 +36,7 @@ get_map f (y ∷ ys) (suc k) x h = get_map f ys k x h
 
 -- ---- the code's loop
 
--- what is known of so many places
+-- the first n places have instructions that are joined
 abbrev pub Joined : ParsedInputs → IndexedSection → List CodePlace → ℕ → Type 0
 Joined inputs l ps n =
     (k : ℕ) (p : CodePlace) → k < n → slice_get ps k ≡ Some p

@@ -74,7 +74,7 @@ walked_roles inputs l s ps starts places first same =
     let e = first ∙ ap (λ qs. take (length qs - 1) qs) places ∙ starts_is inputs l in
     (λ i. roles_from 0 (spots_of inputs (same i) (e i))) ∙ roles_are inputs l
 
--- there are as many as items
+-- there are as many starts as items
 starts_count : (inputs : ParsedInputs) (l : IndexedSection) → length (starts_at inputs l) ≡ length (items_in inputs l)
 starts_count inputs l = by (is_code_section l.section)
   where
@@ -86,7 +86,7 @@ starts_count inputs l = by (is_code_section l.section)
         omega (arith, a, d, e)
     by false = refl
 
--- and with those of the sections before there are no more than all
+-- with the groups of the sections before there are no more groups than items
 pub walked_room : (inputs : ParsedInputs) (l : IndexedSection) (ps starts : List CodePlace) (k n : ℕ) → ps ≡ code_places inputs l → starts ≡ take (length ps - 1) ps
     → slice_get (all_sections inputs.objects) k ≡ Some l → n ≤ length (flat_map (items_in inputs) (take k (all_sections inputs.objects)))
     → n + length starts ≤ length (all_items inputs)

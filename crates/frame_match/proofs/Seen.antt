@@ -8,7 +8,7 @@ use Rattle.frame_match.specs.declared.slot.Access.{Access}
 use Rattle.frame_match.specs.Invariants.Frames.{IsSlot}
 use Rattle.frame_match.specs.Read.{slot_accessed}
 
--- of so many instructions from an index on each uses a slot, and those slots are marked
+-- each of n instructions from an index on uses a slot, and just those slots are marked
 pub record Seen (which : Access) (bytes left_out : ℕ) (is : List Instr) (from : ℕ) (seen : List Bool) (n : ℕ) : Type 0 where
   pub each : (m : ℕ) → m < n → (j : ℕ) × IsSlot which bytes left_out j (slice_get is (from + m))
   pub marked : (m j : ℕ) → m < n → IsSlot which bytes left_out j (slice_get is (from + m)) → get_or seen j false ≡ true
@@ -16,7 +16,7 @@ pub record Seen (which : Access) (bytes left_out : ℕ) (is : List Instr) (from 
       → (m : ℕ) × (m < n) × IsSlot which bytes left_out j (slice_get is (from + m))
   pub size : length seen ≡ 13
 
--- one more
+-- one instruction more
 pub seen_more : (which : Access) (bytes left_out : ℕ) (is : List Instr) (from : ℕ) (seen : List Bool) (n j : ℕ)
     → Seen which bytes left_out is from seen n → IsSlot which bytes left_out j (slice_get is (from + n))
     → ((k : ℕ) → IsSlot which bytes left_out k (slice_get is (from + n)) → Some k ≡ Some j)

@@ -34,7 +34,7 @@ abbrev pub ops_behind : List Spot → List Instr
 ops_behind [] = []
 ops_behind (s ∷ ss) = if s.leader then [] else op_then s.op (ops_behind ss)
 
--- those from an item on: at the first a basic block may begin
+-- the instructions from an item on: at the first of them a basic block may begin
 abbrev pub ops_from : Spot → List Spot → List Instr
 ops_from s ss = op_then s.op (ops_behind ss)
 
@@ -49,14 +49,14 @@ abbrev pub group_role : Place → Option Found → Role
 group_role q None = Alone
 group_role q (Some f) = First (group_at q f)
 
--- how many items behind the first belong to it
+-- the number of items of a group after its first
 abbrev pub items_behind : Role → ℕ
 items_behind Alone = 0
 items_behind (First g) = g.items - 1
 items_behind Inside = 0
 
--- the roles of items of which so many belong to the group before: the search goes on behind that group, and at each item takes
--- the group of most items
+-- the roles of items, of which the first `left` belong to the group before them: the search goes on after that group, and at each
+-- item takes the group of most items
 abbrev pub roles_from : ℕ → List Spot → List Role
 roles_from left [] = []
 roles_from (suc left) (s ∷ ss) = Inside ∷ roles_from left ss
@@ -84,7 +84,7 @@ starting_group Inside = []
 abbrev pub groups_in : ParsedInputs → IndexedSection → List Group
 groups_in inputs l = flat_map starting_group (roles_in inputs l)
 
--- those of all code, by object, section and offset
+-- the groups of all code, by object, section and offset
 abbrev pub groups_of : ParsedInputs → List Group
 groups_of inputs = flat_map (groups_in inputs) (all_sections inputs.objects)
 
@@ -94,6 +94,6 @@ role_on inputs q s =
     if starts_on s q.offset
     then slice_get (roles_in inputs (record { object = q.object; index = q.section; section = s })) (index_on s q.offset) else None
 
--- and of the item at a place
+-- the role of the item at a place, if one starts there
 unfoldable pub role_at : ParsedInputs → Place → Option Role
 role_at inputs q = option_and_then (role_on inputs q) (code_at inputs.objects q)

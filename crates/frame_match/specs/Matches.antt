@@ -21,7 +21,7 @@ use Rattle.frame_match.specs.declared.slot.Slot.{Slot}
 abbrev pub lists : List ℕ
 lists = range_with_len 4 12
 
--- a list may have a frame of so many bytes
+-- a list may have a frame of `frame` bytes
 abbrev pub is_frame : ℕ → ℕ → Bool
 is_frame list frame = frame % 16 == 0 && (nat_le (stack_adjust_base list) frame && nat_le frame 2032)
 
@@ -30,11 +30,11 @@ abbrev pub slots_below : ℕ → List ℕ → List Slot
 slots_below top [] = []
 slots_below top (r ∷ rs) = record { offset = top - 4; register = r } ∷ slots_below (top - 4) rs
 
--- what one halfword doesn't move sp by: what is above the list's base and 48
+-- the part of a frame that one halfword doesn't move sp by: what is above the list's base and 48
 abbrev pub rest_of : ℕ → ℕ → ℕ
 rest_of list frame = frame - (stack_adjust_base list + 48)
 
--- so many items, with the halfword of a list and a frame
+-- a push, a pop or moves of `items` items: the halfword of a list and a frame, and the rest of the frame
 abbrev pub found_in_frame : ℕ → (ℕ → ℕ → Short) → ℕ → ℕ → Found
 found_in_frame items kind list frame = record { items = items; kind = kind list (frame - rest_of list frame); rest = rest_of list frame }
 
@@ -50,7 +50,7 @@ are_accesses which ds is =
     length is == length ds
     && (list_all (λ i. list_any (λ d. is_access which d i) ds) is && list_all (λ d. list_any (is_access which d) is) ds)
 
--- from an index on those of a list's registers in a frame stand
+-- from an index on, instructions use the slots of a list's registers in a frame
 abbrev pub has_accesses : Access → ℕ → ℕ → List Instr → ℕ → Bool
 has_accesses which list frame is n =
     are_accesses which (slots_below frame (registers_of list)) (take (length (registers_of list)) (drop n is))
@@ -73,7 +73,7 @@ pushes_in is = option_map_or (λ frame. flat_map (λ list. push_in is list frame
 abbrev pub endings : List Ending
 endings = GoesOn ∷ Returns ∷ ZeroFirst ∷ ZeroBeforeRaise ∷ ZeroBeforeReturn ∷ []
 
--- how many instructions stand before a pop's loads, and how many behind them
+-- the number of instructions before a pop's loads, and the number after them
 abbrev pub before : Ending → ℕ
 before GoesOn = 0
 before Returns = 0
@@ -88,7 +88,7 @@ ending_items ZeroFirst = 2
 ending_items ZeroBeforeRaise = 3
 ending_items ZeroBeforeReturn = 3
 
--- those before them are right
+-- the instructions before a pop's loads are those of its ending
 abbrev pub is_begun : Ending → List Instr → Bool
 is_begun GoesOn is = true
 is_begun Returns is = true
@@ -96,7 +96,7 @@ is_begun ZeroFirst is = is_zero (slice_get is 0)
 is_begun ZeroBeforeRaise is = true
 is_begun ZeroBeforeReturn is = true
 
--- the frame that those behind them give back, `addi sp,sp,frame`, if they are right
+-- the frame that the instructions after a pop's loads give back, `addi sp,sp,frame`, if they are those of its ending
 abbrev pub frame_by : Ending → Option Instr → Option Instr → Option Instr → Option ℕ
 frame_by GoesOn i j k = raised i
 frame_by Returns i j k = if is_return j then raised i else None
@@ -104,7 +104,7 @@ frame_by ZeroFirst i j k = if is_return j then raised i else None
 frame_by ZeroBeforeRaise i j k = if is_zero i && is_return k then raised j else None
 frame_by ZeroBeforeReturn i j k = if is_zero j && is_return k then raised i else None
 
--- by the index of the first
+-- the frame that a pop gives back, by the index of the first instruction after its loads
 abbrev pub frame_at : Ending → List Instr → ℕ → Option ℕ
 frame_at e is n = frame_by e (slice_get is n) (slice_get is (n + 1)) (slice_get is (n + 2))
 
@@ -171,6 +171,6 @@ abbrev pub longer_of : Option Found → Found → Option Found
 longer_of None g = Some g
 longer_of (Some f) g = if nat_lt f.items g.items then Some g else Some f
 
--- of all that they begin with, that of most items
+-- of all that the instructions begin with, the one of most items
 unfoldable pub longest_of : List Instr → Option Found
 longest_of is = fold longer_of None (all_found is)

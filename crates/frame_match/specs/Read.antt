@@ -55,11 +55,11 @@ is_return_instr _ = false
 
 -- ---- of one that may not be there
 
--- the slot that it uses
+-- the slot that an instruction uses, if there is an instruction
 abbrev pub slot_accessed : Access → Option Instr → Option Slot
 slot_accessed which i = option_and_then (slot_of which) i
 
--- by how many bytes it lowers sp, or raises it
+-- the number of bytes by which an instruction lowers sp, or raises it
 abbrev pub down_by : ℤ → Option ℕ
 down_by (pos n) = None
 down_by (negsuc n) = Some (n + 1)
@@ -74,11 +74,11 @@ lowered i = option_and_then down_by (option_and_then sp_move_of i)
 abbrev pub raised : Option Instr → Option ℕ
 raised i = option_and_then up_by (option_and_then sp_move_of i)
 
--- what it moves
+-- the move that an instruction makes
 abbrev pub moved : Option Instr → Option Move
 moved i = option_and_then move_of i
 
--- it sets a0 to 0, or returns
+-- an instruction sets a0 to 0, or returns
 abbrev pub is_zero : Option Instr → Bool
 is_zero i = option_map_or is_zero_instr i false
 

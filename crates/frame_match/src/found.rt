@@ -3,8 +3,8 @@
 use zc_base::reg::Reg;
 use zc_decode::short::Short;
 
-/// A group without its place: how many items it has, what is written for them, and by how many bytes a second
-/// instruction moves the stack pointer.
+/// A group without its place: its number of items, what is written for them, and by how many bytes a second instruction
+/// moves the stack pointer.
 #[derive(Clone, Copy)]
 pub struct Found {
     pub items: u32,

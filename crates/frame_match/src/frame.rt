@@ -5,7 +5,7 @@ ghost use Rattle.zc_decode.specs.Lists.{stack_adjust_base, registers_of};
 ghost use Rattle.frame_match.specs.Matches as matches;
 ghost use Rattle.frame_match.specs.Invariants.Frames.{list_leaving_out, IsKnown};
 
-/// The frame of a register list: how many of the 13 registers the list leaves out, and how many bytes the frame has.
+/// The frame of a register list: how many of the 13 registers the list leaves out, and the frame's number of bytes.
 #[derive(Clone, Copy)]
 pub struct Frame {
     pub left_out: u8,
@@ -40,7 +40,7 @@ impl Frame {
         }
     }
 
-    /// How many registers the list has.
+    /// The number of registers in the list.
     pub fn count(self) -> u32
         requires { IsKnown self.left_out }
         ensures count { result ≡ length (registers_of (list_leaving_out self.left_out)) }
@@ -49,7 +49,7 @@ impl Frame {
         13 - u32::from(self.left_out)
     }
 
-    /// Whether the list may have a frame of so many bytes.
+    /// Whether the list may have a frame of `bytes` bytes.
     pub fn is_fit(self) -> bool
         requires { self.left_out < 13 }
         ensures { result ≡ matches.is_frame (list_leaving_out self.left_out) self.bytes }
@@ -57,7 +57,7 @@ impl Frame {
         self.bytes % 16 == 0 && stack_adjust_base(self.list()) <= self.bytes && self.bytes <= 2032
     }
 
-    /// What one halfword doesn't move the stack pointer by.
+    /// The part of the frame that one halfword doesn't move the stack pointer by.
     pub fn rest(self) -> u16
         requires list { self.left_out < 13 }
         requires bytes { self.bytes ≤ 2032 }
@@ -67,7 +67,7 @@ impl Frame {
             .saturating_sub(stack_adjust_base(self.list()) + 48) as u16
     }
 
-    /// And what it does.
+    /// The part of the frame that one halfword moves the stack pointer by.
     pub fn adjust(self) -> u8
         requires list { self.left_out < 13 }
         requires bytes { self.bytes ≤ 2032 }

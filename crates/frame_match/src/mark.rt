@@ -28,7 +28,7 @@ impl Model for Marks {
 }
 
 impl Marks {
-    /// How many items are in the section.
+    /// The number of items in the section.
     pub fn len(&self) -> usize
         ensures { result ≡ length self.now }
     {

@@ -78,7 +78,7 @@ impl Planned {
         ensures { result ≡ length (groups_of (parsed self.now)) }
     {
         // There are no more groups than items.
-        let _counts = self.cut.counts();
+        self.cut.recall_invariant();
         self.groups.len() as u32
     }
 
@@ -111,8 +111,8 @@ impl Planned {
         ensures { (q : Place) → is_target_at (parsed self.now).objects q ≡ true
             → IsPlaceNumber (parsed self.now).objects q number → result ≡ role_at (parsed self.now) q }
     {
-        // This call says that no fault stands in the objects, so a section ends behind its last item.
-        let _count = self.cut.objects().section_count();
+        // No fault stands in the objects, so a section ends after its last item.
+        self.cut.recall_invariant();
         if (number.index as usize) < self.sections[number.section as usize].len() {
             Some(self.role_at(number))
         } else {

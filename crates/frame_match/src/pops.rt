@@ -33,7 +33,7 @@ fn first_load(zeroed: bool) -> usize
     if zeroed { 1 } else { 0 }
 }
 
-// How many loads stand from an index on, at most 14.
+// The number of loads from an index on, at most 14.
 fn loads(run: &Run, from: usize) -> u8
     requires { from < 2 }
     ensures loads { (m : ℕ) → m < result → is_some (slot_accessed Restores (slice_get run.now (from + m))) ≡ true }
@@ -48,7 +48,7 @@ fn loads(run: &Run, from: usize) -> u8
     14
 }
 
-// The bytes of the frame that a pop's instructions behind its loads give back, if they are those of an ending.
+// The bytes of the frame that a pop's instructions after its loads give back, if they form an epilogue of this kind.
 fn frame_at(ending: Ending, run: &Run, n: usize) -> Option<u32>
     requires { n < 16 }
     ensures { result ≡ matches.frame_at ending run.now n }
@@ -87,7 +87,7 @@ fn tail_with(ending: Ending, run: &Run, n: usize) -> Option<Tail>
     Some(Tail { ending, bytes })
 }
 
-// The end of a pop that returns or goes on; of several the longest.
+// The end of a pop that returns or goes on; if both fit, the longer one.
 fn later_tail(run: &Run, n: usize) -> Option<Tail>
     requires { n < 16 }
     ensures { result ≡ option_or (tail_as Returns run.now n) (tail_as GoesOn run.now n) }
@@ -98,7 +98,7 @@ fn later_tail(run: &Run, n: usize) -> Option<Tail>
     }
 }
 
-// The same of one that may set a0 behind its loads.
+// The end of a pop that may set a0 after its loads, or that returns or goes on; the longest that fits.
 fn plain_tail(run: &Run, n: usize) -> Option<Tail>
     requires { n < 16 }
     ensures { result ≡ tail_at false run.now n }
@@ -124,7 +124,7 @@ fn tail_behind(zeroed: bool, run: &Run, n: usize) -> Option<Tail>
     }
 }
 
-// How many instructions of a pop are not loads.
+// The number of a pop's instructions that aren't loads.
 fn around(ending: Ending) -> u32
     ensures count { result ≡ before ending + ending_items ending }
     ensures few { result ≤ 3 }

@@ -101,7 +101,7 @@ fn sp_move(instr: &Instr) -> Option<i32>
     }
 }
 
-/// By how many bytes an instruction lowers the stack pointer.
+/// The number of bytes by which an instruction lowers the stack pointer.
 pub fn lowered(instr: Option<Instr>) -> Option<u32>
     ensures { result ≡ read.lowered instr }
 {
@@ -113,7 +113,7 @@ pub fn lowered(instr: Option<Instr>) -> Option<u32>
     }
 }
 
-/// By how many bytes it raises the stack pointer.
+/// The number of bytes by which an instruction raises the stack pointer.
 pub fn raised(instr: Option<Instr>) -> Option<u32>
     ensures { result ≡ read.raised instr }
 {

@@ -65,7 +65,7 @@ fn joins(cut: &Cut, section: &SectionRef, place: &CodePlace, is_first: bool) -> 
     op_at(place).is_some() && (is_first || !cut.leader(place_in(section, place)))
 }
 
-// How many instructions stand one after another, up to where a basic block begins; at most 16, since no group has more.
+// The number of instructions one after another, up to where a basic block begins; at most 16, since no group has more.
 fn run_length(cut: &Cut, section: &SectionRef, places: &[CodePlace]) -> usize
     requires { ArePlacesOf (parsed cut.now) section.now places.now }
     ensures within { result ≤ length places.now }

@@ -10,7 +10,7 @@ use crate::pops::pop;
 use crate::pushes::push;
 use crate::run::Run;
 
-// The one of more items; the first if both have as many.
+// The one with more items; the first if both have as many.
 fn longer(first: Option<Found>, second: Option<Found>) -> Option<Found>
     ensures { result ≡ longer_or first second }
 {
@@ -21,7 +21,7 @@ fn longer(first: Option<Found>, second: Option<Found>) -> Option<Found>
     }
 }
 
-/// Of all that instructions begin with, what has most items.
+/// Of all groups that the instructions begin with, the one with most items.
 pub fn longest(run: &Run) -> Option<Found>
     ensures { result ≡ longest_of run.now }
 {

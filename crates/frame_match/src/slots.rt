@@ -71,7 +71,8 @@ fn slot_number(which: Access, instr: Option<Instr>, frame: Frame) -> Option<usiz
     number_of(slot, frame)
 }
 
-// How many registers a list leaves out in whose frame of so many bytes this is a slot, if there is such a list.
+// The number of registers that a list leaves out in whose frame of `bytes` bytes this is a slot, if there is such a
+// list.
 fn left_out_at(slot: Slot, bytes: u32) -> Option<u8>
     ensures known { IfSome result (λ left_out. IsKnown left_out) }
     ensures each { (left_out j : ℕ) → IsKnown left_out → j + left_out < 13 → 4 * (j + 1) ≤ bytes
@@ -86,7 +87,7 @@ fn left_out_at(slot: Slot, bytes: u32) -> Option<u8>
     }
 }
 
-/// The same of the slot that an instruction uses.
+/// The number of registers that a list leaves out in whose frame an instruction uses a slot, if there is such a list.
 pub fn left_out_by(which: Access, instr: Option<Instr>, bytes: u32) -> Option<u8>
     ensures known { IfSome result (λ left_out. IsKnown left_out) }
     ensures each { (left_out j : ℕ) → IsKnown left_out → 4 * (j + 1) ≤ bytes

@@ -18,13 +18,13 @@ use crate::mark::Mark;
 use crate::read::may_begin;
 use crate::run::{Run, op_at, place_in};
 use crate::search::longest;
-use block_cut::code_place::CodePlace;
+use block_cut::code_place::{CodePlace, item_places};
 use block_cut::cut::Cut;
 use psabi_sym::section_ref::SectionRef;
 use std::alloc::{AllocError, Global};
 
-/// The groups so far, what is kept of the section's items so far, and how many of the next items belong to the last
-/// group.
+/// The groups so far, what is kept of the section's items so far, and the number of the next items that belong to the
+/// last group.
 #[derive(Drop)]
 pub struct Walk {
     pub groups: Vec<Group>,
@@ -132,13 +132,6 @@ impl Walk {
     }
 }
 
-// The places of a section where items start: all but the last, where the section ends.
-fn starts_of(places: &[CodePlace]) -> &[CodePlace]
-    ensures { result.now ≡ take (length places.now - 1) places.now }
-{
-    &places[..places.len().saturating_sub(1)]
-}
-
 /// The walk over all of a section, by its number among all, where some groups come before.
 pub fn walk_section(
     alloc: Global,
@@ -155,8 +148,8 @@ pub fn walk_section(
         → IfOk result (λ w. w.groups.items ≡ groups.items ++ groups_in (parsed cut.now) l) }
 {
     // There are no more groups than items.
-    let _counts = cut.counts();
-    let places = starts_of(cut.places(section));
+    cut.recall_invariant();
+    let places = item_places(cut.places(section));
     let mut walk = Walk {
         groups,
         marks: Vec::with_capacity(alloc, places.len())?,

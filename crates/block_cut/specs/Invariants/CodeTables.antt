@@ -5,16 +5,16 @@ use Rattle.psabi_sym.specs.Inputs.{ParsedInputs}
 use Rattle.psabi_sym.specs.Indexed.{IndexedSection, all_sections}
 use Rattle.block_cut.specs.Items.{items_in}
 use Rattle.block_cut.specs.PlainLayout.{plain_end_of}
-use Rattle.block_cut.specs.Invariants.SectionText.{section_tables}
+use Rattle.block_cut.specs.Invariants.SectionItems.{section_tables}
 use Rattle.block_cut.specs.declared.code_span.CodeSpan.{CodeSpan}
 use Rattle.block_cut.specs.declared.code_tables.CodeTables.{CodeTables}
 
--- the code of sections ends here, and has so many items
+-- these sections' code ends here, and has this number of items
 pub record IsCodeSpan (inputs : ParsedInputs) (sections : List IndexedSection) (span : CodeSpan) : Type 0 where
   pub end_is : span.end ≡ plain_end_of inputs sections
   pub count_is : span.count ≡ length (flat_map (items_in inputs) sections)
 
--- all sections
+-- the tables are those of all sections
 pub record AreCodeTables (inputs : ParsedInputs) (tables : CodeTables) : Type 0 where
   pub sections : tables.sections.items ≡ map (section_tables inputs) (all_sections inputs.objects)
   pub span : IsCodeSpan inputs (all_sections inputs.objects) tables.span

@@ -13,7 +13,7 @@ use Rattle.block_cut.specs.Resolved.{code_relocs}
 use Rattle.block_cut.specs.declared.code_targets.CodeTargets.{CodeTargets}
 use Rattle.block_cut.specs.declared.resolved_reloc.ResolvedReloc.{ResolvedReloc}
 
--- a target is wrong whatever stands there
+-- a target is wrong wherever items start: it is nowhere, or it is a number that an instruction would go to
 abbrev pub is_wrong_target : Bool → Target → Bool
 is_wrong_target transfers (Code to) = false
 is_wrong_target transfers (Number n) = transfers
@@ -28,11 +28,11 @@ is_wrong d = is_some d.fault || is_wrong_target (is_transfer d.kind) d.target
 abbrev pub code_leads : ParsedInputs → Place → IndexedSection → Bool
 code_leads inputs q l = list_any (λ d. is_place q d.target) (code_relocs inputs l)
 
--- one of them is wrong
+-- one of a section's relocations is wrong whatever stands where it leads
 abbrev pub is_wrong_code : ParsedInputs → IndexedSection → Bool
 is_wrong_code inputs l = list_any is_wrong (code_relocs inputs l)
 
--- those of these sections
+-- where the relocations of these sections lead, and whether one is wrong
 pub record AreCodeTargets (inputs : ParsedInputs) (sections : List IndexedSection) (targets : CodeTargets) : Type 0 where
   pub leaders_are : (q : Place) → has_place inputs.objects targets.leaders q ≡ list_any (code_leads inputs q) sections
   pub wrong_is : targets.has_wrong ≡ list_any (is_wrong_code inputs) sections

@@ -41,7 +41,7 @@ pub record HoldsEnds (relocs : List Reloc) (fields : FieldEnds) : Type 0 where
   pub starts : fields.starts.items ≡ starts_of relocs
   pub ends : fields.ends.items ≡ ends_of relocs
 
--- the same numbers, in ascending order
+-- `sorted` has the numbers of `numbers`, in ascending order
 pub record IsSortedOf (numbers sorted : List ℕ) : Type 0 where
   pub same : IsPermutation numbers sorted
   pub rise : IsNonDecreasing sorted

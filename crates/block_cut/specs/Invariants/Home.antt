@@ -7,7 +7,7 @@ use Rattle.block_cut.specs.Items.{place_of}
 use Rattle.block_cut.specs.Invariants.Led.{section_number}
 use Rattle.block_cut.specs.declared.item_leads.Home.{Home}
 
--- it is one of objects without a fault between them, with its number among all
+-- `home` is a section of objects without a fault between them, with its number among all
 pub record IsHome (home : Home) : Type 0 where
   pub gathered : gather_fault home.objects.now ≡ None
   pub found : section_at (parsed home.objects.now).objects home.section.now.object home.section.now.index ≡ Some home.section.now.section

@@ -22,19 +22,19 @@ section_number objects q = option_map (λ s. section_starts objects q.object + q
 abbrev pub mark_at : List Bool → ℕ → Bool
 mark_at marks k = slice_index_or marks k false
 
--- at a halfword of the section with a number
+-- the mark at a halfword of the section with a number
 abbrev pub mark_in : List (List Bool) → ℕ → ℕ → Bool
 mark_in sections n k = mark_at (slice_index_or sections n []) k
 
--- at a place, which is a halfword's
+-- a place is a halfword's, and that halfword is marked
 abbrev pub is_marked : List ObjectParts → List (List Bool) → Place → Bool
 is_marked objects sections q = (q.offset % 2 == 0) && option_map_or (λ n. mark_in sections n (q.offset / 2)) (section_number objects q) false
 
--- a place is among others
+-- a place is among these places
 abbrev pub is_listed : List Place → Place → Bool
 is_listed places q = list_any (λ p. same_place p q) places
 
--- a place is marked, or among those without marks
+-- a place is marked, or is among those without marks
 abbrev pub has_place : List ObjectParts → Leaders → Place → Bool
 has_place objects leaders q = is_marked objects leaders.sections.items q || is_listed leaders.others.keys q
 

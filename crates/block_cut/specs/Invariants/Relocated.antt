@@ -7,7 +7,7 @@ use Rattle.block_cut.specs.Invariants.Fields.{AreFields}
 use Rattle.block_cut.specs.Instrs.{instrs_in}
 use Rattle.block_cut.specs.declared.relocated.Relocated.{Relocated}
 
--- it is this section; of code the file has all bytes, and it is known what the words spell unless its object is compressed
+-- `relocated` holds this section; of code the file has all bytes, and the words are decoded unless the object is compressed
 pub record IsRelocated (l : IndexedSection) (relocated : Relocated) : Type 0 where
   pub object : relocated.object ≡ l.object
   pub index : relocated.index ≡ l.index

@@ -6,16 +6,16 @@ use Rattle.frame_match.specs.Read.{slot_accessed}
 use Rattle.frame_match.specs.declared.slot.Access.{Access}
 use Rattle.frame_match.specs.declared.slot.Slot.{Slot}
 
--- some list leaves out so many of the 13 registers
+-- some list leaves out this number of the 13 registers
 pub record IsKnown (left_out : ℕ) : Type 0 where
   pub small : left_out < 13
   pub other : left_out ≢ 1
 
--- that list
+-- the list that leaves out this number of registers
 abbrev pub list_leaving_out : ℕ → ℕ
 list_leaving_out left_out = if left_out == 0 then 15 else 16 - left_out
 
--- where a register stands among the 13; 13 if it isn't there
+-- the place of a register among the 13; 13 if it isn't one of them
 abbrev pub saved_index : ℕ → ℕ
 saved_index r =
     if nat_le 18 r && nat_le r 27 then 27 - r else
@@ -25,11 +25,11 @@ saved_index r =
 abbrev pub frame_slot : ℕ → ℕ → ℕ → Slot
 frame_slot bytes left_out j = record { offset = bytes - 4 * (j + 1); register = slice_index saved_registers (left_out + j) }
 
--- an instruction uses it
+-- an instruction uses the slot with number j
 abbrev pub IsSlot : Access → ℕ → ℕ → ℕ → Option Instr → Type 0
 IsSlot which bytes left_out j i = (j + left_out < 13) × (slot_accessed which i ≡ Some (frame_slot bytes left_out j))
 
--- as many instructions from an index on as the list has registers: each uses a slot, and each slot is used
+-- from an index on there are as many instructions as the list has registers; each uses a slot, and each slot is used
 pub record Fills (which : Access) (bytes left_out : ℕ) (is : List Instr) (from : ℕ) : Type 0 where
   pub each : (m : ℕ) → m + left_out < 13 → (j : ℕ) × IsSlot which bytes left_out j (slice_get is (from + m))
   pub all : (j : ℕ) → j + left_out < 13

@@ -14,7 +14,7 @@ use Rattle.frame_match.specs.Invariants.Frames.{list_leaving_out, Fills, IsKnown
 
 -- ---- frames
 
--- the list that leaves out so many registers may have a frame, whose slots are used from an index on
+-- the list that leaves out `left_out` registers may have a frame, and its slots are used from an index on
 pub record IsFramed (which : Access) (bytes left_out : ℕ) (is : List Instr) (from : ℕ) : Type 0 where
   pub fits : is_frame (list_leaving_out left_out) bytes ≡ true
   pub there : Fills which bytes left_out is from
@@ -43,7 +43,7 @@ pub record IsPop (is : List Instr) (g : Found) : Type 0 where
   pub framed : IsFramed Restores bytes left_out is (before ending)
   pub found_is : g ≡ pop_of ending (list_leaving_out left_out) bytes
 
--- the end that a pop's instructions behind its loads are, if they are that one
+-- the end of a pop after its loads, if the instructions there are this ending
 abbrev pub tail_as : Ending → List Instr → ℕ → Option Tail
 tail_as e is n = option_map (λ bytes. record { ending = e; bytes = bytes }) (frame_at e is n)
 

@@ -20,19 +20,19 @@ use Rattle.frame_match.specs.declared.walk.Walk.{Walk}
 
 -- ---- marks
 
--- those of roles, where so many groups come before
+-- the marks of items with these roles, where n groups come before
 abbrev pub marks_from : ℕ → List Role → List Mark
 marks_from n [] = []
 marks_from n (Alone ∷ rs) = Apart ∷ marks_from n rs
 marks_from n (First g ∷ rs) = Start n ∷ marks_from (n + 1) rs
 marks_from n (Inside ∷ rs) = Within ∷ marks_from n rs
 
--- those of sections, one after another
+-- the marks of sections, one after another, where n groups come before
 abbrev pub section_marks : ℕ → List (List Role) → List (List Mark)
 section_marks n [] = []
 section_marks n (rs ∷ rss) = marks_from n rs ∷ section_marks (n + length (flat_map starting_group rs)) rss
 
--- those of all code
+-- the marks of all code
 abbrev pub all_marks : ParsedInputs → List (List Mark)
 all_marks inputs = section_marks 0 (map (roles_in inputs) (all_sections inputs.objects))
 
@@ -45,7 +45,7 @@ marks_after w ss = w.marks.items ++ marks_from (length w.groups.items) (roles_fr
 abbrev pub groups_after : Walk → List Spot → List Group
 groups_after w ss = w.groups.items ++ flat_map starting_group (roles_from w.left ss)
 
--- one item on, it comes to the same
+-- a walk that is one item further on comes to the same marks and groups
 pub record WalksOn (inputs : ParsedInputs) (l : IndexedSection) (ps : List CodePlace) (old new : Walk) : Type 0 where
   pub marks : marks_after new (spots_of inputs l (drop 1 ps)) ≡ marks_after old (spots_of inputs l ps)
   pub groups : groups_after new (spots_of inputs l (drop 1 ps)) ≡ groups_after old (spots_of inputs l ps)
@@ -57,6 +57,6 @@ pub record ArePlanned (inputs : ParsedInputs) (groups : List Group) (marks : Lis
   pub groups_are : groups ≡ groups_of inputs
   pub marks_are : marks ≡ all_marks inputs
 
--- an item of code stands there among all places
+-- an item of code starts at the place that has this number among all
 abbrev pub HasItem : List ObjectParts → PlaceNumber → Type 0
 HasItem objects number = (q : Place) × (is_start_at objects q ≡ true) × IsPlaceNumber objects q number

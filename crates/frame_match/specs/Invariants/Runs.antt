@@ -16,12 +16,12 @@ use Rattle.frame_match.specs.declared.slot.Access.TheVariants.{Restores}
 abbrev pub op_in : CodePlace → Option Instr
 op_in p = option_and_then op_of p.item
 
--- those at places
+-- the instructions at places, up to the first place without one
 abbrev pub ops_of : List CodePlace → List Instr
 ops_of [] = []
 ops_of (p ∷ ps) = op_then (op_in p) (ops_of ps)
 
--- each place has one
+-- each place has an instruction without relocation
 abbrev pub HaveOps : List CodePlace → Type 0
 HaveOps ps = (k : ℕ) (p : CodePlace) → slice_get ps k ≡ Some p → is_some (op_in p) ≡ true
 
@@ -53,7 +53,7 @@ run_from (s ∷ ss) = ops_from s ss
 abbrev pub joins : Bool → Spot → Bool
 joins first s = is_some s.op && (first || not s.leader)
 
--- so many items are joined, at most 16; the next one isn't, unless these are 16 or all
+-- n items are joined, at most 16; the next one isn't, unless these are 16 or all
 pub record IsRun (spots : List Spot) (n : ℕ) : Type 0 where
   pub within : n ≤ length spots
   pub few : n ≤ 16

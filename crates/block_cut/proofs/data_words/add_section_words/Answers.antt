@@ -19,7 +19,8 @@ add_words-requires c =
     let low = words_low inputs l c.requires.section c.requires.faultless at held in
     let all : All (λ d. is_word d.kind ≡ true → at + d.offset ≤ data_end inputs) c.args.relocs.now =
     subst (All (λ d. is_word d.kind ≡ true → at + d.offset ≤ data_end inputs)) (sym (c.requires.relocs (sym (code_is l.section) ∙ ap is_code_role held.role))) low in
-    λ k d lt word. omega (arith, all k d lt word, c.data_end-end.ensures.value, c.data_end-end.type_inv)
+    let map = c.recall_invariant.ensures.is_map in
+    λ k d lt word. omega (arith, all k d lt word, c.recall_invariant.ensures.data, map.code, map.data_room, map.top)
 
 pub returns-in-None : goal.returns-in-None
 returns-in-None c =

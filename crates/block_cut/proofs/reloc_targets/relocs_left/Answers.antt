@@ -3,7 +3,7 @@ use Rattle.std.proofs.Common.{◌≡◌, IfSome, [], cond, is_none, map, true, f
 use Rattle.std.specs.Prelude.{◌&&◌}
 use Rattle.elf32_read.specs.Parts.{is_code_section}
 use Rattle.psabi_sym.specs.Inputs.{parsed}
-use Rattle.block_cut.specs.Invariants.SectionText.{by_halfword, number_on, numbers_of_section}
+use Rattle.block_cut.specs.Invariants.HalfwordTables.{by_halfword, number_on, numbers_of_section}
 use Rattle.block_cut.specs.Resolved.{placed_reloc, placed_relocs}
 use Rattle.block_cut.proofs.StrayLaws.{placed_data, placed_either}
 use Rattle.block_cut.proofs.WordLaws.{code_here}

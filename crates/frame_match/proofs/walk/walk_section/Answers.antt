@@ -12,13 +12,13 @@ pub go_over-requires-clause-places : goal.go_over-requires-clause-places
 go_over-requires-clause-places c =
     let l = c.section.result in
     let at = ap (λ (x : Inputs). slice_get (all_sections (parsed x).objects) c.args.section) (sym c.objects.ensures.same) ∙ c.section.ensures in
-    walked_places (parsed c.args.cut.now) l l c.places.result.now c.starts_of-places.result.now (c.places.ensures l at) c.starts_of-places.ensures (λ i. l)
+    walked_places (parsed c.args.cut.now) l l c.places.result.now c.item_places-places.result.now (c.places.ensures l at) c.item_places-places.ensures (λ i. l)
 
 pub returns-clause-marks : goal.returns-clause-marks
 returns-clause-marks c l at =
     let here = ap (λ (x : Inputs). slice_get (all_sections (parsed x).objects) c.args.section) (sym c.objects.ensures.same) ∙ c.section.ensures in
     let own : c.section.result ≡ l = same_Some _ _ (sym here ∙ at) in
-    let roles = walked_roles (parsed c.args.cut.now) l c.section.result c.places.result.now c.starts_of-places.result.now (c.places.ensures l at) c.starts_of-places.ensures own in
+    let roles = walked_roles (parsed c.args.cut.now) l c.section.result c.places.result.now c.item_places-places.result.now (c.places.ensures l at) c.item_places-places.ensures own in
     c.in_ok-go_over.ensures.marks
     ∙ (λ i. c.in_ok-with_capacity.ensures.items i ++ marks_from (length c.args.groups.items) (roles i))
 
@@ -26,7 +26,7 @@ pub returns-clause-groups : goal.returns-clause-groups
 returns-clause-groups c l at =
     let here = ap (λ (x : Inputs). slice_get (all_sections (parsed x).objects) c.args.section) (sym c.objects.ensures.same) ∙ c.section.ensures in
     let own : c.section.result ≡ l = same_Some _ _ (sym here ∙ at) in
-    let roles = walked_roles (parsed c.args.cut.now) l c.section.result c.places.result.now c.starts_of-places.result.now (c.places.ensures l at) c.starts_of-places.ensures own in
+    let roles = walked_roles (parsed c.args.cut.now) l c.section.result c.places.result.now c.item_places-places.result.now (c.places.ensures l at) c.item_places-places.ensures own in
     c.in_ok-go_over.ensures.groups ∙ ap (λ rs. c.args.groups.items ++ flat_map starting_group rs) roles
 
 pub go_over-requires-clause-room : goal.go_over-requires-clause-room
@@ -34,6 +34,5 @@ go_over-requires-clause-room c =
     let inputs = parsed c.args.cut.now in
     let l = c.section.result in
     let at = ap (λ (x : Inputs). slice_get (all_sections (parsed x).objects) c.args.section) (sym c.objects.ensures.same) ∙ c.section.ensures in
-    let room = walked_room inputs l c.places.result.now c.starts_of-places.result.now c.args.section (length c.args.groups.items) (c.places.ensures l at) c.starts_of-places.ensures at c.requires.few in
-    let items = ap (λ n. n.items) c.counts-counts.ensures in
-    omega (arith, room, items, c.counts-counts.type_inv)
+    let room = walked_room inputs l c.places.result.now c.item_places-places.result.now c.args.section (length c.args.groups.items) (c.places.ensures l at) c.item_places-places.ensures at c.requires.few in
+    omega (arith, room, c.recall_invariant.ensures.few)

@@ -1,6 +1,6 @@
 use Rattle.std.proofs.Common.{◌≡◌, ◌≢◌, ◌<◌, ℕ, get_or, true}
 use Rattle.block_cut.specs.Invariants.Led.{mark_in}
-use Rattle.block_cut.specs.Invariants.SectionText.{no_tables}
+use Rattle.block_cut.specs.Invariants.SectionItems.{no_tables}
 use Rattle.block_cut.proofs.code_tables.CodeTables.has_marked.Given as goal
 
 abbrev pub invariant-loop-k : goal.invariant-loop-k

@@ -4,7 +4,7 @@ use Rattle.psabi_sym.specs.Inputs.{parsed}
 use Rattle.psabi_sym.specs.Indexed.{IndexedSection}
 use Rattle.psabi_sym.proofs.SectionNumbers.{listed_at}
 use Rattle.block_cut.specs.Invariants.Led.{is_listed, is_marked, mark_in}
-use Rattle.block_cut.specs.Invariants.SectionText.{no_tables}
+use Rattle.block_cut.specs.Invariants.SectionItems.{no_tables}
 use Rattle.block_cut.proofs.LedLaws.{or_false, section_numbered}
 use Rattle.block_cut.proofs.ListedLaws.{listed}
 use Rattle.block_cut.proofs.RelocTargetLaws.{marked_is, none_in, numbered_target}
@@ -23,4 +23,4 @@ returns c = λ all q led.
     let l : IndexedSection = listed q.object q.section there.0 in
     let kept = kept_at (parsed inputs) c.args.self.now.sections.items is.n l no_tables c.requires.tables.sections there.1 in
     let mark = ap (λ ms. mark_in ms is.n (q.offset / 2)) c.deref.ensures.value ∙ is.mark in
-    numbered_target inputs l _ q.offset c.section_count-count.ensures.faultless (listed_at objects is.n l there.1) (tables_of (parsed inputs) l _ kept).numbers is.even (c.has_marked.ensures all is.n (q.offset / 2) mark)
+    numbered_target inputs l _ q.offset c.recall_invariant.ensures.faultless (listed_at objects is.n l there.1) (tables_of (parsed inputs) l _ kept).numbers is.even (c.has_marked.ensures all is.n (q.offset / 2) mark)

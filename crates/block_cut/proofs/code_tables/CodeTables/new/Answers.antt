@@ -4,7 +4,7 @@ use Rattle.psabi_sym.specs.Inputs.{parsed}
 use Rattle.psabi_sym.specs.Indexed.{all_sections}
 use Rattle.psabi_sym.proofs.SectionNumbers.{listed_at}
 use Rattle.block_cut.specs.Invariants.CodeTargets.{AreCodeTargets}
-use Rattle.block_cut.specs.Invariants.SectionText.{section_tables}
+use Rattle.block_cut.specs.Invariants.SectionItems.{section_tables}
 use Rattle.block_cut.proofs.TakeLaws.{take_next}
 use Rattle.block_cut.proofs.TextLaws.{count_fits, end_before, tables_of}
 use Rattle.block_cut.proofs.code_tables.CodeTables.new.Goals as goal

@@ -2,7 +2,7 @@ use Rattle.std.proofs.Common.{◌≡◌, map, take}
 use Rattle.psabi_sym.specs.Inputs.{parsed}
 use Rattle.psabi_sym.specs.Indexed.{all_sections}
 use Rattle.block_cut.specs.Invariants.CodeTargets.{AreCodeTargets}
-use Rattle.block_cut.specs.Invariants.SectionText.{section_tables}
+use Rattle.block_cut.specs.Invariants.SectionItems.{section_tables}
 use Rattle.block_cut.specs.Invariants.CodeTables.{IsCodeSpan}
 use Rattle.block_cut.proofs.code_tables.CodeTables.new.Given as goal
 

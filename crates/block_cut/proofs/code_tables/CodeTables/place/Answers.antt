@@ -9,5 +9,5 @@ returns c =
     let inputs = c.args.objects.now in
     let there = c.in_ok-section.ensures in
     let l : IndexedSection = record { object = c.args.p.object; index = c.args.p.section; section = there.0 } in
-    c.place.ensures inputs l c.section_count-count.ensures.faultless there.1
+    c.place.ensures inputs l c.recall_invariant.ensures.faultless there.1
     (c.index.ensures ∙ kept_at (parsed inputs) c.args.self.now.sections.items c.in_ok-section.section l _ c.requires.tables.sections there.2)

@@ -2,7 +2,7 @@ use Rattle.std.proofs.Common.{slice_get, length, ap, ◌∙◌, arith}
 use Rattle.std.proofs.lemmas.List.{length-map}
 use Rattle.psabi_sym.specs.Inputs.{Inputs, parsed}
 use Rattle.psabi_sym.specs.Indexed.{all_sections}
-use Rattle.block_cut.specs.Invariants.SectionText.{section_tables}
+use Rattle.block_cut.specs.Invariants.SectionItems.{section_tables}
 use Rattle.block_cut.proofs.cut.Cut.numbers.Goals as goal
 
 pub numbers-requires : goal.numbers-requires

@@ -3,7 +3,7 @@ use Rattle.std.proofs.lemmas.List.{length-map}
 use Rattle.psabi_sym.specs.Inputs.{Inputs, parsed}
 use Rattle.psabi_sym.specs.Indexed.{all_sections}
 use Rattle.block_cut.specs.Places.{code_places}
-use Rattle.block_cut.specs.Invariants.SectionText.{section_tables}
+use Rattle.block_cut.specs.Invariants.SectionItems.{section_tables}
 use Rattle.block_cut.proofs.cut.Cut.places.Goals as goal
 
 pub places-requires : goal.places-requires

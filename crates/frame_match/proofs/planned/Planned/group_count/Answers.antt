@@ -8,6 +8,4 @@ overflow_cast-result c =
     let inside = c.self.inside in
     let few = groups_few (parsed inside.cut) in
     let groups = ap length c.self.invariant.groups_are in
-    let items = ap (λ n. n.items) c.counts-counts.ensures in
-    let fits = c.counts-counts.result.items in
-    omega (arith, few, groups, items, inside.groups.ok.0, c.len.ensures, c.counts-counts.type_inv)
+    omega (arith, few, groups, inside.groups.ok.0, c.len.ensures, c.recall_invariant.ensures.few)

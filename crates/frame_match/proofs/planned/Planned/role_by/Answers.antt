@@ -14,7 +14,7 @@ index-requires c =
 pub role_at-requires : goal.role_at-requires
 role_at-requires c =
     let inside = c.self.inside in
-    let none : gather_fault c.args.self.now ≡ None = ap gather_fault (sym (c.objects.ensures.same ∙ c.self.view_is)) ∙ c.section_count-count.ensures.faultless in
+    let none : gather_fault c.args.self.now ≡ None = ap gather_fault (sym c.self.view_is) ∙ c.recall_invariant.ensures.gathered in
     let start = marked_start _ c.args.self.now inside.groups.items inside.sections.items c.self.view_is c.self.invariant c.requires.0 c.args.number c.requires.2 c.index.result.now
     c.index.ensures none c.requires.1 (omega (arith, c.if-number-len.true, c.len.ensures)) in
     (c.requires.0, start, c.requires.2)
@@ -22,7 +22,7 @@ role_at-requires c =
 pub returns-then-number-len : goal.returns-then-number-len
 returns-then-number-len c q target has =
     let inside = c.self.inside in
-    let none : gather_fault c.args.self.now ≡ None = ap gather_fault (sym (c.objects.ensures.same ∙ c.self.view_is)) ∙ c.section_count-count.ensures.faultless in
+    let none : gather_fault c.args.self.now ≡ None = ap gather_fault (sym c.self.view_is) ∙ c.recall_invariant.ensures.gathered in
     let start = marked_start _ c.args.self.now inside.groups.items inside.sections.items c.self.view_is c.self.invariant q c.args.number has c.index.result.now
     c.index.ensures none target (omega (arith, c.if-number-len.true, c.len.ensures)) in
     sym (c.role_at.ensures q start has)

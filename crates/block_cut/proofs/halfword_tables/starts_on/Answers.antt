@@ -1,8 +1,8 @@
 use Rattle.std.proofs.Common.{◌+◌, ◌/◌, length, ltb, sym, ap, ◌∙◌}
-use Rattle.block_cut.specs.Invariants.SectionText.{number_on}
+use Rattle.block_cut.specs.Invariants.HalfwordTables.{number_on}
 use Rattle.block_cut.proofs.StrayLaws.{no_start, some_start}
 use Rattle.block_cut.proofs.WordLaws.{halfword_count}
-use Rattle.block_cut.proofs.walk.starts_on.Goals as goal
+use Rattle.block_cut.proofs.halfword_tables.starts_on.Goals as goal
 
 pub returns-then-number_at-eq0 : goal.returns-then-number_at-eq0
 returns-then-number_at-eq0 c = λ s code whole are. sym (no_start s c.args.offset (sym (c.number_at.ensures.value s code whole are) ∙ c.if-number_at-eq0.true))

@@ -1,4 +1,4 @@
-// A walk over the halfwords of a section of code.
+// Tables with an entry for each halfword of a section of code: the number of its relocation, and of its place.
 
 ghost use Rattle.std.specs.Prelude.{◌≡◌, ◌+◌, ◌-◌, ◌/◌, ◌<◌, ◌^◌, ◌==◌, ℕ, if◌then◌else◌, IfOk, [], true, length, map, slice_get, slice_index_or};
 ghost use Rattle.std.specs.Option.{option_map_or, unwrap_or};
@@ -6,7 +6,7 @@ ghost use Rattle.elf32_read.specs.Parts.{SectionParts, is_code_section};
 ghost use Rattle.psabi_sym.specs.Inputs.{ParsedInputs};
 ghost use Rattle.psabi_sym.specs.Indexed.{IndexedSection};
 ghost use Rattle.block_cut.specs.CodeSizes.{own_size};
-ghost use Rattle.block_cut.specs.Invariants.SectionText.{by_halfword, number_on, numbered, IsRelocTable};
+ghost use Rattle.block_cut.specs.Invariants.HalfwordTables.{by_halfword, number_on, numbered, IsRelocTable};
 ghost use Rattle.block_cut.specs.Items.{starts_on};
 ghost use Rattle.block_cut.specs.Resolved.{is_right, placed_fault, placed_reloc, resolved_relocs};
 ghost use Rattle.block_cut.specs.Whole.{IsWhole};
@@ -15,15 +15,15 @@ use crate::content::Content;
 use crate::resolved_reloc::{RelocFault, ResolvedReloc};
 use std::alloc::{AllocError, Global};
 
-// Whether a relocation can say what stands at its offset: its kind and its place are right.
+// Whether a relocation decides the item at its offset: its kind and its place are right.
 fn is_right(fault: Option<RelocFault>) -> bool
     ensures { result ≡ is_right fault }
 {
     !matches!(fault, Some(RelocFault::Kind | RelocFault::Place))
 }
 
-/// For each halfword, of which there are so many, the number of the relocation that says what stands there, from
-/// 1 on; 0 where none does. It looks at each relocation once.
+/// For each of `count` halfwords, the number, from 1 on, of the relocation that decides the item there, or 0. It looks
+/// at each relocation once.
 pub fn relocs_by_halfword(
     alloc: Global,
     count: usize,
@@ -41,7 +41,7 @@ pub fn relocs_by_halfword(
     Ok(table)
 }
 
-// Keeps a number at a halfword, if there is such a halfword and it has none.
+// Sets the entry of a halfword, if that is in range and empty.
 fn keep(table: &mut [u32], halfword: usize, number: u32)
     ensures count { length table.new ≡ length table.old }
     ensures entries { (k : ℕ) → k < length table.old → slice_index_or table.new k 0
@@ -53,7 +53,7 @@ fn keep(table: &mut [u32], halfword: usize, number: u32)
     }
 }
 
-/// One of some relocations, by its number from 1 on; 0 stands for none.
+/// A relocation by its number, from 1 on; 0 stands for none.
 pub fn numbered(relocs: &[ResolvedReloc], number: u32) -> Option<ResolvedReloc>
     ensures { result ≡ numbered relocs.now number }
 {
@@ -66,7 +66,7 @@ pub fn numbered(relocs: &[ResolvedReloc], number: u32) -> Option<ResolvedReloc>
     }
 }
 
-/// How many bytes what stands at an offset has, by the relocation that says it.
+/// The size in bytes of the item at an offset, by the relocation there.
 pub fn size_with(content: &Content, at: usize, reloc: Option<ResolvedReloc>) -> u8
     ensures { result ≡ option_map_or (λ d. d.size) reloc (own_size content.now.compressed content.now.bytes at) }
 {
@@ -76,7 +76,8 @@ pub fn size_with(content: &Content, at: usize, reloc: Option<ResolvedReloc>) -> 
     }
 }
 
-// How many bytes are left until the next item after a halfword, where so many were left at it.
+// How many bytes of an item are left after a halfword, by how many were left at it; 0 of them says that the next item
+// starts there.
 fn left_after(left: u8, size: u8) -> u8
     ensures { result ≡ (if left == 0 then size else left) - 2 }
 {
@@ -86,7 +87,7 @@ fn left_after(left: u8, size: u8) -> u8
     left.saturating_sub(2)
 }
 
-// The number of the place at a halfword where so many bytes are left and so many places came before.
+// The number of the place at a halfword: the next one, if no bytes of the item before are left there, or 0.
 fn next_number(left: u8, before: u32) -> u32
     requires { before + 1 < 2 ^ 32 }
     ensures { result ≡ (if left == 0 then before + 1 else 0) }
@@ -97,8 +98,8 @@ fn next_number(left: u8, before: u32) -> u32
     0
 }
 
-/// The number of the place at each halfword of a section of code, from 1 on, by the number of the relocation that
-/// stands there; 0 where no item starts and the section doesn't end.
+/// For each halfword of a section of code, the number of the place there, from 1 on, by the number of the relocation
+/// there; 0 where no item starts and the section doesn't end.
 pub fn place_numbers(
     alloc: Global,
     content: &Content,
@@ -152,7 +153,7 @@ fn starts_on(numbers: &[u32], offset: u32) -> bool
     offset as usize / 2 + 1 < numbers.len()
 }
 
-// What is wrong with a relocation of code, once it is known whether an item starts where it stands.
+// What is wrong with a relocation of code, once it is known whether an item starts at its offset.
 fn placed_fault(strays: bool, fault: Option<RelocFault>) -> Option<RelocFault>
     ensures { result ≡ placed_fault strays fault }
 {
@@ -167,8 +168,8 @@ fn placed_fault(strays: bool, fault: Option<RelocFault>) -> Option<RelocFault>
     }
 }
 
-/// The relocations of a section of code, with what is wrong with those that stand where no item starts, by the numbers
-/// of its places. Where the object isn't compressed, these have a fault already.
+/// The relocations of a section of code, with what is wrong with those where no item starts, by the numbers of its
+/// places. Where the object isn't compressed, these have a fault already.
 pub fn place_relocs(
     alloc: Global,
     compressed: bool,
@@ -195,7 +196,7 @@ pub fn place_relocs(
     Ok(placed)
 }
 
-/// How many places there are, by the numbers at all halfwords of a section of code: the last is the end's.
+/// The number of places, by the numbers at all halfwords of a section of code: the last is the end's.
 pub fn place_count(numbers: &[u32]) -> usize
     ensures { result ≡ unwrap_or (slice_get numbers.now (length numbers.now - 1)) 0 }
 {

@@ -1,4 +1,4 @@
-// What is kept of sections.
+// What is kept of sections: their places.
 
 ghost use Rattle.std.specs.Prelude.{◌≡◌, ◌≢◌, slice_index_or, ◌&&◌, ◌==◌, ◌+◌, ◌^◌, ◌<◌, ℕ, IfOk, MatchOption, None, Some, false, true, length, slice_get};
 ghost use Rattle.elf32_read.specs.Parts.{is_code_section};
@@ -7,19 +7,16 @@ ghost use Rattle.psabi_sym.specs.Inputs.{parsed, Inputs, ParsedInputs};
 ghost use Rattle.psabi_sym.specs.Indexed.{section_at, IndexedSection};
 ghost use Rattle.block_cut.specs.Invariants.CutSection.{IsCutSection, IsSectionAfter};
 ghost use Rattle.block_cut.specs.Invariants.Led.{mark_at};
-ghost use Rattle.block_cut.specs.Invariants.SectionText.{section_tables};
+ghost use Rattle.block_cut.specs.Invariants.SectionItems.{section_tables};
 ghost use Rattle.block_cut.specs.Items.{index_on, is_target_at, place_of};
 ghost use Rattle.block_cut.specs.Places.{code_place};
 
 use crate::code_place::{CodePlace, address_after};
-use crate::code_section::CodeSection;
-use crate::content::Content;
+use crate::code_section::{CodeSection, KeptTables};
+use crate::halfword_tables::{number_at, place_count};
 use crate::marks::Marks;
 use crate::plain_layout::begin_after;
-use crate::relocated::resolve_relocs;
 use crate::resolved_reloc::ResolvedReloc;
-use crate::section_words::decode_words;
-use crate::walk::{number_at, place_count, place_numbers, place_relocs, relocs_by_halfword};
 use psabi_sym::objects::Objects;
 use psabi_sym::section_ref::SectionRef;
 use std::alloc::{AllocError, Global};
@@ -28,13 +25,13 @@ use std::marker::Model;
 /// What is kept of a section: the numbers of its places by the offset / 2, from 1 on, with 0 where nothing starts, and
 /// these places. What isn't code has none.
 #[derive(Drop)]
-pub struct SectionText {
+pub struct SectionItems {
     numbers: Vec<u32>,
     places: Vec<CodePlace>,
 }
 
-impl Model for SectionText {
-    ghost use Rattle.block_cut.specs.Invariants.SectionText.{SectionTables};
+impl Model for SectionItems {
+    ghost use Rattle.block_cut.specs.Invariants.SectionItems.{SectionTables};
 
     ghost Value = { SectionTables };
 
@@ -45,7 +42,7 @@ impl Model for SectionText {
 /// code.
 #[derive(Drop)]
 pub struct CutSection {
-    pub text: SectionText,
+    pub text: SectionItems,
     pub relocs: Vec<ResolvedReloc>,
 }
 
@@ -55,7 +52,7 @@ fn data_section(alloc: Global) -> CutSection
         → IsCutSection inputs l result }
 {
     CutSection {
-        text: SectionText {
+        text: SectionItems {
             numbers: Vec::new(alloc),
             places: Vec::new(alloc),
         },
@@ -63,8 +60,7 @@ fn data_section(alloc: Global) -> CutSection
     }
 }
 
-// A section of code, where the code before it ends at an address. It decodes each word once, or where the object is
-// compressed each instruction at most twice.
+// A section of code, where the code before it ends at an address.
 fn code_section(
     alloc: Global,
     objects: &Objects,
@@ -75,36 +71,20 @@ fn code_section(
     requires code { is_code_section section.now.section ≡ true }
     ensures { IfOk result (IsCutSection (parsed objects.now) section.now) }
 {
-    let bytes = section.bytes();
-    let compressed = section.is_compressed();
-    let words = decode_words(alloc, compressed, bytes)?;
-    let relocs = resolve_relocs(alloc, objects, section, &words)?;
-    // There are no more, so no number is too large.
-    let _most = section.reloc_count();
-    let table = relocs_by_halfword(alloc, bytes.len() / 2 + 1, &relocs)?;
-    let content = Content::new(bytes, &words, compressed);
-    let numbers = place_numbers(alloc, &content, &relocs, &table)?;
-    let code = CodeSection {
-        object: section.object(),
-        index: section.index(),
-        content,
-        relocs: &relocs,
-        table: &table,
-        numbers: &numbers,
-    };
+    let code = CodeSection::new(alloc, objects, section)?;
     let mut address = begin_after(end, section.align());
-    let mut places = Vec::with_capacity(alloc, place_count(&numbers))?;
-    for (k, number) in numbers.iter().enumerate() {
+    let mut places = Vec::with_capacity(alloc, place_count(code.numbers()))?;
+    for (k, number) in code.numbers().iter().enumerate() {
         if *number != 0 {
             let place = code.place(2 * k as u32, address);
             address = address_after(address, place.size, &place.item);
             places.push(place)?;
         }
     }
-    let placed = place_relocs(alloc, compressed, relocs, &numbers)?;
+    let KeptTables { numbers, relocs } = code.into_kept(alloc)?;
     Ok(CutSection {
-        text: SectionText { numbers, places },
-        relocs: placed,
+        text: SectionItems { numbers, places },
+        relocs,
     })
 }
 
@@ -126,15 +106,15 @@ impl CutSection {
     }
 }
 
-impl SectionText {
-    /// Its places, in order.
+impl SectionItems {
+    /// The section's places, in order.
     pub fn places(&self) -> &[CodePlace]
         ensures { result.now ≡ self.now.places }
     {
         &self.places
     }
 
-    /// The numbers of its places by the offset / 2, from 1 on, with 0 where nothing starts.
+    /// For each halfword of the section, the number of the place there, from 1 on, with 0 where none is.
     pub fn numbers(&self) -> &[u32]
         ensures { result.now ≡ self.now.numbers }
     {
@@ -164,7 +144,7 @@ impl SectionText {
         marks.are_numbered(&self.numbers)
     }
 
-    /// How many of its items stand before an offset, if an item starts there or the section ends there.
+    /// The number of the section's items before an offset, if an item starts there or the section ends there.
     pub fn index(&self, offset: u32) -> Option<u32>
         ensures { (inputs : Inputs) (l : IndexedSection) → gather_fault inputs ≡ None
             → section_at (parsed inputs).objects l.object l.index ≡ Some l.section

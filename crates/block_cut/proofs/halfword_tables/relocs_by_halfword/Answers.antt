@@ -5,8 +5,8 @@ use Rattle.std.proofs.lemmas.Option.{slice_get-get_or}
 use Rattle.block_cut.specs.Resolved.{is_right}
 use Rattle.block_cut.specs.declared.resolved_reloc.ResolvedReloc.{ResolvedReloc}
 use Rattle.block_cut.proofs.TableLaws.{IsTableSoFar, odd_fails, table_all, table_first, table_next, table_other, wrong_fails}
-use Rattle.block_cut.proofs.walk.relocs_by_halfword.Goals.{then-is_right+then-reloc-eq0, else-is_right, else-is_right-via-then-is_right+else-reloc-eq0, else-is_right-via-else-is_right}
-use Rattle.block_cut.proofs.walk.relocs_by_halfword.Goals as goal
+use Rattle.block_cut.proofs.halfword_tables.relocs_by_halfword.Goals.{then-is_right+then-reloc-eq0, else-is_right, else-is_right-via-then-is_right+else-reloc-eq0, else-is_right-via-else-is_right}
+use Rattle.block_cut.proofs.halfword_tables.relocs_by_halfword.Goals as goal
 
 -- a list is the front of itself with more after it
 whole_front : {X : Type 0} (xs ys : List X) (n : ℕ) → length xs ≡ n → take n (xs ++ ys) ≡ xs

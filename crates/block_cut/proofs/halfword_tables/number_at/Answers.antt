@@ -1,9 +1,9 @@
 -- The number is in the table at an even offset inside; elsewhere nothing starts.
 use Rattle.std.proofs.Common.{◌≡◌, ◌*◌, ◌/◌, ◌<◌, length, get_or, sym, ap, ◌∙◌, arith}
 use Rattle.std.proofs.lemmas.Bool.{ltb-true}
-use Rattle.block_cut.specs.Invariants.SectionText.{number_on}
+use Rattle.block_cut.specs.Invariants.HalfwordTables.{number_on}
 use Rattle.block_cut.proofs.WordLaws.{halfword_count, halfword_got, number_none, other_odd, other_past}
-use Rattle.block_cut.proofs.walk.number_at.Goals as goal
+use Rattle.block_cut.proofs.halfword_tables.number_at.Goals as goal
 
 pub returns-then-offset-ne0-clause-value : goal.returns-then-offset-ne0-clause-value
 returns-then-offset-ne0-clause-value c = λ s code whole are.

@@ -8,7 +8,7 @@ use Rattle.block_cut.specs.Items.{is_target_at, place_of}
 use Rattle.block_cut.specs.Places.{code_place, code_places}
 use Rattle.block_cut.specs.declared.code_place.CodePlace.{CodePlace}
 use Rattle.block_cut.proofs.TextLaws.{IsNumberOf, by_number, tables_of}
-use Rattle.block_cut.proofs.section_text.SectionText.place.Goals as goal
+use Rattle.block_cut.proofs.section_items.SectionItems.place.Goals as goal
 
 -- what is found is the place with the number
 there : (inputs : Inputs) (l : IndexedSection) (n number : ℕ) (places : List CodePlace) → IsNumberOf inputs l n number → number ≢ 0 → places ≡ code_places (parsed inputs) l

@@ -1,4 +1,4 @@
--- Each halfword has the number of its place, and the next place is so many bytes on as are left.
+-- Each halfword has the number of its place, and the next place comes when no bytes of the item are left.
 use Rattle.std.proofs.Common.{◌≡◌, ◌++◌, ◌∷◌, [], ℕ, ◌+◌, ◌-◌, ◌*◌, ◌/◌, ◌≤◌, max, Bool, true, false, length, map, cond, eqb, eq-eqb, refl, sym, ap, subst, ◌∙◌, arith, inl, inr}
 use Rattle.std.specs.Prelude.{◌||◌}
 use Rattle.std.specs.List.{find, range_with_len}
@@ -11,13 +11,13 @@ use Rattle.block_cut.specs.CodeSizes.{own_size}
 use Rattle.block_cut.specs.Items.{size_on, starts_on}
 use Rattle.block_cut.specs.PlainLayout.{starts_before}
 use Rattle.block_cut.specs.Resolved.{is_right_at, resolved_relocs}
-use Rattle.block_cut.specs.Invariants.SectionText.{number_on}
+use Rattle.block_cut.specs.Invariants.HalfwordTables.{number_on}
 use Rattle.block_cut.specs.Whole.{IsWhole}
 use Rattle.block_cut.specs.declared.resolved_reloc.ResolvedReloc.{ResolvedReloc}
 use Rattle.block_cut.proofs.StartLaws.{before_first_none}
 use Rattle.block_cut.proofs.TableLaws.{sized_on}
 use Rattle.block_cut.proofs.WordLaws.{IsNext, before_other, before_start, is_next, next_first, next_item, next_word}
-use Rattle.block_cut.proofs.walk.place_numbers.Goals as goal
+use Rattle.block_cut.proofs.halfword_tables.place_numbers.Goals as goal
 
 module _ (s : SectionParts) (code : is_code_section s ≡ true) (whole : IsWhole s) where
   -- a halfword further
@@ -46,7 +46,7 @@ module _ (s : SectionParts) (code : is_code_section s ≡ true) (whole : IsWhole
     | inr ne ↦ ne_eqb left 0 ne ∙ sym (ne_eqb (2 * k + left) (2 * k) (λ e. ne (omega (arith, e))))
   ] ∙ is_next s code whole (2 * k) (2 * k + left) next
 
-  -- how many places came before
+  -- the number of places before the next halfword
   counted : (k before number new : ℕ) → before ≡ length (starts_before s (2 * k)) → number ≡ number_on s (2 * k) → new ≡ max before number → k + 1 ≤ length s.bytes / 2
       → new ≡ length (starts_before s (2 * (k + 1)))
   counted k before number new was is new_is le = by (starts_on s (2 * k)) refl

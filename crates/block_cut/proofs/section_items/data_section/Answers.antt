@@ -2,8 +2,9 @@ use Rattle.std.proofs.Common.{[], cond, map, sym, ap, ◌∙◌}
 use Rattle.block_cut.specs.Items.{targets_in}
 use Rattle.block_cut.specs.Places.{code_place}
 use Rattle.block_cut.specs.Resolved.{placed_relocs}
-use Rattle.block_cut.specs.Invariants.SectionText.{by_halfword, number_on, section_tables}
-use Rattle.block_cut.proofs.section_text.data_section.Goals as goal
+use Rattle.block_cut.specs.Invariants.HalfwordTables.{by_halfword, number_on}
+use Rattle.block_cut.specs.Invariants.SectionItems.{section_tables}
+use Rattle.block_cut.proofs.section_items.data_section.Goals as goal
 
 pub returns : goal.returns
 unfolding section_tables

@@ -1,8 +1,8 @@
--- The number at the offset says how many items stand before it.
+-- The number at the offset gives the number of items before it.
 use Rattle.std.proofs.Common.{ap, ◌∙◌}
 use Rattle.psabi_sym.specs.Inputs.{parsed}
 use Rattle.block_cut.proofs.TextLaws.{by_number, tables_of}
-use Rattle.block_cut.proofs.section_text.SectionText.index.Goals as goal
+use Rattle.block_cut.proofs.section_items.SectionItems.index.Goals as goal
 
 pub returns-then-number-eq0 : goal.returns-then-number-eq0
 returns-then-number-eq0 c = λ inputs l none found is.

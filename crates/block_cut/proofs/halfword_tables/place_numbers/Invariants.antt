@@ -5,10 +5,10 @@ use Rattle.psabi_sym.specs.Inputs.{ParsedInputs}
 use Rattle.psabi_sym.specs.Indexed.{IndexedSection}
 use Rattle.block_cut.specs.PlainLayout.{starts_before}
 use Rattle.block_cut.specs.Resolved.{resolved_relocs}
-use Rattle.block_cut.specs.Invariants.SectionText.{IsRelocTable, number_on}
+use Rattle.block_cut.specs.Invariants.HalfwordTables.{IsRelocTable, number_on}
 use Rattle.block_cut.specs.Whole.{IsWhole}
 use Rattle.block_cut.proofs.WordLaws.{IsNext}
-use Rattle.block_cut.proofs.walk.place_numbers.Given as goal
+use Rattle.block_cut.proofs.halfword_tables.place_numbers.Given as goal
 
 abbrev pub invariant-loop-k : goal.invariant-loop-k
 invariant-loop-k l = record {
