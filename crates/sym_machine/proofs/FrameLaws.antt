@@ -1,10 +1,10 @@
 -- The words of a frame, one access after another: each that can be made leaves sp and where memory lies, so the first k come to a
--- state from which the rest is left (saving_to, loading_to); and if access k can't be made, all of it is stuck (saves_stuck, loads_stuck).
-use Rattle.std.proofs.Common.{◌≡◌, ◌≢◌, ℕ, zero, suc, pos, ◌+◌, ◌-◌, ◌*◌, ◌%◌, ◌^◌, ◌<◌, ◌≤◌, List, [], ◌∷◌, ◌++◌, length, Some, Bool, true, false, cond, refl, sym, ap, ◌∙◌, subst, arith, drop, get_or, set, eqb, get_or-set_same, ⊎_elim}
-use Rattle.std.specs.Prelude.{All}
+-- state from which the rest is left (saving_more, loading_to); and if the first one can't be made, all of it is stuck (saves_stuck,
+-- loads_stuck).
+use Rattle.std.proofs.Common.{◌≡◌, ◌≢◌, ℕ, zero, suc, pos, ◌+◌, ◌-◌, ◌*◌, ◌%◌, ◌^◌, ◌<◌, ◌≤◌, List, [], ◌∷◌, ◌++◌, length, Some, Bool, true, false, cond, refl, sym, ap, ◌∙◌, subst, arith, drop, get_or, set, eqb, leb, get_or-set_same}
+use Rattle.std.specs.Prelude.{All, ◌&&◌, ◌||◌, nat_le}
 use Rattle.std.proofs.Math.Seq.{drop-cons}
-use Rattle.std.proofs.lemmas.Bool.{cond-false, cond-true, eq-eqb, eqb-true, ne_eqb}
-use Rattle.std.proofs.lemmas.Bool.Decides.{eqb_tells}
+use Rattle.std.proofs.lemmas.Bool.{and_from, and_parts, cond-false, cond-true, eq-eqb, eqb-true, le-leb, leb-true, ne_eqb}
 use Rattle.std.proofs.lemmas.List.Elements.{All-get_or}
 use Rattle.zc_base.specs.declared.mem_map.MemMap.{MemMap}
 use Rattle.zc_base.specs.declared.place.Place.{Place}
@@ -13,20 +13,22 @@ use Rattle.rv_decode.specs.declared.instr.Instr.TheVariants.{Load, Store}
 use Rattle.rv_decode.specs.declared.instr.LoadOp.TheVariants.{Lw}
 use Rattle.rv_decode.specs.declared.instr.StoreOp.TheVariants.{Sw}
 use Rattle.rv_decode.specs.Bits.{add32}
-use Rattle.rv_decode.specs.Memory.{changed, extents_of, is_data, lies_in}
+use Rattle.rv_decode.specs.Memory.{Data, Stack, changed, extents_of, is_data, lies_in, spans}
 use Rattle.rv_decode.specs.State.{set_reg}
 use Rattle.rv_decode.proofs.MemoryLaws.{lies_inside}
 use Rattle.rv_decode.proofs.RegisterLaws.{length-set_reg, reads-set_reg_other}
 use Rattle.sym_machine.specs.AddressParts.{bytes_of}
-use Rattle.sym_machine.specs.Change.{Change, Does, Goes, Stops, accessing, continues, in_memory, load_does, load_word, op_does, puts, sets, store_does}
+use Rattle.sym_machine.specs.Change.{Does, Goes, Stops, accessing, in_memory, load_does, load_word, op_does, puts, sets, store_does}
 use Rattle.sym_machine.specs.Expansions.{restores, saves}
-use Rattle.sym_machine.specs.Invariants.Frames.{AreReached, HasStack, IsFrameRegister, IsLoading, IsObstacle, IsReached, word_address}
+use Rattle.sym_machine.specs.Invariants.Frames.{AreReached, HasStack, IsFrameBytes, IsFrameRegister, IsInStack, IsLoading, IsObstacle, IsReached, word_address}
+use Rattle.sym_machine.specs.Kept.{IsKept, Kept, regions_of}
 use Rattle.sym_machine.specs.State.{PlainCore, reg_of}
 use Rattle.sym_machine.specs.Step.{Stuck, Went, after_change, and_then, applied, in_turn, undefined_below}
 use Rattle.sym_machine.specs.Words.{number_of, number_word, numeric, sum_word, undef_word}
 use Rattle.sym_machine.specs.declared.why.Why.{Why}
 use Rattle.sym_machine.specs.declared.why.Why.TheVariants.{BadAddress, Misaligned}
 use Rattle.sym_machine.specs.declared.word.SymWord.{SymWord}
+use Rattle.sym_machine.proofs.MemoryLaws.{reaches_is}
 use Rattle.sym_machine.proofs.StepLaws.{ended, ends_within, extents-made, settled}
 use Rattle.sym_machine.proofs.WordLaws.{number_back}
 
@@ -53,35 +55,8 @@ access_same s t a go same = ap (λ es. cond (eqb (a % 4) 0) (cond (lies_in is_da
 pub reached_same : (s t : PlainCore) (sp top n : ℕ) → extents_of t.memory ≡ extents_of s.memory → AreReached s sp top n → AreReached t sp top n
 reached_same s t sp top n same are = record { room = are.room; each = λ k few go. access_same s t (word_address sp top k) go same ∙ are.each k few go }
 
-pub obstacle_same : (s t : PlainCore) (sp top n : ℕ) (why : Why) → extents_of t.memory ≡ extents_of s.memory → IsObstacle s sp top n why → IsObstacle t sp top n why
-obstacle_same s t sp top n why same is = record {
-  at = is.at;
-  within = is.within;
-  before = λ k few go. access_same s t (word_address sp top k) go same ∙ is.before k few go;
-  cause = λ go. access_same s t (word_address sp top is.at) go same ∙ is.cause go;
-}
-
--- an access that goes on with any address can be made
-pub reached_on : (s : PlainCore) (a b : ℕ) → ((go : ℕ → Does) → accessing 4 (Some a) s go ≡ go b) → IsReached s a
-reached_on s a b goes = tested (eqb (a % 4) 0) (in_memory s a 4) goes
-  where
-    none : Change
-    none = continues (record { object = 0; section = 0; offset = 0 })
-
-    differs : (why : Why) → Stops why ≡ Goes none → ⊥
-    differs why h = absurd cc
-
-    tested : (x y : Bool) → ((go : ℕ → Does) → cond x (cond y (go a) (Stops BadAddress)) (Stops Misaligned) ≡ go b)
-        → (go : ℕ → Does) → cond x (cond y (go a) (Stops BadAddress)) (Stops Misaligned) ≡ go a
-    tested true true h go = refl
-    tested true false h go = absurd (differs BadAddress (h (λ _. Goes none)))
-    tested false y h go = absurd (differs Misaligned (h (λ _. Goes none)))
-
-pub reached_next : (s : PlainCore) (sp top k : ℕ) → ((i : ℕ) → i < k → IsReached s (word_address sp top i)) → IsReached s (word_address sp top k) → (i : ℕ) → i < k + 1 → IsReached s (word_address sp top i)
-reached_next s sp top k before here i few = ⊎_elim
-    (λ last. subst (λ (n : ℕ). IsReached s (word_address sp top n)) (sym last.1) here)
-    (λ other. before i (let apart = other.1 in omega (arith, few, apart)))
-    (eqb_tells i k)
+pub obstacle_same : (s t : PlainCore) (sp top : ℕ) (why : Why) → extents_of t.memory ≡ extents_of s.memory → IsObstacle s sp top why → IsObstacle t sp top why
+obstacle_same s t sp top why same is = λ go. access_same s t (word_address sp top 0) go same ∙ is go
 
 -- each word of a frame that lies in memory as a whole can be loaded and stored
 pub reached_whole :
@@ -98,6 +73,69 @@ reached_whole s sp top n small aligned_sp aligned_top room inside = record { roo
         ∙ cond-true (eqb ((sp + (top - 4 * (k + 1))) % 4) 0) _ _ (eq-eqb ((sp + (top - 4 * (k + 1))) % 4) 0 aligned)
         ∙ cond-true (in_memory s (sp + (top - 4 * (k + 1))) 4) _ _ within
         ∙ ap go (sym at)
+
+-- ---- where a frame lies
+
+none_of : (b : Bool) → (b ≡ true → ⊥) → b ≡ false
+none_of true never = absurd (never refl)
+none_of false never = refl
+
+-- a frame at an address that is no multiple of 4
+pub frame_misaligned : (s : PlainCore) (sp top : ℕ) → IsFrameBytes top → sp % 4 ≢ 0 → IsObstacle s sp top Misaligned
+frame_misaligned s sp top frame odd go =
+    let highest : ℕ = word_address sp top 0 in
+    cond-false (eqb (highest % 4) 0) _ _ (ne_eqb (highest % 4) 0 (λ e. odd (omega (arith, e, frame.some, frame.words))))
+
+-- data lie below the stack and not at address 0, so a frame that begins in the stack lies there as a whole, or its highest word lies
+-- nowhere
+module _ (k : Kept) (is : IsKept k) (s : PlainCore) (memory : s.memory ≡ regions_of k) (sp top : ℕ) (low : k.map.stack_low ≤ sp) (high : sp ≤ k.map.stack_high) (frame : IsFrameBytes top) where
+  -- the highest word
+  abbrev highest : ℕ
+  highest = word_address sp top 0
+
+  pub frame_inside : (nat_le k.map.stack_low (add32 sp (pos top)) && nat_le (add32 sp (pos top)) k.map.stack_high) ≡ true → sp % 4 ≡ 0 → IsInStack k.map s sp top
+  frame_inside inside aligned =
+      let q = and_parts (leb k.map.stack_low (add32 sp (pos top))) (leb (add32 sp (pos top)) k.map.stack_high) inside in
+      let from = leb-true k.map.stack_low (add32 sp (pos top)) q.0 in
+      let to = leb-true (add32 sp (pos top)) k.map.stack_high q.1 in
+      let small : sp + top < 2 ^ 32 = omega (arith, from, high, frame.most, is.apart, is.map_is.above, is.map_is.code, is.map_is.top) in
+      let fits : sp + top ≤ k.map.stack_low + length k.stack = omega (arith, to, small, is.size, is.low, is.high) in
+      let there : true ≡ spans (record { kind = Stack; at = k.map.stack_low; size = length k.stack }) sp top =
+      sym (and_from (leb k.map.stack_low sp) (leb (sp + top) (k.map.stack_low + length k.stack)) (le-leb k.map.stack_low sp low) (le-leb (sp + top) (k.map.stack_low + length k.stack) fits)) in
+      let data_there = spans (record { kind = Data; at = k.map.data_low; size = length k.bytes }) sp top in
+      let reaches : in_memory s sp top ≡ true = ap (λ m. lies_in is_data (extents_of m) sp top) memory ∙ sym (reaches_is k sp top data_there true refl there) ∙ or_true data_there in
+      record { end = inside; reached = λ n room. reached_whole s sp top n small aligned frame.words room reaches }
+    where
+      or_true : (b : Bool) → (b || true) ≡ true
+      or_true true = refl
+      or_true false = refl
+
+  pub frame_outside : (nat_le k.map.stack_low (add32 sp (pos top)) && nat_le (add32 sp (pos top)) k.map.stack_high) ≡ false → sp % 4 ≡ 0 → IsObstacle s sp top BadAddress
+  frame_outside outside aligned go =
+      let at : highest % 4 ≡ 0 = omega (arith, aligned, frame.some, frame.words) in
+      cond-true (eqb (highest % 4) 0) _ _ (eq-eqb (highest % 4) 0 at) ∙ cond-false (in_memory s highest 4) _ _ nowhere
+    where
+      in_data : spans (record { kind = Data; at = k.map.data_low; size = length k.bytes }) highest 4 ≡ false
+      in_data = none_of _ (λ h.
+          let q = and_parts (leb k.map.data_low highest) (leb (highest + 4) (k.map.data_low + length k.bytes)) h in
+          let from = leb-true k.map.data_low highest q.0 in
+          let to = leb-true (highest + 4) (k.map.data_low + length k.bytes) q.1 in
+          omega (arith, from, to, low, high, frame.some, frame.most, is.apart, is.map_is.above, is.map_is.code, is.map_is.top))
+
+      in_stack : spans (record { kind = Stack; at = k.map.stack_low; size = length k.stack }) highest 4 ≡ false
+      in_stack = none_of _ (λ h.
+          let q = and_parts (leb k.map.stack_low highest) (leb (highest + 4) (k.map.stack_low + length k.stack)) h in
+          let from = leb-true k.map.stack_low highest q.0 in
+          let to = leb-true (highest + 4) (k.map.stack_low + length k.stack) q.1 in
+          let size = is.size in
+          let begins : k.map.stack_low ≤ add32 sp (pos top) = omega (arith, from, to, size, low, high, frame.some, frame.most, frame.words, is.apart, is.map_is.above, is.map_is.code, is.map_is.top) in
+          let ends : add32 sp (pos top) ≤ k.map.stack_high = omega (arith, from, to, size, is.low, is.high, low, high, frame.some, frame.most, frame.words, is.apart, is.map_is.above, is.map_is.code, is.map_is.top) in
+          let inside = and_from (leb k.map.stack_low (add32 sp (pos top))) (leb (add32 sp (pos top)) k.map.stack_high) (le-leb k.map.stack_low (add32 sp (pos top)) begins) (le-leb (add32 sp (pos top)) k.map.stack_high ends) in
+          let differ = sym inside ∙ outside in
+          absurd cc)
+
+      nowhere : in_memory s highest 4 ≡ false
+      nowhere = ap (λ m. lies_in is_data (extents_of m) highest 4) memory ∙ sym (reaches_is k highest 4 false false (sym in_data) (sym in_stack))
 
 -- the offset of the next word, its address, and the registers that are left
 module _ (sp top k : ℕ) (registers : List ℕ) (few : k < length registers) where
@@ -150,41 +188,21 @@ module _ (map : MemMap) (sp top : ℕ) (registers : List ℕ) (next : Place) (fi
               ∙ (λ j. in_turn map (saves (offset_is sp top k registers few j) (drop (one k j) registers)) next s');
         }
 
-    module _ (low : map.stack_low ≤ sp) (high : sp ≤ map.stack_high) where
-      record Saving (k : ℕ) : Type 0 where
-        state : PlainCore
-        is : IsSaving k state
+    -- before the first store
+    saving_none : IsSaving 0 first
+    saving_none = record {
+      regs = refl;
+      extents = refl;
+      same = (let all : top ≡ top - 4 * 0 = omega arith in ap (λ t. in_turn map (saves t registers) next first) all);
+    }
 
-      -- the first k stores can be made, and then the rest is left
-      saving_to : (k : ℕ) → k ≤ length registers → ((i : ℕ) → i < k → IsReached first (word_address sp top i)) → Saving k
-      saving_to zero few reached = record {
-        state = first;
-        is = record {
-          regs = refl;
-          extents = refl;
-          same = (let all : top ≡ top - 4 * 0 = omega arith in ap (λ t. in_turn map (saves t registers) next first) all);
-        };
-      }
-      saving_to (suc k) few reached =
-          let before = saving_to k (omega (arith, few)) (λ i less. reached i (omega (arith, less))) in
-          let s = before.state in
-          let within : k < length registers = omega (arith, few) in
-          let change = puts (word_address sp top k) (bytes_of (reg_of s (get_or registers k 0))) next in
-          let sp_is : number_of (reg_of (after_change change s) 2) ≡ Some sp = ap (λ l. number_of (reg_of (record s { regs = l }) 2)) before.is.regs ∙ number in
-          let s' = settled map sp (after_change change s) in
-          let made : applied map s (Goes change) ≡ Went s' [] = ends_within map sp (after_change change s) [] sp_is low high in
-          record { state = s'; is = subst (λ m. IsSaving m s') (sym (one k)) (saving_more k s s' within (reached k (omega arith)) before.is made) }
-
-      -- where a store can't be made, all of it is stuck
-      pub saves_stuck : (why : Why) → IsObstacle first sp top (length registers) why → in_turn map (saves top registers) next first ≡ Stuck why
-      saves_stuck why is =
-          let k = is.at in
-          let here = saving_to k (let few = is.within in omega (arith, few)) is.before in
-          let s = here.state in
-          let does : op_does (Store Sw (get_or registers k 0) 2 (pos (top - 4 * k - 4))) s next ≡ Stops why =
-          next_store k s is.within here.is ∙ is.cause (λ a. Goes (puts a (bytes_of (reg_of s (get_or registers k 0))) next)) in
-          here.is.same ∙ ap (λ l. in_turn map (saves (top - 4 * k) l) next s) (left_is sp top k registers is.within)
-          ∙ ap (λ d. and_then (applied map s d) (in_turn map (saves (top - 4 * k - 4) (drop (suc k) registers)) next)) does
+    -- where the first store can't be made, all of it is stuck
+    pub saves_stuck : (why : Why) → 0 < length registers → IsObstacle first sp top why → in_turn map (saves top registers) next first ≡ Stuck why
+    saves_stuck why some is =
+        let does : op_does (Store Sw (get_or registers 0 0) 2 (pos (top - 4 * 0 - 4))) first next ≡ Stops why =
+        next_store 0 first some saving_none ∙ is (λ a. Goes (puts a (bytes_of (reg_of first (get_or registers 0 0))) next)) in
+        saving_none.same ∙ ap (λ l. in_turn map (saves (top - 4 * 0) l) next first) (left_is sp top 0 registers some)
+        ∙ ap (λ d. and_then (applied map first d) (in_turn map (saves (top - 4 * 0 - 4) (drop 1 registers)) next)) does
 
 -- ---- loads
 
@@ -281,14 +299,11 @@ module _ (map : MemMap) (sp top : ℕ) (registers : List ℕ) (next : Place) (fi
         let made : applied map s (Goes change) ≡ Went s' [] = ends_within map sp (after_change change s) [] sp_is stack.low stack.high in
         record { state = s'; is = subst (λ m. IsLoading map sp top m registers next first s') (sym (one k)) (loading_more k s s' within (reached k (omega arith)) before.is made) }
 
-    -- where a load can't be made, all of it is stuck, whatever comes behind
-    pub loads_stuck : (why : Why) (js : List Instr) → IsObstacle first sp top (length registers) why → in_turn map (restores top registers ++ js) next first ≡ Stuck why
-    loads_stuck why js is =
-        let k = is.at in
-        let here = loading_to k (let few = is.within in omega (arith, few)) is.before in
-        let s = here.state in
-        let r : ℕ = get_or registers k 0 in
-        let does : op_does (Load Lw r 2 (pos (top - 4 * k - 4))) s next ≡ Stops why =
-        next_load k s is.within here.is ∙ is.cause (λ a. Goes (sets r (load_word Lw s a) next)) in
-        here.is.same js ∙ ap (λ l. in_turn map (restores (top - 4 * k) l ++ js) next s) (left_is sp top k registers is.within)
-        ∙ ap (λ d. and_then (applied map s d) (in_turn map (restores (top - 4 * k - 4) (drop (suc k) registers) ++ js) next)) does
+    -- where the first load can't be made, all of it is stuck, whatever comes behind
+    pub loads_stuck : (why : Why) (js : List Instr) → 0 < length registers → IsObstacle first sp top why → in_turn map (restores top registers ++ js) next first ≡ Stuck why
+    loads_stuck why js some is =
+        let r : ℕ = get_or registers 0 0 in
+        let does : op_does (Load Lw r 2 (pos (top - 4 * 0 - 4))) first next ≡ Stops why =
+        next_load 0 first some loading_none ∙ is (λ a. Goes (sets r (load_word Lw first a) next)) in
+        loading_none.same js ∙ ap (λ l. in_turn map (restores (top - 4 * 0) l ++ js) next first) (left_is sp top 0 registers some)
+        ∙ ap (λ d. and_then (applied map first d) (in_turn map (restores (top - 4 * 0 - 4) (drop 1 registers) ++ js) next)) does

@@ -30,14 +30,14 @@ module _ {X : Type 0} (f g h : ℕ → X → X) (both : (x : ℕ) (c : X) → f 
   cells_changed-after at [] = refl
   cells_changed-after at (c ∷ cs) = ap₂ (λ x xs. x ∷ xs) (both at c) (cells_changed-after (suc at) cs)
 
-  -- one change after another
+  -- two changes, one after another, are the change that does both to each cell
   pub changed-after : (rs : List (Region X)) → changed f (changed g rs) ≡ changed h rs
   changed-after [] = refl
   changed-after (r ∷ rs) = ap₂ (λ cs xs. record r { cells = cs } ∷ xs) (cells_changed-after r.at r.cells) (changed-after rs)
 
 -- ---- the stack below an address
 
--- it is undefined, and elsewhere bytes stay
+-- the stack below an address is undefined, and all other bytes stay
 module _ (m : MemMap) (sp x : ℕ) (c : SymByte) where
   undefined_there : m.stack_low ≤ x → x < sp → undefined_below m sp x c ≡ Undef
   undefined_there low lt =
@@ -57,7 +57,7 @@ pub settled_kept : (k : Kept) (sp : ℕ) (stack' : List SymByte) → IsKept k �
     → IsKept (record { map = k.map; bytes = k.bytes; stack = stack'; from = sp })
     × (regions_of (record { map = k.map; bytes = k.bytes; stack = stack'; from = sp }) ≡ changed (undefined_below k.map sp) (regions_of k))
 settled_kept k sp stack' is long each low high = (
-  record { stack = is.stack; size = long ∙ is.size; low = low; high = high; apart = is.apart; below = below },
+  record { map_is = is.map_is; size = long ∙ is.size; low = low; high = high; apart = is.apart; below = below },
   (λ j. record { kind = Data; at = k.map.data_low; cells = data_is j } ∷ record { kind = Stack; at = k.map.stack_low; cells = stack_is j } ∷ []),
 )
   where
@@ -103,7 +103,7 @@ pub changed_kept : (k : Kept) (f : ℕ → SymByte → SymByte) (bytes' stack' :
     → IsChanged f k (record { map = k.map; bytes = bytes'; stack = stack'; from = k.from })
 changed_kept k f bytes' stack' is long_bytes long_stack data_each stack_each stack_stays = record {
   kept = record {
-    stack = is.stack;
+    map_is = is.map_is;
     size = long_stack ∙ is.size;
     low = is.low;
     high = is.high;

@@ -14,7 +14,7 @@ none_then (Num b) = refl
 none_then (Part v i) = refl
 none_then Undef = refl
 
--- one number more
+-- if i bytes are numbers and the next one is a number too, i + 1 bytes are
 pub numbers_more : (memory : List (Region SymByte)) (a i : ℕ) (bytes : List ℕ) (b : ℕ) → numbers_at memory a i ≡ Some bytes → cell_at Undef memory (a + i) ≡ Num b
     → numbers_at memory a (i + 1) ≡ Some (bytes ++ b ∷ [])
 numbers_more memory a zero bytes b so_far is =
@@ -40,7 +40,7 @@ numbers_more memory a (suc i) bytes b so_far is =
     by more (Part v k) o first rest both = absurd cc
     by more Undef o first rest both = absurd cc
 
--- one of them is no number
+-- if one of n bytes is no number, there are no n numbers
 pub numbers_none : (memory : List (Region SymByte)) (a i n : ℕ) → ((o : Option (List ℕ)) → then_number (cell_at Undef memory (a + i)) o ≡ None) → i < n → numbers_at memory a n ≡ None
 numbers_none memory a i zero none lt = absurd (omega arith)
 numbers_none memory a zero (suc n) none lt =
@@ -55,11 +55,11 @@ numbers_none memory a (suc i) (suc n) none lt =
 abbrev pub IsNoNumber : SymByte → Type 0
 IsNoNumber b = ((v : Value) × (part : ℕ) × (b ≡ Part v part)) ⊎ (b ≡ Undef)
 
--- and what comes of it
+-- before a byte that is no number there is no list of numbers
 pub no_number : (b : SymByte) (o : Option (List ℕ)) → IsNoNumber b → then_number b o ≡ None
 no_number b o is = ⊎_elim (λ part. ap (λ c. then_number c o) part.2) (λ undefined. ap (λ c. then_number c o) undefined) is
 
--- the same of a byte that was read from cells
+-- a byte that was read from cells adds its number, or there are no numbers
 module _ (memory : List (Region SymByte)) (a i : ℕ) (cells : List SymByte) (p : ℕ) (at : cell_at Undef memory (a + i) ≡ get_or cells p Undef) (inside : p < length cells) where
   read : cell_at Undef memory (a + i) ≡ get_or cells p (Num 0)
   read = at ∙ get_or_default cells p Undef (Num 0) inside

@@ -26,7 +26,7 @@ module _ (p : Pooled) (size : ℕ) where
   pub get_or-cells : (i : ℕ) (d : SymByte) → i < size → get_or (cells_of_pages p size) i d ≡ pooled_cell p i
   get_or-cells i d lt = get_or-map-range_with_len (pooled_cell p) 0 size i i d lt (omega arith)
 
-  -- the same of a list that they are
+  -- the count and the cells, by the list of cells that the pages are
   module _ (seen : List SymByte) (is : cells_of_pages p size ≡ seen) where
     pub size_seen : size ≡ length seen
     size_seen = sym length-cells ∙ ap length is
@@ -49,7 +49,7 @@ module _ {q : Pooled} (p : Pooled) (view : q ≡ p) (i : ℕ) (within : i < 4096
   cell_read j same = ap (λ (q : Pooled). page_cell q page (j % 4096)) view ∙ ap (λ g. page_cell p g (j % 4096)) (sym page_read ∙ ap (page_of p) (sym same))
 
 module _ {q : Pooled} (p : Pooled) (view : q ≡ p) (i : ℕ) (within : i < 4096 * length p.pages) (n : ℕ) (read : Page) (there : read ≡ get_or q.pages (i / 4096) read) where
-  -- a number and a cell so many further on in the page
+  -- a number and a cell that are k further on in the same page
   pub number_further : read ≡ Numbers n → (k : ℕ) → i % 4096 + k < 4096 → Num (slice_index q.numbers (4096 * n + i % 4096 + k)) ≡ pooled_cell p (i + k)
   number_further is k one =
       let index : 4096 * n + i % 4096 + k ≡ 4096 * n + (i + k) % 4096 = omega (arith, one) in
@@ -453,7 +453,7 @@ cells_fit p is number within wanted =
     let sum = sum_by-set cells_wanted p.pages number (Cells 1) (Cells 0) within in
     omega (arith, is.cell_room, sum, wanted)
 
--- one element more after so many
+-- a list with k elements more gets one element more
 module _ {X : Type 0} (before now after : List X) (k : ℕ) (b d : X) (given : ℕ → X) (is : after ≡ now ++ b ∷ []) (long : length now ≡ length before + k) where
   pub length-pushed : length after ≡ length before + (k + 1)
   length-pushed = ap length is ∙ length-append now (b ∷ []) ∙ (let e : length now + 1 ≡ length before + (k + 1) = omega (arith, long) in e)

@@ -1,6 +1,6 @@
 -- Pushes and pops as a whole: what they come to if all accesses can be made, and the cause if they are stuck, in the order of what
 -- they stand for. A pop's loads and its a0 leave a state (Loaded) from which sp is raised and the pop goes on or returns.
-use Rattle.std.proofs.Common.{◌≡◌, ℕ, suc, pos, negsuc, ◌+◌, ◌-◌, ◌*◌, ◌%◌, ◌^◌, ◌<◌, List, [], ◌∷◌, ◌++◌, length, Some, None, Bool, true, false, cond, refl, sym, ap, ◌∙◌, subst, arith, drop, get_or, eqb, leb, ltb, get_or-set_other, get_or-set_same}
+use Rattle.std.proofs.Common.{◌≡◌, ℕ, suc, pos, negsuc, ◌+◌, ◌-◌, ◌*◌, ◌%◌, ◌^◌, ◌<◌, ◌≤◌, List, [], ◌∷◌, ◌++◌, length, Some, None, Bool, true, false, cond, refl, sym, ap, ◌∙◌, subst, arith, drop, get_or, eqb, leb, ltb, get_or-set_other, get_or-set_same}
 use Rattle.std.specs.Prelude.{All, ◌&&◌, nat_le}
 use Rattle.std.proofs.Math.Seq.{drop-length}
 use Rattle.std.proofs.lemmas.Bool.{and_parts, cond-false, leb-true, ne_eqb}
@@ -15,7 +15,7 @@ use Rattle.rv_decode.specs.Bits.{add32}
 use Rattle.rv_decode.specs.Memory.{changed}
 use Rattle.sym_machine.specs.Change.{Goes, jump_does, load_word, sets}
 use Rattle.sym_machine.specs.Expansions.{restores, saves}
-use Rattle.sym_machine.specs.Invariants.Frames.{AreReached, HasStack, IsFrameRegister, IsLoading, IsObstacle, IsZeroed, behind_loads, pop_target, word_address}
+use Rattle.sym_machine.specs.Invariants.Frames.{AreReached, HasStack, IsFrameBytes, IsFrameRegister, IsLoading, IsObstacle, IsZeroed, behind_loads, pop_target, word_address}
 use Rattle.sym_machine.specs.State.{PlainCore, reg_of}
 use Rattle.sym_machine.specs.Step.{Stuck, Went, after_change, and_then, applied, in_turn, undefined_below}
 use Rattle.sym_machine.specs.Words.{code_of, code_word, number_of, number_word, numeric, undef_word}
@@ -32,6 +32,8 @@ use Rattle.sym_machine.proofs.StateLaws.{sp_outside}
 use Rattle.sym_machine.proofs.StepLaws.{ended, ends_within, extents-made, settled}
 use Rattle.sym_machine.proofs.WordLaws.{number_back}
 use Rattle.zc_decode.specs.Lists.{registers_of, saved_registers}
+use Rattle.zc_decode.specs.Operands.{IsFrameSize}
+use Rattle.zc_decode.proofs.OperandLaws.{frame_list, frame_range, frame_room}
 
 -- ---- sp moves
 
@@ -82,17 +84,16 @@ module _ (map : MemMap) (s : PlainCore) (sp adjust : ℕ) (stack : HasStack map 
 
   -- a store can't be made
   pub push_stuck :
-      (why : Why) → is_within map (add32 sp (negsuc (adjust - 1))) ≡ true → IsObstacle s (add32 sp (negsuc (adjust - 1))) adjust (length registers) why
+      (why : Why) → is_within map (add32 sp (negsuc (adjust - 1))) ≡ true → 0 < length registers → IsObstacle s (add32 sp (negsuc (adjust - 1))) adjust why
       → in_turn map (WithImm Addi 2 2 (negsuc (adjust - 1)) ∷ saves adjust registers) next s ≡ Stuck why
-  push_stuck why inside is =
+  push_stuck why inside some is =
       let s1 = moved map s many lowered below next in
       let h = move_goes map s many lowered below next inside in
       let end = (ended map (after_change (sets 2 (number_word lowered) next) s) s1 [] [] h).0 in
       let number : number_of (reg_of s1 2) ≡ Some lowered = sp_set map s many lowered below next in
-      let q = and_parts (leb map.stack_low lowered) (leb lowered map.stack_high) inside in
       lowers ∙ ap (λ t. and_then t (in_turn map (saves adjust registers) next)) h
-      ∙ saves_stuck map lowered adjust registers next s1 below number (leb-true map.stack_low lowered q.0) (leb-true lowered map.stack_high q.1) why
-      (obstacle_same s s1 lowered adjust (length registers) why (extents-made map s s1 (Goes (sets 2 (number_word lowered) next)) [] h) is)
+      ∙ saves_stuck map lowered adjust registers next s1 below number why some
+      (obstacle_same s s1 lowered adjust why (extents-made map s s1 (Goes (sets 2 (number_word lowered) next)) [] h) is)
 
   -- all of it can be made
   pub push_goes :
@@ -112,6 +113,27 @@ list_registers list = by (eqb list 15)
     by : (b : Bool) → All IsFrameRegister (cond b saved_registers (drop (16 - list) saved_registers))
     by true = all_saved
     by false = All-drop IsFrameRegister (16 - list) saved_registers all_saved
+
+-- what is known of a list and its frame, in the code's names for them
+pub record IsListed (frame : ℕ) (rs : List ℕ) : Type 0 where
+  pub size : IsFrameBytes frame
+  pub known : All IsFrameRegister rs
+  pub some : 0 < length rs
+  pub last : get_or rs (length rs - 1) 0 ≡ 1
+  pub room : 4 * length rs ≤ frame
+
+pub is_listed : (list adjust frame : ℕ) (rs : List ℕ) → IsFrameSize list adjust → frame ≡ adjust → rs ≡ registers_of list → IsListed frame rs
+is_listed list adjust frame rs size frame_is rs_is =
+    let of = frame_list list adjust size in
+    let range = frame_range list adjust size in
+    let room = frame_room list adjust size in
+    record {
+      size = record { some = omega (arith, frame_is, range.least); most = omega (arith, frame_is, range.most); words = omega (arith, frame_is, range.whole) };
+      known = subst (All IsFrameRegister) (sym rs_is) (list_registers list);
+      some = subst (λ (l : List ℕ). 0 < length l) (sym rs_is) of.some;
+      last = subst (λ (l : List ℕ). get_or l (length l - 1) 0 ≡ 1) (sym rs_is) of.last;
+      room = subst (λ (l : List ℕ). 4 * length l ≤ frame) (sym rs_is) (omega (arith, room, frame_is));
+    }
 
 -- what stands behind sp's rise
 abbrev pub returns_of : PopEnd → List Instr
@@ -175,7 +197,7 @@ module _ (map : MemMap) (sp frame : ℕ) (end : PopEnd) (registers : List ℕ) (
       pub state : PlainCore
       pub is : Loaded state
 
-    -- there is such a state if all loads can be made
+    -- if all loads can be made, there is a state after them
     pub loaded_some : sp < 2 ^ 32 → All IsFrameRegister registers → HasStack map sp first → AreReached first sp frame (length registers) → ALoaded
     loaded_some small known stack reached =
         let at = loading_to map sp frame registers next first small known stack (length registers) (omega arith) reached.each in
@@ -202,10 +224,6 @@ module _ (map : MemMap) (sp frame : ℕ) (next : Place) (z : PlainCore) (stack :
       ap (λ w. and_then (applied map z (Goes (sets 2 w next))) (in_turn map is next))
       (cond-false (eqb frame 0) (reg_of z 2) (numeric (number_of (reg_of z 2)) (λ n. add32 n (pos frame))) (ne_eqb frame 0 (λ e. omega (arith, e, some)))
       ∙ ap (λ o. numeric o (λ n. add32 n (pos frame))) stack.number)
-
-  -- sp would leave the stack
-  pub raise_outside : (is : List Instr) → is_within map (add32 sp (pos frame)) ≡ false → in_turn map (WithImm Addi 2 2 (pos frame) ∷ is) next z ≡ Stuck StackPointer
-  raise_outside is out = raise_is is ∙ ap (λ t. and_then t (in_turn map is next)) (move_stuck map z many_z raised raised_small next out)
 
   module _ (inside : is_within map (add32 sp (pos frame)) ≡ true) where
     raise_goes : (is : List Instr) → in_turn map (WithImm Addi 2 2 (pos frame) ∷ is) next z ≡ in_turn map is next s3

@@ -90,7 +90,7 @@ stays p r r' status exited h =
     let left = recorded_went r.core [] r r' (ap (λ t. recorded t r) (sym (step_past_exit p r.core status exited)) ∙ h) in
     (sym left.0, left.1 ∙ append-nil r.events)
 
--- and so it does over any steps
+-- after the exit the state stays over any number of steps
 pub all_stay : (p : Program) (n : ℕ) (r r' : PlainState) (status : ℕ) → r.core.exit ≡ Some status → iterate (plain_turn p) n r ≡ Ok r' → (r'.core ≡ r.core) × (r'.events ≡ r.events)
 all_stay p zero r r' status exited h = let same : r ≡ r' = cc in (ap (λ x. x.core) (sym same), ap (λ x. x.events) (sym same))
 all_stay p (suc n) r r' status exited h =
@@ -128,14 +128,14 @@ stuck_turn : (p : Program) (s : PlainCore) (before : List Event) (why : Why) →
 unfolding plain_turn
 stuck_turn p s before why stuck = ap (λ t. recorded t (record { core = s; events = before })) stuck
 
--- one more step
+-- if step n + 1 is made, the run goes on to its state
 plain_more : (p : Program) (input : List ℕ) (n : ℕ) (s s' : PlainState) → program_after p input n ≡ Ok s → plain_turn p s ≡ Ok s' → program_after p input (n + 1) ≡ Ok s'
 unfolding program_after
 plain_more p input n s s' before turn =
     iterate-add (plain_turn p) n 1 (record { core = first_plain p input; events = [] })
     ∙ ap (λ r. r >>= iterate (plain_turn p) 1) before ∙ iterate-one (plain_turn p) s s' turn
 
--- one that isn't made
+-- if step n + 1 isn't made, the run stops there
 plain_stuck : (p : Program) (input : List ℕ) (n : ℕ) (s : PlainState) (stop : Place × Why) → program_after p input n ≡ Ok s → plain_turn p s ≡ Err stop → program_after p input (n + 1) ≡ Err stop
 unfolding program_after
 plain_stuck p input n s stop before turn =
@@ -144,7 +144,7 @@ plain_stuck p input n s stop before turn =
 
 -- ---- what events write
 
--- one event more
+-- with one event more, what it writes comes after what the events before it write
 written_to-more : (stream : ℕ) (events : List Event) (e : Event) → written_to stream (events ++ e ∷ []) ≡ written_to stream events ++ bytes_to stream e
 written_to-more stream events e = flat_map-append (bytes_to stream) events (e ∷ []) ∙ ap (λ xs. written_to stream events ++ xs) (append-nil (bytes_to stream e))
 
@@ -155,7 +155,7 @@ wrote_more events e a b c first second =
 
 -- ---- runs
 
--- the run has come to this state, after so many steps, and has written what its events write
+-- the run has come to this state after `count` steps, and has written what its events write
 pub record Came (p : Program) (input : List ℕ) (count : ℕ) (s : PlainCore) (before now : Desk) : Type 0 where
   pub events : List Event
   pub so_far : program_after p input count ≡ Ok (record { core = s; events = events })
@@ -183,7 +183,7 @@ RunsTo-refl p s of = record {
   runs = λ input count events so_far. let same : count + 0 ≡ count = omega arith in ap (program_after p input) same ∙ so_far;
 }
 
--- and by one step more from wherever it came to
+-- one step more, without an event, after k steps without one
 pub RunsTo-more :
     (p : Program) (s last s2 : PlainCore) (k : ℕ) → RunsTo p s last k → s2.exit ≡ last.exit → plain_step p last ≡ Went s2 [] → RunsTo p s s2 (k + 1)
 RunsTo-more p s last s2 k so_far exit went = record {
@@ -196,7 +196,7 @@ RunsTo-more p s last s2 k so_far exit went = record {
       (went_turn p last s2 events [] went ∙ ap (λ l. Ok (record { core = s2; events = l })) (append-nil events));
 }
 
--- and by one that is made by what stands at the place
+-- one step more that is made by the item at the place
 pub RunsTo-made :
     (p : Program) (map : MemMap) (s last s2 : PlainCore) (k : ℕ) (q next : Place) (item : Item)
     → plain_step p last ≡ item_step map p (p.item q) last (p.next q) → p.item q ≡ Some item → p.next q ≡ next

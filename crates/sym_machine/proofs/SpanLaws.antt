@@ -37,7 +37,7 @@ module _ {m k : Kept} (view : m ≡ k) (is : IsKept m) (a n i : ℕ) (at : IsSpa
       ap (λ (s : Kept). get_or s.stack j Undef) view ∙ ap (λ l. get_or k.stack l Undef) here
       ∙ byte_in_stack k (subst IsKept view is) x (omega (arith, at, from))
 
--- the same of data
+-- bytes that are kept in data
 module _ {m k : Kept} (view : m ≡ k) (a n i : ℕ) (at : IsSpan k a n (span.Data i)) where
   pub data_there : lies_in is_data (extents_of (regions_of k)) a n ≡ true
   data_there =
@@ -83,6 +83,6 @@ module _ {m k : Kept} (view : m ≡ k) (is : IsKept m) (a i : ℕ) (bytes cells 
       subst (λ (s : Kept). IsChanged (written a (length bytes) (λ l. get_or bytes l Undef)) s (record { map = m.map; bytes = m.bytes; stack = cells; from = m.from })) view
       (stored_stack m is a i bytes cells (at ∙ ap (λ (s : Kept). s.map.stack_low + i) (sym view)) (omega (arith, kept, ap (λ (s : Kept). s.from) view)) long each)
 
--- one byte
+-- a write of one byte
 pub written_byte : (k k' : Kept) (a : ℕ) (b : SymByte) → IsChanged (written a (length (b ∷ [])) (λ l. get_or (b ∷ []) l Undef)) k k' → IsChanged (written a 1 (λ _. b)) k k'
 written_byte k k' a b is = subst (λ (f : ℕ → SymByte → SymByte). IsChanged f k k') (λ j x c. written_one a (λ l. get_or (b ∷ []) l Undef) (λ _. b) refl x c j) is

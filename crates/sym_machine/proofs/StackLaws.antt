@@ -253,7 +253,7 @@ opened_already i n s one h = record {
   stays = λ j lt h. h;
 }
 
--- one cell more
+-- if n cells are open and then one more, n + 1 are
 pub opened_more : (i n : ℕ) (s t u : Strips) → i + n < length s.cells → AreOpened i n s t → AreOpened (i + n) 1 t u → AreOpened i (n + 1) s u
 opened_more i n s t u within first second = record {
   size = second.size ∙ first.size;

@@ -255,8 +255,8 @@ module _ (k : Kept) (is : IsKept k) (p : Program) (of : extents_of (regions_of k
   high_is : k.map.stack_high ≡ p.map.stack_high
   high_is =
       let sizes : k.map.stack_high - k.map.stack_low ≡ p.map.stack_high - p.map.stack_low = sym is.size ∙ ap (λ es. (second es).size) of ∙ length_blank (p.map.stack_high - p.map.stack_low) Undef in
-      omega (arith, is.stack, low_is, sizes)
+      omega (arith, is.map_is.stack, low_is, sizes)
 
-  -- so a step is the program's
+  -- a step of the machine is a step of the program
   pub step_of : (s : PlainCore) → s.exit ≡ None → plain_step p s ≡ item_step k.map p (p.item s.place) s (p.next s.place)
   step_of s running = step_running p s running ∙ item_by p.map k.map p (p.item s.place) s (p.next s.place) (sym low_is) (sym high_is)

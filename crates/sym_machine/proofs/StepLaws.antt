@@ -46,7 +46,7 @@ step_single p s running single =
     step_running p s running
     ∙ ap (λ o. option_map_or (λ is. in_turn p.map is (p.next s.place) s) o (applied p.map s (item_does p (p.item s.place) s (p.next s.place)))) single
 
--- and if it is, these one after another
+-- if an item stands for several instructions, a step makes these one after another
 pub step_expansion :
     (p : Program) (s : PlainCore) (is : List Instr) → s.exit ≡ None → item_expansion (p.item s.place) ≡ Some is → plain_step p s ≡ in_turn p.map is (p.next s.place) s
 step_expansion p s is running are =
@@ -103,7 +103,7 @@ unfolding ends
 ends_outside map sp s events is out =
     ap (λ o. ends_at o map s events) is ∙ cond-false (leb map.stack_low sp && leb sp map.stack_high) _ _ out
 
--- and so it is with an unknown sp
+-- with an sp that isn't known a step is stuck
 pub ends_unknown : (map : MemMap) (s : PlainCore) (events : List Event) → number_of (reg_of s 2) ≡ None → ends map s events ≡ Stuck StackPointer
 unfolding ends
 ends_unknown map s events is = ap (λ o. ends_at o map s events) is
@@ -121,7 +121,7 @@ made_by m n s (Goes c) low high = by (number_of (reg_of (after_change c s) 2))
         (Went (record (after_change c s) { memory = changed (λ a old. cond (leb (low j) a && ltb a sp) Undef old) (after_change c s).memory }) c.events)
         (Stuck StackPointer)
 
--- and so it is for instructions one after another
+-- instructions one after another do the same under two maps with the same stack
 pub in_turn_by :
     (m n : MemMap) (is : List Instr) (next : Place) (s : PlainCore) → m.stack_low ≡ n.stack_low → m.stack_high ≡ n.stack_high → in_turn m is next s ≡ in_turn n is next s
 in_turn_by m n [] next s low high = refl

@@ -99,7 +99,7 @@ module _ (a b : ℕ) (below_a : a < 2 ^ 32) (below_b : b < 2 ^ 32) where
   number_reg Rem first second zero_a zero_b = both Rem
   number_reg Remu first second zero_a zero_b = both Remu
 
--- the same by what the registers hold
+-- an operation on two registers whose words are numbers
 pub registers_reg : (s : PlainCore) (op : RegOp) (first second a b : ℕ) → a < 2 ^ 32 → b < 2 ^ 32 → reg_of s first ≡ number_word a → reg_of s second ≡ number_word b
     → number_word (reg_result op a b) ≡ reg_word op first second (reg_of s first) (reg_of s second)
 registers_reg s op first second a b below_a below_b is_a is_b =

@@ -1,10 +1,11 @@
 -- What a write leaves of each cell: at other addresses, one write after another, and an element at a time.
 use Rattle.std.proofs.Common.{◌≡◌, ◌≢◌, ℕ, ◌+◌, ◌-◌, ◌<◌, ◌≤◌, List, cond, length, get_or, set, map, refl, sym, ap, ◌∙◌, arith, slice_index, ◌⊎◌, inl, inr, leb, ltb, Bool, true, false, get_or-set_same, get_or-set_other}
 use Rattle.std.specs.Prelude.{◌&&◌}
-use Rattle.std.proofs.lemmas.Bool.{and_from, and_parts, cases_eq, cases_lt, cond-true, le-leb, leb-true, lt-ltb, ltb-true}
+use Rattle.std.proofs.lemmas.Bool.{and_from, and_parts, cases_eq, le-leb, leb-true, lt-ltb, ltb-true}
 use Rattle.std.proofs.lemmas.List.{get_or-map, length-map}
 use Rattle.rv_decode.specs.Memory.{written}
 use Rattle.rv_decode.proofs.MemoryLaws.{untouched}
+pub use Rattle.rv_decode.proofs.WriteLaws.{written_further, written_moved, written_none, written_there}
 use Rattle.sym_machine.specs.declared.word.SymByte.TheVariants.{Num, Undef}
 
 pub not_below : (a b : ℕ) → b ≤ a → ltb a b ≡ false
@@ -14,25 +15,7 @@ not_below a b le = either (ltb a b) refl
     either true h = absurd (let l = ltb-true a b h in omega (arith, l, le))
     either false h = refl
 
-pub written_there : {X : Type 0} (a n : ℕ) (given : ℕ → X) (x : ℕ) (old : X) → a ≤ x → x < a + n → written a n given x old ≡ given (x - a)
-written_there a n given x old low high = cond-true (leb a x && ltb x (a + n)) (given (x - a)) old (and_from (leb a x) (ltb x (a + n)) (le-leb a x low) (lt-ltb x (a + n) high))
-
-pub written_moved : {X : Type 0} (a b n : ℕ) (given : ℕ → X) (x y : ℕ) (old : X) → a + y ≡ b + x → written a n given x old ≡ written b n given y old
-written_moved a b n given x y old is = either (leb a x && ltb x (a + n)) refl
-  where
-    either : (t : Bool) → (leb a x && ltb x (a + n)) ≡ t → cond t (given (x - a)) old ≡ written b n given y old
-    either true h =
-        let q = and_parts (leb a x) (ltb x (a + n)) h in
-        let low = leb-true a x q.0 in
-        let high = ltb-true x (a + n) q.1 in
-        let same : x - a ≡ y - b = omega (arith, is, low) in
-        ap given same ∙ sym (written_there b n given y old (omega (arith, is, low)) (omega (arith, is, high)))
-    either false h = sym (untouched b n given y old (λ low high. outside (omega (arith, is, low)) (omega (arith, is, high))))
-      where
-        outside : a ≤ x → x < a + n → ⊥
-        outside low high = let yes = and_from (leb a x) (ltb x (a + n)) (le-leb a x low) (lt-ltb x (a + n) high) in cc
-
--- one cell
+-- a write of one cell goes only by its first byte
 pub written_one : {X : Type 0} (a : ℕ) (given rest : ℕ → X) → given 0 ≡ rest 0 → (x : ℕ) (c : X) → written a 1 given x c ≡ written a 1 rest x c
 written_one a given rest same x c = either (leb a x && ltb x (a + 1)) refl
   where
@@ -43,33 +26,7 @@ written_one a given rest same x c = either (leb a x && ltb x (a + 1)) refl
         ap given first ∙ same ∙ ap rest (sym first)
     either false h = refl
 
--- no cell is written
-pub written_none : {X : Type 0} (a : ℕ) (given : ℕ → X) (x : ℕ) (c : X) → written a 0 given x c ≡ c
-written_none a given x c = untouched a 0 given x c (λ low high. omega (arith, low, high))
-
--- so many cells more, one write after the other
-pub written_further : {X : Type 0} (a n m : ℕ) (given rest : ℕ → X) → ((k : ℕ) → k < m → rest k ≡ given (n + k)) → (x : ℕ) (c : X)
-    → written (a + n) m rest x (written a n given x c) ≡ written a (n + m) given x c
-written_further a n m given rest same x c = by_place (cases_lt x a) (cases_lt x (a + n)) (cases_lt x (a + (n + m)))
-  where
-    by_place : (x < a) ⊎ (a ≤ x) → (x < a + n) ⊎ (a + n ≤ x) → (x < a + (n + m)) ⊎ (a + (n + m) ≤ x)
-        → written (a + n) m rest x (written a n given x c) ≡ written a (n + m) given x c
-    by_place (inl below) q r =
-        untouched (a + n) m rest x (written a n given x c) (λ low high. omega (arith, below, low))
-        ∙ untouched a n given x c (λ low high. omega (arith, below, low)) ∙ sym (untouched a (n + m) given x c (λ low high. omega (arith, below, low)))
-    by_place (inr from) (inl first) r =
-        untouched (a + n) m rest x (written a n given x c) (λ low high. omega (arith, first, low))
-        ∙ written_there a n given x c from first ∙ sym (written_there a (n + m) given x c from (omega (arith, first)))
-    by_place (inr from) (inr after) (inl last) =
-        let index : n + (x - (a + n)) ≡ x - a = omega (arith, after) in
-        written_there (a + n) m rest x (written a n given x c) after (omega (arith, last))
-        ∙ same (x - (a + n)) (omega (arith, after, last)) ∙ ap given index
-        ∙ sym (written_there a (n + m) given x c from last)
-    by_place (inr from) (inr after) (inr past) =
-        untouched (a + n) m rest x (written a n given x c) (λ low high. omega (arith, past, high))
-        ∙ untouched a n given x c (λ low high. omega (arith, after, high)) ∙ sym (untouched a (n + m) given x c (λ low high. omega (arith, past, high)))
-
--- one cell more
+-- a write of n cells and then of one behind them is one write of n + 1 cells
 pub written_more : {X : Type 0} (a n : ℕ) (given : ℕ → X) (x : ℕ) (c : X) → written (a + n) 1 (λ _. given n) x (written a n given x c) ≡ written a (n + 1) given x c
 written_more a n given x c = written_further a n 1 given (λ _. given n) (λ k lt. ap given (let e : n ≡ n + k = omega (arith, lt) in e)) x c
 

@@ -28,7 +28,7 @@ bytes_of w = w.b0 ∷ w.b1 ∷ w.b2 ∷ w.b3 ∷ []
 
 -- ---- absolute addresses
 
--- the upper part
+-- the word of an address's upper part
 abbrev pub high_word : Target → SymWord
 high_word (target.Code q) = value_word (value.AbsHi q)
 high_word (target.Number n) = number_word (hi20_of n * 2 ^ 12)

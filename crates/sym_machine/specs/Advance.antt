@@ -10,7 +10,7 @@ use Rattle.sym_machine.specs.Run.{program_after}
 use Rattle.sym_machine.specs.State.{PlainCore}
 use Rattle.sym_machine.specs.Step.{plain_step}
 
--- whichever run has come to this state comes to the other one by so many steps more, none of which is an event
+-- whenever a run has come to state s, k steps more take it to state s2, and none of them is an event
 pub record RunsTo (p : Program) (s s2 : PlainCore) (k : ℕ) : Type 0 where
   pub exit : s2.exit ≡ s.exit
   pub of : IsOf p s2
@@ -18,7 +18,7 @@ pub record RunsTo (p : Program) (s s2 : PlainCore) (k : ℕ) : Type 0 where
       → program_after p input count ≡ Ok (record { core = s; events = events })
       → program_after p input (count + k) ≡ Ok (record { core = s2; events = events })
 
--- so many steps without an event, and then one of which this is the answer and the state after it
+-- the machine made k steps without an event from state s, and then a step with this answer, which left state s2
 pub record Advanced (p : Program) (s s2 : PlainCore) (k : ℕ) (step : Result SymStep AllocError) : Type 0 where
   pub last : PlainCore
   pub runs : RunsTo p s last k

@@ -1,5 +1,5 @@
 -- What the answers of the code say of the definitions.
-use Rattle.std.specs.Prelude.{◌≡◌, ℕ, ◌≤◌, ◌⊎◌, true, List, [], ◌∷◌, length, take, Some, None, Result, Ok, Err}
+use Rattle.std.specs.Prelude.{◌≡◌, ℕ, ◌≤◌, ◌⊎◌, true, List, [], ◌∷◌, length, take, Option, Some, None, Result, Ok, Err}
 use Rattle.std.specs.declared.alloc.AllocError.{AllocError}
 use Rattle.rv_decode.specs.State.{Event, Exit, Read, Write}
 use Rattle.sym_machine.specs.declared.answer.SymStep.{SymStep}
@@ -25,7 +25,12 @@ StepAnswers step (answer.Exited status) old new =
 StepAnswers step (answer.Stuck place why) old new =
     (old.exit ≡ None) × (new ≡ old) × (place ≡ old.place) × (step ≡ Stuck why)
 
--- the same, but that a refusal for want of memory changes nothing
+-- a step without events: the program runs on, or the step is stuck for this cause and changes nothing
+abbrev pub RunsOnUnlessStuck : PlainStep → Option Why → PlainCore → PlainCore → Type 0
+RunsOnUnlessStuck step None old new = RunsOn step [] old new
+RunsOnUnlessStuck step (Some why) old new = (old.exit ≡ None) × (new ≡ old) × (step ≡ Stuck why)
+
+-- a step with this answer, or a refusal when there is no memory, which changes nothing
 abbrev pub Makes : Result SymStep AllocError → PlainStep → PlainCore → PlainCore → Type 0
 Makes (Ok answer) step old new = StepAnswers step answer old new
 Makes (Err e) step old new = new ≡ old

@@ -54,7 +54,7 @@ sets rd w q = record (continues q) { writes = (rd, w) ∷ [] }
 
 -- ---- memory
 
--- whether so many bytes from an address on lie in data, or in the stack
+-- whether n bytes from an address on lie in data, or in the stack
 abbrev pub in_memory : PlainCore → ℕ → ℕ → Bool
 in_memory s a n = lies_in is_data (extents_of s.memory) a n
 
@@ -63,7 +63,7 @@ abbrev pub accessing : ℕ → Option ℕ → PlainCore → (ℕ → Does) → D
 accessing n None s go = Stops AddressUnknown
 accessing n (Some a) s go = if a % n == 0 then (if in_memory s a n then go a else Stops BadAddress) else Stops Misaligned
 
--- what a load gives: its bytes are copied, and those above are signs or zeros
+-- the word that a load gives: the bytes at the address are copied, and those above are signs or zeros
 abbrev pub load_word : LoadOp → PlainCore → ℕ → SymWord
 load_word Lb s a = byte_word (cell_of s a) (sign_of (cell_of s a))
 load_word Lh s a = half_word (cell_of s a) (cell_of s (a + 1)) (sign_of (cell_of s (a + 1)))
@@ -81,7 +81,7 @@ stored_bytes Sb w = w.b0 ∷ []
 stored_bytes Sh w = w.b0 ∷ w.b1 ∷ []
 stored_bytes Sw w = bytes_of w
 
--- bytes for memory from an address on, and then a place
+-- a change that writes bytes to memory from an address on, and then a place
 abbrev pub puts : ℕ → List SymByte → Place → Change
 puts a bytes q = record (continues q) { stores = (a, bytes) ∷ [] }
 

@@ -1,6 +1,7 @@
 -- What the machine keeps of a state, and the state that this stands for.
 use Rattle.std.specs.Prelude.{◌≡◌, ℕ, ◌+◌, ◌-◌, ◌<◌, ◌≤◌, List, [], ◌∷◌, length, map, Some, slice_index_or}
 use Rattle.zc_base.specs.declared.mem_map.MemMap.{MemMap}
+use Rattle.zc_base.specs.MemMap.{IsMap}
 use Rattle.rv_decode.specs.Memory.{Region, Data, Stack, cell_at, changed, extents_of}
 use Rattle.sym_machine.specs.declared.held.Held.{Held}
 use Rattle.sym_machine.specs.declared.held.Held.TheVariants as held
@@ -35,7 +36,7 @@ pub record Kept : Type 0 where
   pub stack : List SymByte
   pub from : ℕ
 
--- the memory that they are
+-- memory as the program sees it: the regions of data and of the stack, whose bytes these are
 abbrev pub regions_of : Kept → List (Region SymByte)
 regions_of k =
     record { kind = Data; at = k.map.data_low; cells = k.bytes }
@@ -46,9 +47,10 @@ regions_of k =
 abbrev pub kept_from : Kept → ℕ
 kept_from k = k.from
 
--- the stack is as long as the map says, its bytes below the address are undefined, and data lie below it
+-- the map is one that a link may be made for, the stack is as long as it says, its bytes below the address are undefined, and data
+-- lie below it
 pub record IsKept (k : Kept) : Type 0 where
-  pub stack : k.map.stack_low < k.map.stack_high
+  pub map_is : IsMap k.map
   pub size : length k.stack ≡ k.map.stack_high - k.map.stack_low
   pub low : k.map.stack_low ≤ k.from
   pub high : k.from ≤ k.map.stack_high

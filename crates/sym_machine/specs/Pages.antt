@@ -34,7 +34,7 @@ pooled_cell p i = page_cell p (page_of p (i / 4096)) (i % 4096)
 abbrev pub pooled_word : Pooled → ℕ → SymWord
 pooled_word p i = record { b0 = pooled_cell p i; b1 = pooled_cell p (i + 1); b2 = pooled_cell p (i + 2); b3 = pooled_cell p (i + 3) }
 
--- so many cells from the first one on
+-- the first `size` cells
 abbrev pub cells_of_pages : Pooled → ℕ → List SymByte
 cells_of_pages p size = map (pooled_cell p) (range_with_len 0 size)
 
@@ -69,7 +69,7 @@ pub record IsPooled (p : Pooled) : Type 0 where
   pub cell_room : length p.cells + sum_by cells_wanted p.pages ≤ p.cell_room
   pub few : length p.pages ≤ 2 ^ 40
 
--- the same cells, in as many pages
+-- both pools have the same cells, in the same number of pages
 pub record IsSame (old new : Pooled) : Type 0 where
   pub pooled : IsPooled new
   pub count : length new.pages ≡ length old.pages
@@ -83,12 +83,12 @@ pub record IsMade (f : ℕ → SymByte → SymByte) (old new : Pooled) : Type 0 
 
 -- ---- what is written
 
--- bytes after these were written over them from an index on
+-- `new` is `old` with these bytes written over it from an index on
 abbrev pub AreBytesWritten : ℕ → List ℕ → List ℕ → List ℕ → Type 0
 AreBytesWritten at bytes old new =
     (j d : ℕ) → j < length old → slice_index_or new j d ≡ written at (length bytes) (λ i. slice_index bytes i) j (slice_index_or old j d)
 
--- the same of cells
+-- `new` is `old` with these cells written over it from an index on
 abbrev pub AreCellsWritten : ℕ → List SymByte → List SymByte → List SymByte → Type 0
 AreCellsWritten at cells old new =
     (j : ℕ) (d : SymByte) → j < length old → slice_index_or new j d ≡ written at (length cells) (λ i. slice_index_or cells i Undef) j (slice_index_or old j d)
@@ -101,7 +101,7 @@ cell_word cells i = record { b0 = slice_index_or cells i Undef; b1 = slice_index
 abbrev pub bytes_in : List ℕ → ℕ → SymWord
 bytes_in numbers i = record { b0 = Num (slice_index numbers i); b1 = Num (slice_index numbers (i + 1)); b2 = Num (slice_index numbers (i + 2)); b3 = Num (slice_index numbers (i + 3)) }
 
--- so many cells of pages
+-- the pages hold `size` cells or more
 pub record ArePages (p : Pooled) (size : ℕ) : Type 0 where
   pub pooled : IsPooled p
   pub covered : size ≤ 4096 * length p.pages

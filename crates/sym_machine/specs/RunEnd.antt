@@ -13,7 +13,7 @@ use Rattle.sym_machine.specs.Program.{Program}
 use Rattle.sym_machine.specs.Run.{program_after}
 use Rattle.sym_machine.specs.State.{PlainState}
 
--- the run of a program over an input, of at most so many steps; what stops it is that it is stuck at a place
+-- the run of a program over an input, of at most `steps` steps; what stops it is that it is stuck at a place
 abbrev pub plain_course : Program → List ℕ → ℕ → Course PlainState (Place × Why)
 plain_course p input steps = record {
   after = program_after p input;
@@ -31,7 +31,7 @@ Traced run end.Spent before after = EndsAfter run run.steps before after
 Traced run (end.Console fault) before after = EndsWithRefusal run fault before after
 Traced run end.OutOfMemory before after = EndsEarly run before after
 
--- the exit came after so many steps and no fewer: it is the last event, and what the program has then written to its output stands
+-- the exit came at step `count` and no earlier: it is the last event, and what the program wrote up to it is in the output
 pub record IsCounted (run : Course PlainState (Place × Why)) (count status : ℕ) (before after : Desk) : Type 0 where
   pub bytes : List ℕ
   pub exits : ExitsAt run count (record { bytes = bytes; status = status })
@@ -39,7 +39,7 @@ pub record IsCounted (run : Course PlainState (Place × Why)) (count status : �
   pub event : exits.last.events ≡ events ++ Exit status ∷ []
   pub wrote : Adds before.out after.out bytes
 
--- so it is of a run that came to an exit; of other ends the count says nothing
+-- if the run exited, `count` is the number of its steps; for other ends the count says nothing
 abbrev pub CountsSteps : Course PlainState (Place × Why) → TraceEnd → ℕ → Desk → Desk → Type 0
 CountsSteps run (end.Exited status) count before after = IsCounted run count status before after
 CountsSteps run (end.Stuck place why) count before after = ⊤

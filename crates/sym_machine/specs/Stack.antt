@@ -19,7 +19,7 @@ is_open s i = nat_le s.mark i && slice_index_or s.live (i / 32) false
 abbrev pub stack_cell : Strips → ℕ → SymByte
 stack_cell s i = if is_open s i then slice_index_or s.cells i Undef else Undef
 
--- the cells
+-- all cells of the stack, in order
 unfoldable pub stack_cells : Strips → List SymByte
 stack_cells s = map (stack_cell s) (range_with_len 0 (length s.cells))
 
@@ -28,13 +28,13 @@ pub record AreStrips (s : Strips) : Type 0 where
   pub mark : s.mark ≤ length s.cells
   pub live : length s.cells < 32 * length s.live
 
--- the same cells, of which those that were open still are
+-- `new` has the same cells as `old`, and those that were open still are
 pub record AreAlike (old new : Strips) : Type 0 where
   pub size : length new.cells ≡ length old.cells
   pub cell : (j : ℕ) → j < length old.cells → stack_cell new j ≡ stack_cell old j
   pub stays : (j : ℕ) → j < length old.cells → is_open old j ≡ true → is_open new j ≡ true
 
--- so many cells from an index on are open, and the others are the same
+-- n cells from an index on are open, and all other cells are the same; those that were open still are
 pub record AreOpened (i n : ℕ) (old new : Strips) : Type 0 where
   pub size : length new.cells ≡ length old.cells
   pub reached : (j : ℕ) → i ≤ j → j < i + n → is_open new j ≡ true

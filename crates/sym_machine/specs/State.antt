@@ -18,7 +18,7 @@ pub record PlainCore : Type 0 where
   pub input : List ℕ
   pub exit : Option ℕ
 
--- with the events so far
+-- a state of the machine, with the events up to it
 pub record PlainState : Type 0 where
   pub core : PlainCore
   pub events : List Event

@@ -15,7 +15,7 @@ why_number StackPointer = 7
 why_number NoInstruction = 8
 why_number UnknownCall = 9
 
--- its name
+-- the name that is printed for a cause
 abbrev pub why_name : Why → List ℕ
 why_name AddressUnknown = codes "AddressUnknown"
 why_name ConditionUnknown = codes "ConditionUnknown"

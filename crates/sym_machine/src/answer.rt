@@ -3,8 +3,8 @@
 use crate::why::Why;
 use zc_base::place::Place;
 
-/// What a step comes to: the machine went on, and has read so many bytes or written these to the
-/// output (1) or to the output for errors (2); or it exited, or is stuck.
+/// What a step comes to: the machine went on, and has read `count` bytes or written these bytes to the output (1) or to
+/// the output for errors (2); or it exited, or is stuck.
 #[derive(Drop)]
 pub enum SymStep {
     Done,

@@ -44,7 +44,7 @@ pub fn copy_up(cells: &mut [SymByte], start: usize, given: &[SymByte])
     }
 }
 
-/// Makes so many cells from an index up undefined.
+/// Makes `count` cells from an index on undefined.
 pub fn fill_up(cells: &mut [SymByte], start: usize, count: usize)
     requires { start + count ≤ length cells.old }
     ensures len { length cells.new ≡ length cells.old }
@@ -56,7 +56,7 @@ pub fn fill_up(cells: &mut [SymByte], start: usize, count: usize)
     }
 }
 
-/// Makes so many flags from an index up false.
+/// Makes `count` flags from an index on false.
 pub fn end_up(live: &mut [bool], start: usize, count: usize)
     requires { start + count ≤ length live.old }
     ensures len { length live.new ≡ length live.old }

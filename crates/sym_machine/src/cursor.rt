@@ -23,7 +23,7 @@ pub struct Cursor<'a> {
 }
 
 impl<'a> Cursor<'a> {
-    /// At a place, if its section is there.
+    /// A cursor at a place, if its section is there.
     #[inline(always)]
     pub fn new(cut: &'a Cut, p: Place) -> Option<Cursor<'a>>
         ensures { IfSome result (IsCursor (parsed cut.now)) }
@@ -39,7 +39,7 @@ impl<'a> Cursor<'a> {
         Some(cursor.turned(p.offset))
     }
 
-    // At another offset of the section.
+    // The cursor at another offset of the section.
     #[inline(always)]
     fn turned(self, offset: u32) -> Cursor<'a>
         ensures { (inputs : ParsedInputs) → IsCursor inputs self.entry → IsCursor inputs result }
@@ -62,7 +62,7 @@ impl<'a> Cursor<'a> {
         p.object == self.object && p.section == self.section
     }
 
-    // At a place that isn't the one that is looked at, if its section is there.
+    // The cursor at a place that isn't the one that is looked at, if its section is there.
     #[inline(always)]
     fn moved(self, cut: &'a Cut, p: Place) -> Option<Cursor<'a>>
         requires { IsCursor (parsed cut.now) self }
@@ -74,7 +74,7 @@ impl<'a> Cursor<'a> {
         Cursor::new(cut, p)
     }
 
-    /// At the next place.
+    /// The cursor at the next place.
     #[inline(always)]
     pub fn next(self) -> Cursor<'a>
         ensures { (inputs : ParsedInputs) → IsCursor inputs self.entry → IsCursor inputs result }

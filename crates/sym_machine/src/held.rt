@@ -32,7 +32,7 @@ impl Held {
         }
     }
 
-    // The same if the lowest byte isn't undefined.
+    // The word of four bytes of which the lowest isn't undefined.
     fn of_known(bytes: SymWord) -> Held
         ensures { word_of result ≡ bytes }
     {
@@ -120,7 +120,7 @@ impl Held {
         }
     }
 
-    /// Becomes a place's address, in the same way.
+    /// Becomes a place's address. If it is one already, only the place is written and not the whole word.
     #[inline(always)]
     pub fn set_code(&mut self, q: Place)
         ensures { self.new ≡ Held.Code q }

@@ -5,6 +5,7 @@ ghost use Rattle.rv_decode.specs.Memory.{Kind, blank, cell_at, changed, extents_
 ghost use Rattle.sym_machine.specs.Kept.{IsKept, IsSpan, kept_from, regions_of};
 ghost use Rattle.sym_machine.specs.Step.{undefined_below};
 ghost use Rattle.sym_machine.specs.declared.word.SymByte.TheVariants.{Undef};
+ghost use Rattle.zc_base.specs.MemMap.{IsMap};
 
 mod reads;
 mod writes;
@@ -40,7 +41,7 @@ impl Model for SymMemory {
 impl SymMemory {
     /// Memory with these bytes of data, and a stack that nothing was written to.
     pub fn new(alloc: Global, map: MemMap, bytes: Pages) -> Result<SymMemory, AllocError>
-        requires stack { map.stack_low < map.stack_high }
+        requires map { IsMap map }
         requires apart { map.data_low + length bytes ≤ map.stack_low }
         ensures { IfOk result (λ m. m ≡ record {
           map = map;
@@ -58,7 +59,7 @@ impl SymMemory {
         })
     }
 
-    /// Whether so many bytes from an address on lie in data, or in the stack.
+    /// Whether `n` bytes from an address on lie in data, or in the stack.
     pub fn reaches(&self, a: u32, n: u32) -> bool
         ensures { result ≡ lies_in is_data (extents_of (regions_of self.now)) a n }
     {
@@ -97,7 +98,7 @@ impl SymMemory {
         SymByte::Undef
     }
 
-    // Where so many bytes from an address on are kept.
+    // Where `n` bytes from an address on are kept.
     #[inline(always)]
     fn span(&self, a: u32, n: usize) -> Span
         requires { n < 2 ^ 63 }
@@ -137,7 +138,7 @@ impl SymMemory {
     }
 }
 
-// Whether so many bytes from an address on lie in the bytes of a region.
+// Whether `n` bytes from `a` on lie in a region of `size` bytes at `at`.
 fn spans(at: u32, size: u64, a: u32, n: u32) -> bool
     requires { size < 2 ^ 63 }
     ensures { (kind : Kind) → result ≡ spans (record { kind = kind; at = at; size = size }) a n }

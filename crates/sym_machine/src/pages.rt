@@ -33,7 +33,7 @@ impl Model for Pages {
 }
 
 impl Pages {
-    /// So many undefined cells.
+    /// `size` undefined cells.
     pub fn undefined(alloc: Global, size: usize) -> Result<Pages, AllocError>
         requires { size ≤ 2 ^ 32 }
         ensures { IfOk result (λ pages. pages ≡ blank size Undef) }
@@ -53,7 +53,7 @@ impl Pages {
         Ok(pages)
     }
 
-    // So many zeros.
+    // `size` zeros.
     fn zeros(alloc: Global, size: usize) -> Result<Pages, AllocError>
         requires { size ≤ 2 ^ 32 }
         ensures { IfOk result (λ pages. pages ≡ replicate size (Num 0)) }
@@ -62,7 +62,7 @@ impl Pages {
         Ok(Pages { size, pool })
     }
 
-    /// How many cells there are.
+    /// The number of cells.
     #[inline(always)]
     pub fn len(&self) -> usize
         ensures value { result ≡ length self.now }
@@ -129,7 +129,7 @@ impl Pages {
         self.pool.word(i)
     }
 
-    // The same cell by cell.
+    // The word of the four cells from an index on, cell by cell: they lie in two pages.
     #[cold]
     fn word_across(&self, i: usize) -> SymWord
         requires { i + 4 ≤ length self.now }

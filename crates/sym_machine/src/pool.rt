@@ -42,7 +42,7 @@ impl Model for Pool {
 }
 
 impl Pool {
-    /// So many pages, all held by one page.
+    /// `count` pages, all held by one page.
     pub fn new(alloc: Global, count: usize, page: Page) -> Result<Pool, AllocError>
         requires { count ≤ 2 ^ 40 }
         ensures pages { IfOk result (λ p. p.pages ≡ replicate count page) }
@@ -180,7 +180,7 @@ impl Pool {
         }
     }
 
-    // Makes so many cells from an index on undefined, which lie in one page.
+    // Makes `count` cells from an index on undefined, which lie in one page.
     fn clear_page(&mut self, at: usize, count: usize)
         requires pooled { IsPooled self.old }
         requires within { at < 4096 * length self.old.pages }
@@ -329,7 +329,7 @@ fn word_of(b0: &SymByte, b1: &SymByte, b2: &SymByte, b3: &SymByte) -> Option<u32
 
 // What is read at an offset of a page in a pool. The pools' vectors are lent, since bounds are proved faster of one alone.
 
-// The number there.
+// The number at an offset of a page of numbers.
 #[inline(always)]
 fn byte_in_numbers(numbers: &Vec<u8>, page: usize, offset: usize) -> u8
     requires { 4096 * page + offset + 1 ≤ length numbers.now.items }
@@ -338,7 +338,7 @@ fn byte_in_numbers(numbers: &Vec<u8>, page: usize, offset: usize) -> u8
     numbers[PAGE * page + offset]
 }
 
-// The cell there.
+// The cell at an offset of a page of cells.
 #[inline(always)]
 fn cell_in_cells(cells: &Vec<SymByte>, page: usize, offset: usize) -> SymByte
     requires { 4096 * page + offset + 1 ≤ length cells.now.items }
@@ -347,7 +347,7 @@ fn cell_in_cells(cells: &Vec<SymByte>, page: usize, offset: usize) -> SymByte
     cells[PAGE * page + offset]
 }
 
-// The number that the cell there is, if it is one.
+// The number that the cell at an offset is, if it is one.
 #[inline(always)]
 fn byte_in_cells(cells: &Vec<SymByte>, page: usize, offset: usize) -> Option<u8>
     requires { 4096 * page + offset + 1 ≤ length cells.now.items }
@@ -356,7 +356,7 @@ fn byte_in_cells(cells: &Vec<SymByte>, page: usize, offset: usize) -> Option<u8>
     number_of(&cells[PAGE * page + offset])
 }
 
-// The two numbers from there on.
+// The two numbers from an offset on.
 #[inline(always)]
 fn pair_in_numbers(numbers: &Vec<u8>, page: usize, offset: usize) -> (u8, u8)
     requires { 4096 * page + offset + 2 ≤ length numbers.now.items }
@@ -367,7 +367,7 @@ fn pair_in_numbers(numbers: &Vec<u8>, page: usize, offset: usize) -> (u8, u8)
     (numbers[x], numbers[x + 1])
 }
 
-// The numbers that the two cells from there on are, if both are numbers.
+// The numbers that the two cells from an offset on are, if both are numbers.
 #[inline(always)]
 fn pair_in_cells(cells: &Vec<SymByte>, page: usize, offset: usize) -> Option<(u8, u8)>
     requires { 4096 * page + offset + 2 ≤ length cells.now.items }
@@ -378,7 +378,7 @@ fn pair_in_cells(cells: &Vec<SymByte>, page: usize, offset: usize) -> Option<(u8
     pair_of(&cells[x], &cells[x + 1])
 }
 
-// The word of the four numbers from there on.
+// The word of the four numbers from an offset on.
 #[inline(always)]
 fn word_in_numbers(numbers: &Vec<u8>, page: usize, offset: usize) -> SymWord
     requires { 4096 * page + offset + 4 ≤ length numbers.now.items }
@@ -393,7 +393,7 @@ fn word_in_numbers(numbers: &Vec<u8>, page: usize, offset: usize) -> SymWord
     }
 }
 
-// The word of the four cells from there on.
+// The word of the four cells from an offset on.
 #[inline(always)]
 fn word_in_cells(cells: &Vec<SymByte>, page: usize, offset: usize) -> SymWord
     requires { 4096 * page + offset + 4 ≤ length cells.now.items }
@@ -408,7 +408,7 @@ fn word_in_cells(cells: &Vec<SymByte>, page: usize, offset: usize) -> SymWord
     }
 }
 
-// The number that the four numbers from there on are, the lowest first.
+// The number that the four numbers from an offset on are, the lowest first.
 #[inline(always)]
 fn number_in_numbers(numbers: &Vec<u8>, page: usize, offset: usize) -> u32
     requires { 4096 * page + offset + 4 ≤ length numbers.now.items }
@@ -418,7 +418,7 @@ fn number_in_numbers(numbers: &Vec<u8>, page: usize, offset: usize) -> u32
     u32::from_le_bytes([numbers[x], numbers[x + 1], numbers[x + 2], numbers[x + 3]])
 }
 
-// The number that the four cells from there on are, if all are numbers.
+// The number that the four cells from an offset on are, if all are numbers.
 #[inline(always)]
 fn number_in_cells(cells: &Vec<SymByte>, page: usize, offset: usize) -> Option<u32>
     requires { 4096 * page + offset + 4 ≤ length cells.now.items }

@@ -27,8 +27,8 @@ pub enum TraceEnd {
     OutOfMemory,
 }
 
-/// Runs the symbolic machine from the objects' start for at most so many steps. What the program writes
-/// goes to the console, each write in one piece.
+/// Runs the symbolic machine from the objects' start for at most `steps` steps. What the program writes goes to the
+/// console, each write in one piece.
 pub fn run<C: Console>(sym: &mut Sym, cut: &Cut, steps: u64, console: &mut C) -> TraceEnd
     requires start { sym.old ≡ first_plain (program_of (parsed cut.now)) sym.old.input }
     ensures ran { Traced (plain_course (program_of (parsed cut.now)) sym.old.input steps) result

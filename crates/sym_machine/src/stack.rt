@@ -16,7 +16,7 @@ use crate::word::{SymByte, SymWord};
 use std::alloc::{AllocError, Global};
 use std::marker::Model;
 
-// How many cells a strip has.
+// The number of cells in a strip.
 const STRIP: usize = 32;
 
 /// The cells of a stack.
@@ -38,7 +38,7 @@ impl Model for Stack {
 }
 
 impl Stack {
-    /// So many undefined cells.
+    /// `size` undefined cells.
     pub fn undefined(alloc: Global, size: usize) -> Result<Stack, AllocError>
         requires { size ≤ 2 ^ 32 }
         ensures { IfOk result (λ stack. stack_cells stack ≡ blank size Undef) }
@@ -53,7 +53,7 @@ impl Stack {
         })
     }
 
-    /// How many cells there are.
+    /// The number of cells.
     #[inline(always)]
     pub fn len(&self) -> usize
         ensures value { result ≡ length (stack_cells self.now) }
@@ -136,7 +136,7 @@ impl Stack {
         }
     }
 
-    // The same cell by cell.
+    // The word of the four cells from an index on, cell by cell.
     #[cold]
     fn word_across(&self, i: usize) -> SymWord
         requires { i + 4 ≤ length (stack_cells self.now) }
@@ -195,7 +195,7 @@ impl Stack {
         self.mark = self.mark.max(i);
     }
 
-    // Opens so many cells from an index on. What they are until they are written isn't said.
+    // Opens `n` cells from an index on. What they are until they are written isn't said.
     #[inline(always)]
     fn open(&mut self, i: usize, n: usize)
         requires { i + n ≤ length self.old.cells }
@@ -210,7 +210,7 @@ impl Stack {
         }
     }
 
-    // The same of cells that don't lie in one strip.
+    // Opens `n` cells from an index on that lie in more than one strip.
     #[cold]
     #[inline(never)]
     fn open_across(&mut self, i: usize, n: usize)
@@ -224,7 +224,7 @@ impl Stack {
         }
     }
 
-    // The same of cells that lie in one strip.
+    // Opens `n` cells from an index on that lie in one strip.
     fn open_strip(&mut self, i: usize, n: usize)
         requires some { 0 < n }
         requires within { i + n ≤ length self.old.cells }

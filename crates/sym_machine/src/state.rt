@@ -120,7 +120,7 @@ impl State {
         self.registers[r as usize].number()
     }
 
-    /// Whether so many bytes from an address on lie in data, or in the stack.
+    /// Whether `n` bytes from an address on lie in data, or in the stack.
     pub fn reaches(&self, a: u32, n: u32) -> bool
         ensures { result ≡ in_memory self.now.core a n }
     {
@@ -147,7 +147,7 @@ impl State {
         }
     }
 
-    /// The same if it is a number and the bytes are kept.
+    /// The number that a load from an address gives, if it gives one and the bytes are kept.
     #[inline(always)]
     pub fn loaded_number(&self, op: LoadOp, a: u32) -> Option<u32>
         ensures there { IfSome result (λ _. in_memory self.now.core a (load_width op) ≡ true) }
@@ -203,7 +203,7 @@ impl State {
             && matches!(memory.byte(a + 3), SymByte::Undef)
     }
 
-    /// The so many bytes from an address on, if all are numbers.
+    /// The `n` bytes from an address on, if all are numbers.
     pub fn numbers(&self, a: u32, n: u32) -> Result<Option<Vec<u8>>, AllocError>
         ensures { IfOk result (λ found. MatchOption found
             (numbers_at self.now.core.memory a n ≡ None)

@@ -51,8 +51,8 @@ impl Sym {
         self.state.step(cut)
     }
 
-    /// Makes at most so many steps, up to the first that answers more than that it is done. Says how many came before
-    /// that one, and what it answered. A program has this loop once, whatever consoles its runs write to.
+    /// Makes at most `steps` steps, up to the first with an answer other than that it is done. Returns how many came
+    /// before that one, and its answer. A program has this loop once, whatever consoles its runs write to.
     #[inline(never)]
     pub fn advance(&mut self, cut: &Cut, steps: u64) -> (u64, Result<SymStep, AllocError>)
         requires some { 0 < steps }

@@ -24,7 +24,7 @@ pub enum SymByte {
 }
 
 impl SymByte {
-    /// The bytes above it, if it has a sign.
+    /// The byte that fills the bytes above this one, if this one has a sign.
     pub fn sign(self) -> SymByte
         ensures { result ≡ sign_of self }
     {

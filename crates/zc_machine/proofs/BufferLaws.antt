@@ -18,7 +18,7 @@ module _ (z : ZcCore) where
       let next : suc a + i ≡ a + suc i = omega arith in
       get_or-bytes_at (suc a) n i d (omega arith) ∙ ap (byte_in z) next
 
-  -- those of one part and then those of the next
+  -- the bytes of one part and then those of the next
   pub bytes_at-add : (a m n : ℕ) → bytes_at z a (m + n) ≡ bytes_at z a m ++ bytes_at z (a + m) n
   bytes_at-add a zero n =
       let none : 0 + n ≡ n = omega arith in

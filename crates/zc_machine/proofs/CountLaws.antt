@@ -1,4 +1,4 @@
--- How many commits a run makes. Until the exit each turn is one, and after it the state stays: so the commits are as many as the
+-- How many commits a run makes. Until the exit each turn is one, and after it the state stays: so there are as many commits as
 -- turns up to the exit. A run with an exit never stops, and one whose events have an exit has exited.
 use Rattle.std.specs.List.{list_any}
 use Rattle.std.specs.Option.{option_map_or}
@@ -56,7 +56,7 @@ turns-exited happens zero r status exited = refl
 turns-exited happens (suc m) r status exited =
     ap (λ q. q >>= turns (λ k. happens (suc k)) m) (turn-exited (happens 0) r status exited) ∙ turns-exited (λ k. happens (suc k)) m r status exited
 
--- so a program that hasn't exited hadn't before
+-- a program that hasn't exited hadn't exited before
 running_before : (happens : ℕ → ZcCore → ZcCore) (m : ℕ) (r s : ZcState) → turns happens m r ≡ Ok s → s.core.exit ≡ None → r.core.exit ≡ None
 running_before happens m r s came running = by r.core.exit refl
   where
@@ -78,7 +78,7 @@ is_exit (Exit status) = true
 none_more : (events : List Event) (e : Event) → (is_exit e || false) ≡ false → list_any is_exit events ≡ false → list_any is_exit (events ++ e ∷ []) ≡ false
 none_more events e other none = list_any-append is_exit events (e ∷ []) ∙ ap (λ b. b || (is_exit e || false)) none ∙ other
 
--- it is a commit, and only with the exit itself do the events get one
+-- a turn is a commit, and only with the exit itself do the events get an exit
 record IsCommit (before : ℕ) (events : List Event) (s : ZcState) : Type 0 where
   counts : s.core.commits ≡ before + 1
   quiet : s.core.exit ≡ None → list_any is_exit events ≡ false → list_any is_exit s.events ≡ false
@@ -114,7 +114,7 @@ turn_commits happens keeps r s running made =
 
 -- ---- turns
 
--- m turns from one state come to another; so many of them are commits, and of these only the last may be the exit
+-- m turns lead from one state to another; `made` of them are commits, and of these only the last may be the exit
 pub record IsCounted (happens : ℕ → ZcCore → ZcCore) (m : ℕ) (r s : ZcState) : Type 0 where
   pub made : ℕ
   pub within : made ≤ m
@@ -122,7 +122,7 @@ pub record IsCounted (happens : ℕ → ZcCore → ZcCore) (m : ℕ) (r s : ZcSt
   pub state : turns happens made r ≡ Ok s
   pub first : (k : ℕ) (t : ZcState) → k < made → turns happens k r ≡ Ok t → t.core.exit ≡ None
 
--- before a turn the program hasn't exited, and then not before so many more
+-- if the program hasn't exited before a turn, nor before n turns after it, it hasn't before n + 1
 first_before :
     (happens : ℕ → ZcCore → ZcCore) (r r1 : ZcState) → r.core.exit ≡ None → turn (happens 0) r ≡ Ok r1 → (n : ℕ)
     → ((k : ℕ) (t : ZcState) → k < n → turns (λ j. happens (suc j)) k r1 ≡ Ok t → t.core.exit ≡ None)

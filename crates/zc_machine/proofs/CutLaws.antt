@@ -111,7 +111,7 @@ word_of_list [] top j a known got = absurd cc
 word_of_list (r ∷ rs) top zero a known got = let same : a.register ≡ r = cc in λ e. All-head (λ r. r ≢ 2) r rs known (sym same ∙ e)
 word_of_list (r ∷ rs) top (suc j) a known got = word_of_list rs (add32 top (negsuc 3)) j a (All-tail (λ r. r ≢ 2) r rs known) got
 
--- so no access is of sp
+-- no access is of sp
 access_of : (s : Short) (sp j : ℕ) (a : Access) → slice_get (accesses_of s sp) j ≡ Some a → a.register ≢ 2
 access_of (Base i) sp j a got = absurd cc
 access_of (Push list adjust) sp j a got = word_of_list (registers_of list) sp j a (not_sp list) got

@@ -77,7 +77,7 @@ push_interrupted : ZcCore
 push_interrupted =
     interrupted (record { done = 0 ∷ []; dirt = (0xFFFFFFC, 0xEE) ∷ (0xFFFFFFD, 0xEE) ∷ (0xFFFFFFE, 0xEE) ∷ (0xFFFFFFF, 0xEE) ∷ [] }) push_and_pop
 
--- it starts again from where it was
+-- the push starts again from where it was
 push_starts_again : (push_interrupted.pc ≡ 0x10000) × (reg_in push_interrupted 2 ≡ 0x10000000) × (word_at push_interrupted 0xFFFFFFC ≡ 0xEEEEEEEE)
 unfolding push_interrupted push_and_pop blank decoded decoded16 form_of
 push_starts_again = (refl, refl, refl)
@@ -85,7 +85,7 @@ push_starts_again = (refl, refl, refl)
 push_committed : ZcCore
 push_committed = core_after (zc_step push_interrupted) push_interrupted
 
--- and saves both
+-- the push saves both registers
 push_saves : (word_at push_committed 0xFFFFFFC ≡ 0x11223344) × (word_at push_committed 0xFFFFFF8 ≡ 0x10010) × (reg_in push_committed 2 ≡ 0xFFFFFF0)
 unfolding push_committed push_interrupted push_and_pop blank decoded decoded16 form_of zc_step
 push_saves = (refl, refl, refl)

@@ -1,19 +1,20 @@
 -- Pushes and pops. A step meets the first obstacle, or makes all accesses and commits. One after another: an access changes no
 -- obstacle of the rest. Together: what is saved is one write, and what is restored comes from the cells that are reached. Each
 -- law that the code's proofs cite speaks of a state y, as the code has it, that is the clauses' z.
-use Rattle.std.proofs.Common.{◌≡◌, ℕ, zero, suc, ◌+◌, ◌-◌, ◌*◌, ◌%◌, ◌^◌, ◌<◌, ◌≤◌, List, [], ◌∷◌, ◌++◌, length, drop, take, get_or, set, get_or-set_other, drop-cons, add-one, Bool, true, false, cond, eqb, leb, ltb, Option, Some, None, refl, sym, ap, ap₂, ◌∙◌, arith, slice_index, length-append, length-drop, ◌⊎◌, inl, inr, ⊎_elim}
+use Rattle.std.proofs.Common.{◌≡◌, ℕ, zero, suc, ◌+◌, ◌-◌, ◌*◌, ◌%◌, ◌^◌, ◌<◌, ◌≤◌, List, [], ◌∷◌, ◌++◌, length, drop, take, get_or, set, get_or-set_other, drop-cons, add-one, Bool, true, false, cond, eqb, Option, Some, None, refl, sym, ap, ap₂, ◌∙◌, arith, slice_index, length-append, length-drop, ◌⊎◌, inl, inr, ⊎_elim}
 use Rattle.std.specs.Prelude.{◌&&◌, All, is_none, is_some, negsuc, slice_get}
 use Rattle.std.specs.Option.{option_map, option_map_or, option_or}
-use Rattle.std.proofs.lemmas.Bool.{and_from, cases_eq, cases_lt, cond-false, cond-true, eq-eqb, le-leb, lt-ltb, ne_eqb}
+use Rattle.std.proofs.lemmas.Bool.{cases_eq, cases_lt, cond-false, cond-true, eq-eqb, ne_eqb}
 use Rattle.std.proofs.lemmas.List.{get_or-append_right, get_or-drop, get_or-take, get_or_append_left, length-take-le}
 use Rattle.std.proofs.lemmas.List.Elements.{All-head, All-tail}
 use Rattle.std.proofs.lemmas.Option.{slice_get-get_or, slice_get_past}
 use Rattle.zc_base.specs.Fields.{with_word, word_bytes, word_in}
 use Rattle.rv_decode.specs.Bits.{add32}
 use Rattle.rv_decode.specs.Effect.{Effect, BadAccess, Commits, Misaligned, onward}
-use Rattle.rv_decode.specs.Memory.{Region, byte_of, cells_changed, changed, extents_of, is_data, lies_in, written}
+use Rattle.rv_decode.specs.Memory.{Region, byte_of, changed, extents_of, is_data, lies_in, written}
 use Rattle.rv_decode.specs.State.{ZcCore, byte_in, reg_in, set_reg, word_at}
 use Rattle.rv_decode.proofs.MemoryLaws.{extents-changed, lies_inside, untouched}
+use Rattle.rv_decode.proofs.WriteLaws.{changed-after, written_there}
 use Rattle.zc_decode.specs.Accesses.{Access, sp_after, words_below}
 use Rattle.zc_decode.specs.Effect.{all_accessed, framed, reaching_all, restored, returned, saved, short_effect, zeroed}
 use Rattle.zc_decode.specs.Lists.{registers_of}
@@ -78,7 +79,7 @@ effect_step-reaching_all [] z go = refl
 effect_step-reaching_all (a ∷ rest) z go =
     step_after (eqb (a.at % 4) 0) (lies_in is_data (extents_of z.memory) a.at 4) z (reaching_all rest z go) go (obstacle rest z) (effect_step-reaching_all rest z go)
 
--- they depend on where regions lie alone
+-- obstacles depend only on where the regions lie
 pub obstacle-extents : (xs : List Access) (y z : ZcCore) → extents_of y.memory ≡ extents_of z.memory → obstacle xs y ≡ obstacle xs z
 obstacle-extents [] y z same = refl
 obstacle-extents (a ∷ rest) y z same =
@@ -93,7 +94,7 @@ pub rest_free : (p q : Option Reason) → is_none (option_or p q) ≡ true → i
 rest_free None q free = free
 rest_free (Some reason) q free = absurd cc
 
--- then a word can be loaded and stored there
+-- a word can be loaded and stored at an access
 abbrev pub is_possible : Access → ZcCore → Bool
 is_possible a z = eqb (a.at % 4) 0 && lies_in is_data (extents_of z.memory) a.at 4
 
@@ -150,7 +151,7 @@ module _ (bytes : List ℕ) (at v : ℕ) (room : at + 4 ≤ length bytes) where
   byte_at (suc (suc (suc zero))) lt = omega arith
   byte_at (suc (suc (suc (suc i)))) lt = absurd (omega arith)
 
-  -- there are its bytes
+  -- at the address are the word's bytes
   with_word-at : (i : ℕ) → i < 4 → get_or (with_word bytes at v) (at + i) 0 ≡ byte_of v i
   unfolding with_word
   with_word-at i lt =
@@ -172,17 +173,6 @@ words_put-after regs (r ∷ rs) end bytes k is room later =
 
 -- ---- two writes in one
 
-cells_changed-twice : (f g : ℕ → ℕ → ℕ) (at : ℕ) (cs : List ℕ) → cells_changed f at (cells_changed g at cs) ≡ cells_changed (λ x c. f x (g x c)) at cs
-cells_changed-twice f g at [] = refl
-cells_changed-twice f g at (c ∷ cs) = ap (λ xs. f at (g at c) ∷ xs) (cells_changed-twice f g (suc at) cs)
-
-changed-twice : (f g : ℕ → ℕ → ℕ) (rs : List (Region ℕ)) → changed f (changed g rs) ≡ changed (λ x c. f x (g x c)) rs
-changed-twice f g [] = refl
-changed-twice f g (r ∷ rs) = ap₂ (λ cs xs. record r { cells = cs } ∷ xs) (cells_changed-twice f g r.at r.cells) (changed-twice f g rs)
-
-written-given : (a n : ℕ) (f : ℕ → ℕ) (x c : ℕ) → a ≤ x → x < a + n → written a n f x c ≡ f (x - a)
-written-given a n f x c low high = cond-true (leb a x && ltb x (a + n)) (f (x - a)) c (and_from (leb a x) (ltb x (a + n)) (le-leb a x low) (lt-ltb x (a + n) high))
-
 -- a write of m bytes, and one of n behind them
 written-joined : (a m n : ℕ) (f g : ℕ → ℕ) → ((i : ℕ) → i < n → f (m + i) ≡ g i) → (x c : ℕ) → written a m f x (written (a + m) n g x c) ≡ written a (m + n) f x c
 written-joined a m n f g given x c = by_place (cases_lt x a) (cases_lt x (a + m)) (cases_lt x (a + (m + n)))
@@ -192,14 +182,14 @@ written-joined a m n f g given x c = by_place (cases_lt x a) (cases_lt x (a + m)
         untouched a m f x (written (a + m) n g x c) (λ low high. omega (arith, low, before))
         ∙ untouched (a + m) n g x c (λ low high. omega (arith, low, before))
         ∙ sym (untouched a (m + n) f x c (λ low high. omega (arith, low, before)))
-    by_place (inr low) (inl within) third = written-given a m f x (written (a + m) n g x c) low within ∙ sym (written-given a (m + n) f x c low (omega (arith, within)))
+    by_place (inr low) (inl within) third = written_there a m f x (written (a + m) n g x c) low within ∙ sym (written_there a (m + n) f x c low (omega (arith, within)))
     by_place (inr low) (inr later) (inl within) =
         let same : m + (x - (a + m)) ≡ x - a = omega (arith, later) in
         untouched a m f x (written (a + m) n g x c) (λ l high. omega (arith, high, later))
-        ∙ written-given (a + m) n g x c later (omega (arith, within))
+        ∙ written_there (a + m) n g x c later (omega (arith, within))
         ∙ sym (given (x - (a + m)) (omega (arith, within, later)))
         ∙ ap f same
-        ∙ sym (written-given a (m + n) f x c low within)
+        ∙ sym (written_there a (m + n) f x c low within)
     by_place (inr low) (inr later) (inr past) =
         untouched a m f x (written (a + m) n g x c) (λ l high. omega (arith, high, later))
         ∙ untouched (a + m) n g x c (λ l high. omega (arith, high, past))
@@ -223,7 +213,7 @@ saved_together [] low end bytes z is small room none =
 saved_together (r ∷ rs) low end bytes z is small room none =
     ap (λ t. all_made saved (words_below t rs) (saved (record { at = t; register = r }) z)) at
     ∙ saved_together rs low (end - 4) (with_word bytes (end - 4) v) y (omega arith) (omega arith) (omega (arith, long)) none
-    ∙ ap (λ m. record z { memory = m }) (changed-twice (written low (end - 4) given) (written (low + (end - 4)) 4 (byte_of (reg_in z r))) z.memory ∙ ap (λ f. changed f z.memory) (λ i x c. joined x c i))
+    ∙ ap (λ m. record z { memory = m }) (changed-after (written low (end - 4) given) (written (low + (end - 4)) 4 (byte_of (reg_in z r))) (written low end given) joined z.memory)
   where
     v : ℕ
     v = slice_index z.regs r
@@ -447,7 +437,7 @@ stops z w moved o found reason step left is why meets after =
     let stopped = is ∙ ap (λ p. option_map_or Stopped p left) (sym why ∙ meets) in
     (sym (ap answer_of stopped), after ∙ ap (λ (p : Option Reason). cond (is_none p) moved z) meets ∙ sym (ap (λ s. core_after s z) stopped))
 
--- one that meets none commits what is then made of the state after the accesses
+-- an instruction whose accesses meet no obstacle commits what is then made of the state after them
 pub goes_on :
     (z w moved last : ZcCore) (make : ZcCore → ZcCore) (o found : Option Reason) (step : ZcStep) (result : Step) → step ≡ option_map_or Stopped found (Committed (make moved)) → o ≡ found → o ≡ None → w ≡ cond (is_none o) moved z
     → result ≡ answer.Committed → last ≡ make w → (result ≡ answer_of step) × (last ≡ core_after step z)
@@ -465,7 +455,7 @@ slice_get-words_below (r ∷ rs) top (suc j) small =
     let same : (add32 top (negsuc 3) + (2 ^ 32 - 4 * (j + 1))) % 2 ^ 32 ≡ (top + (2 ^ 32 - 4 * (suc j + 1))) % 2 ^ 32 = omega arith in
     slice_get-words_below rs (add32 top (negsuc 3)) j (omega arith) ∙ ap (λ a. option_map (λ r. record { at = a; register = r }) (slice_get rs j)) same
 
--- that of a list, as the code finds it
+-- the access of a list, as the code finds it
 pub access_at :
     (list rs : List ℕ) (top number index again : ℕ) → rs ≡ list → index ≡ number → again ≡ number → index < length rs → number < 256
     → slice_get (words_below top list) number ≡ Some (record { at = (top + (2 ^ 32 - 4 * (again + 1))) % 2 ^ 32; register = get_or rs index 0 })

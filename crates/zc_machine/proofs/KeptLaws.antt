@@ -1,4 +1,4 @@
--- What is kept of code stays what stands there when one more entry is kept.
+-- What is kept of code stays right when one entry more is kept.
 use Rattle.std.proofs.Common.{◌≡◌, ℕ, zero, suc, ◌+◌, ◌-◌, ◌*◌, ◌<◌, ◌≤◌, ◌++◌, List, [], ◌∷◌, drop, get_or, length, length-append, replicate, set, refl, sym, subst, ap, ◌∙◌, arith, ⊎_elim}
 use Rattle.std.proofs.lemmas.Bool.{cases_eq}
 use Rattle.std.proofs.lemmas.List.{get_or-set_other, get_or-set_same, length-replicate}
@@ -15,7 +15,7 @@ get_or-padded (x ∷ xs) n zero = refl
 get_or-padded (x ∷ xs) n (suc k) = get_or-padded xs n k
 
 module _ (bytes : List ℕ) (kept : List Kept) (capacity : ℕ) (are : IsCodeCache bytes kept capacity) where
-  -- one more entry, of what stands at its halfword
+  -- one entry more, of the instruction at its halfword
   pub kept_more :
       (index more : ℕ) (entry : Kept) (entries : List Kept) → IsDecodedFrom entry (drop (2 * index) bytes)
       → entries ≡ extended_to_index kept index → capacity ≤ more → IsCodeCache bytes (set entries index entry) more

@@ -42,13 +42,13 @@ module _ (s : SegmentData) (ss : List SegmentData) (m : MemMap) (is_code : s.cod
   first_spans : (a n : ℕ) → s.at ≤ a → a + n ≤ s.at + length s.bytes → spans (extent_of (region_of s)) a n ≡ true
   first_spans a n low high = and_from (leb s.at a) (leb (a + n) (s.at + length (region_of s).cells)) (le-leb s.at a low) (le-leb (a + n) (s.at + length (region_of s).cells) (omega (arith, length_region)))
 
-  -- its bytes are text
+  -- the bytes of a segment of code are text
   pub code_lies : (a n : ℕ) → s.at ≤ a → a + n ≤ s.at + length s.bytes → lies_in is_text (extents_of (first_memory (s ∷ ss) m)) a n ≡ true
   code_lies a n low high =
       or_left (is_text (cond s.code Text Data) && spans (extent_of (region_of s)) a n) (lies_in is_text (extents_of (first_memory ss m)) a n)
       (and_from (is_text (cond s.code Text Data)) (spans (extent_of (region_of s)) a n) (ap (λ b. is_text (cond b Text Data)) is_code) (first_spans a n low high))
 
-  -- and they are those of the file
+  -- the bytes of a segment of code are those of the file
   pub code_byte : (a : ℕ) → s.at ≤ a → a < s.at + length s.bytes → cell_at 0 (first_memory (s ∷ ss) m) a ≡ get_or s.bytes (a - s.at) 0
   code_byte a low high =
       let inside : a - s.at < length s.bytes = omega arith in

@@ -7,9 +7,9 @@ use Rattle.std.proofs.lemmas.List.FromFn.{get_or-map-range_with_len, length-map-
 use Rattle.std.proofs.lemmas.List.Folds.{sum_by-replicate}
 use Rattle.rv_decode.specs.Memory.{blank, cells_changed, written}
 use Rattle.rv_decode.proofs.MemoryLaws.{get_or-cells_changed, length-cells_changed, untouched}
+use Rattle.rv_decode.proofs.WriteLaws.{written_moved}
 use Rattle.zc_machine.specs.Pages.{Paged}
 use Rattle.zc_machine.specs.Invariants.Pool.{AreCellPages, IsPool, byte_of_pages, pooled_bytes}
-use Rattle.zc_machine.proofs.WriteLaws.{written_moved}
 
 -- what comes after an index in its page
 in_page : (x k : ℕ) → x % 4096 + k < 4096 → ((x + k) / 4096 ≡ x / 4096) × ((x + k) % 4096 ≡ x % 4096 + k)
@@ -21,7 +21,7 @@ module _ (table pool : List ℕ) (from size : ℕ) where
   pub length-cells : length (pooled_bytes table pool from size) ≡ size
   length-cells = length-map-range_with_len (byte_of_pages table pool) from size
 
-  -- of pages that are seen as so many cells
+  -- the size of pages, by the cells that are seen
   pub size_seen : (seen : Paged) → record { skip = from; cells = pooled_bytes table pool from size } ≡ seen → size ≡ length seen.cells
   size_seen seen is = sym length-cells ∙ ap (λ (p : Paged). length p.cells) is
 

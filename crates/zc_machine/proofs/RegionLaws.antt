@@ -123,7 +123,7 @@ part_reached access.Interrupt Text a cells fits small = absurd cc
 part_reached access.Interrupt Data a cells fits small = absurd cc
 part_reached access.Interrupt Stack a cells fits small = refl
 
--- the rest of the region there, up to so many cells
+-- an access reaches the rest of the region, as far as it may reach at once
 reached :
     (way : AccessKind) (rs : List (Region ℕ)) (i : ℕ) (d : Region ℕ) (a : ℕ) → AreApart (extents_of rs) → i < length rs → (allowed way (get_or rs i d).kind && spans (extent_of (get_or rs i d)) a 1) ≡ true
     → Reaches way rs a (part_from (get_or rs i d).kind a (drop (a - (get_or rs i d).at) (get_or rs i d).cells))

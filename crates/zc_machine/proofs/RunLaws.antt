@@ -80,7 +80,7 @@ pub record Came (first : ZcCore) (input : List ℕ) (happens : ℕ → ZcCore �
   pub wrote : Wrote (written_to 1 events) (written_to 2 events) before now
   pub only : OnlyWrites before now
 
--- it begins there
+-- a run begins at its first machine
 pub Came-start :
     (first : ZcCore) (input : List ℕ) (happens : ℕ → ZcCore → ZcCore) (desk : Desk) → first.exit ≡ None → first.commits ≡ 0 → Came first input happens first input desk desk
 Came-start first input happens desk running start = record {
@@ -91,7 +91,7 @@ Came-start first input happens desk running start = record {
   only = OnlyWrites-refl desk;
 }
 
--- it came to this machine by one commit more
+-- the run came to this machine by one commit more
 pub record Next (first : ZcCore) (input : List ℕ) (happens : ℕ → ZcCore → ZcCore) (z z2 : ZcCore) (left : List ℕ) (before now : Desk) : Type 0 where
   pub counts : z2.commits ≡ z.commits + 1
   pub came : Came first input happens z2 left before now
@@ -112,7 +112,7 @@ happened {z = z} same here commits exit = record { made = here ∙ ap (λ h. h z
 pub RunsTo-refl : (happens : ℕ → ZcCore → ZcCore) (z : ZcCore) → RunsToMachine happens z z
 RunsTo-refl happens z = record { exit = refl; on = omega arith; runs = λ first input left events so_far. so_far }
 
--- and by one commit more from wherever it came to
+-- one commit more, from wherever a run came to
 pub RunsTo-more :
     (happens : ℕ → ZcCore → ZcCore) (z0 z z' z2 : ZcCore) → z0.exit ≡ None → RunsToMachine happens z0 z → Happened happens z z' → answer.Committed ≡ answer_of (zc_step z')
     → z2 ≡ core_after (zc_step z') z' → RunsToMachine happens z0 z2 × (z2.commits ≡ z.commits + 1)

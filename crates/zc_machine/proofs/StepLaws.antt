@@ -98,7 +98,7 @@ module _ (z : ZcCore) where
   frames_show left [] shows = shows
   frames_show left (a ∷ rest) shows = access_step (Shows z) z 4 a.at (reaching_all rest z (Commits left)) (frames_show left rest shows) (λ reason. tt)
 
-  -- its commit
+  -- the commit of a push or a pop
   framed_shows : (s : Short) → let y = all_accessed s (accesses_of s (reg_in z 2)) z in (y.commits + 1 ≡ z.commits + 1) × (y.exit ≡ z.exit)
   framed_shows s = let kept = all_accessed_keeps s (accesses_of s (reg_in z 2)) z in (ap (λ n. n + 1) kept.commits, kept.exit)
 
@@ -141,6 +141,6 @@ module _ (z : ZcCore) where
   pub read_shows : (at len : ℕ) → zc_step z ≡ Wants (Read at len) → (at ≡ reg_in z 11) × (len ≡ reg_in z 12) × InMemory z at len
   read_shows at len e = subst (Shows z) e step_shows
 
-  -- so has a write, and it is to stream 1 or 2
+  -- a write's buffer lies in memory, and it is to stream 1 or 2
   pub write_shows : (fd at len : ℕ) → zc_step z ≡ Wants (Write fd at len) → (at ≡ reg_in z 11) × (len ≡ reg_in z 12) × InMemory z at len × ((fd ≡ 1) ⊎ (fd ≡ 2))
   write_shows fd at len e = subst (Shows z) e step_shows

@@ -1,45 +1,16 @@
 -- Writes to cells: bytes that are copied to a slice, a write at other addresses, and a write in two parts.
-use Rattle.std.proofs.Common.{◌≡◌, ℕ, suc, ◌+◌, ◌-◌, ◌<◌, ◌≤◌, List, [], ◌∷◌, ◌++◌, Bool, true, false, cond, length, get_or, take, drop, refl, sym, ap, ap₂, ◌∙◌, arith, leb, ltb, length-append, length-drop, slice_index, ◌⊎◌, inl, inr, replicate}
-use Rattle.std.specs.Prelude.{◌&&◌}
+use Rattle.std.proofs.Common.{◌≡◌, ℕ, suc, ◌+◌, ◌-◌, ◌<◌, ◌≤◌, List, [], ◌∷◌, ◌++◌, length, get_or, take, drop, refl, sym, ap, ap₂, ◌∙◌, arith, length-append, length-drop, slice_index, ◌⊎◌, inl, inr, replicate}
 use borrow.Rule.Slice.PartMut.{put_mid}
-use Rattle.std.proofs.lemmas.Bool.{and_from, and_parts, cases_lt, cond-true, le-leb, leb-true, lt-ltb, ltb-true}
+use Rattle.std.proofs.lemmas.Bool.{cases_lt}
 use Rattle.std.proofs.lemmas.List.{drop-drop, drop-replicate, get_or-append_right, get_or-drop, get_or-take, get_or_append_left, get_or_default, length-replicate, length-take-le, same_lists}
 use Rattle.rv_decode.specs.Memory.{blank, cells_changed, written}
 use Rattle.rv_decode.proofs.MemoryLaws.{get_or-cells_changed, length-cells_changed, untouched}
-
--- ---- one cell
-
--- a byte that is written
-pub written_there : (a n : ℕ) (given : ℕ → ℕ) (x old : ℕ) → a ≤ x → x < a + n → written a n given x old ≡ given (x - a)
-written_there a n given x old low high = cond-true (leb a x && ltb x (a + n)) (given (x - a)) old (and_from (leb a x) (ltb x (a + n)) (le-leb a x low) (lt-ltb x (a + n) high))
-
--- the same write, and the same cell of it, at other addresses
-pub written_moved : (a b n : ℕ) (given : ℕ → ℕ) (x y old : ℕ) → a + y ≡ b + x → written a n given x old ≡ written b n given y old
-written_moved a b n given x y old is = either (leb a x && ltb x (a + n)) refl
-  where
-    either : (t : Bool) → (leb a x && ltb x (a + n)) ≡ t → cond t (given (x - a)) old ≡ written b n given y old
-    either true h =
-        let q = and_parts (leb a x) (ltb x (a + n)) h in
-        let low = leb-true a x q.0 in
-        let high = ltb-true x (a + n) q.1 in
-        let same : x - a ≡ y - b = omega (arith, is, low) in
-        ap given same ∙ sym (written_there b n given y old (omega (arith, is, low)) (omega (arith, is, high)))
-    either false h = sym (untouched b n given y old (λ low high. outside (omega (arith, is, low)) (omega (arith, is, high))))
-      where
-        outside : a ≤ x → x < a + n → ⊥
-        outside low high = let yes = and_from (leb a x) (ltb x (a + n)) (le-leb a x low) (lt-ltb x (a + n) high) in cc
-
--- ---- all cells
-
--- a change after another, if together they are one
-cells_changed-twice : (f g h : ℕ → ℕ → ℕ) → ((x c : ℕ) → f x (g x c) ≡ h x c) → (at : ℕ) (cs : List ℕ) → cells_changed f at (cells_changed g at cs) ≡ cells_changed h at cs
-cells_changed-twice f g h same at [] = refl
-cells_changed-twice f g h same at (c ∷ cs) = ap₂ (λ x xs. x ∷ xs) (same at c) (cells_changed-twice f g h same (suc at) cs)
+use Rattle.rv_decode.proofs.WriteLaws.{cells_changed-after, written_further, written_moved, written_none, written_there}
 
 -- no byte is written
 pub cells_written_none : (a : ℕ) (given : ℕ → ℕ) (at : ℕ) (cs : List ℕ) → cells_changed (written a 0 given) at cs ≡ cs
 cells_written_none a given at [] = refl
-cells_written_none a given at (c ∷ cs) = ap₂ (λ x xs. x ∷ xs) (untouched a 0 given at c (λ low high. omega (arith, low, high))) (cells_written_none a given (suc at) cs)
+cells_written_none a given at (c ∷ cs) = ap₂ (λ x xs. x ∷ xs) (written_none a given at c) (cells_written_none a given (suc at) cs)
 
 -- a change that is the same at other addresses
 cells_changed-moved : (f g : ℕ → ℕ → ℕ) (at to : ℕ) (cs : List ℕ) → ((x y c : ℕ) → at + y ≡ to + x → f x c ≡ g y c) → cells_changed f at cs ≡ cells_changed g to cs
@@ -97,42 +68,18 @@ module _ (a : ℕ) (bytes : List ℕ) where
               ∙ ap (λ j. get_or cs j d) same
               ∙ sym (untouched a n (slice_index bytes) k (get_or cs k d) (λ l h. omega (arith, h, past)))
 
-  -- bytes that are written after the first so many of them
+  -- bytes that are written after the first `done` of them
   pub cells_written_more :
       (done m : ℕ) (cs : List ℕ) → done + m ≤ length bytes
       → cells_changed (written (a + done) m (slice_index (take m (drop done bytes)))) 0 (cells_changed (written a done (slice_index bytes)) 0 cs)
       ≡ cells_changed (written a (done + m) (slice_index bytes)) 0 cs
-  cells_written_more done m cs within = cells_changed-twice (written (a + done) m (slice_index piece)) (written a done (slice_index bytes)) (written a (done + m) (slice_index bytes)) each 0 cs
+  cells_written_more done m cs within =
+      cells_changed-after (written (a + done) m (slice_index piece)) (written a done (slice_index bytes)) (written a (done + m) (slice_index bytes))
+      (written_further a done m (slice_index bytes) (slice_index piece)
+      (λ k lt. get_or-take m (drop done bytes) k 0 lt ∙ get_or-drop done bytes k 0)) 0 cs
     where
       piece : List ℕ
       piece = take m (drop done bytes)
-
-      each : (x c : ℕ) → written (a + done) m (slice_index piece) x (written a done (slice_index bytes) x c) ≡ written a (done + m) (slice_index bytes) x c
-      each x c = by_part (cases_lt x a) (cases_lt x (a + done)) (cases_lt x (a + (done + m)))
-        where
-          inner : ℕ
-          inner = written a done (slice_index bytes) x c
-
-          by_part : (x < a) ⊎ (a ≤ x) → (x < a + done) ⊎ (a + done ≤ x) → (x < a + (done + m)) ⊎ (a + (done + m) ≤ x) → written (a + done) m (slice_index piece) x inner ≡ written a (done + m) (slice_index bytes) x c
-          by_part (inl before) first all =
-              untouched (a + done) m (slice_index piece) x inner (λ l h. omega (arith, l, before))
-              ∙ untouched a done (slice_index bytes) x c (λ l h. omega (arith, l, before))
-              ∙ sym (untouched a (done + m) (slice_index bytes) x c (λ l h. omega (arith, l, before)))
-          by_part (inr later) (inl first) all =
-              untouched (a + done) m (slice_index piece) x inner (λ l h. omega (arith, l, first))
-              ∙ written_there a done (slice_index bytes) x c later first
-              ∙ sym (written_there a (done + m) (slice_index bytes) x c later (omega (arith, first)))
-          by_part (inr later) (inr after) (inl last) =
-              let same : done + (x - (a + done)) ≡ x - a = omega (arith, after) in
-              written_there (a + done) m (slice_index piece) x inner after (omega (arith, last))
-              ∙ get_or-take m (drop done bytes) (x - (a + done)) 0 (omega (arith, last, after))
-              ∙ get_or-drop done bytes (x - (a + done)) 0
-              ∙ ap (slice_index bytes) same
-              ∙ sym (written_there a (done + m) (slice_index bytes) x c later last)
-          by_part (inr later) (inr after) (inr past) =
-              untouched (a + done) m (slice_index piece) x inner (λ l h. omega (arith, h, past))
-              ∙ untouched a done (slice_index bytes) x c (λ l h. omega (arith, h, past))
-              ∙ sym (untouched a (done + m) (slice_index bytes) x c (λ l h. omega (arith, h, past)))
 
 -- bytes that are written to the start of cells that are all alike
 pub blank-written : (bytes : List ℕ) (rest : ℕ) → cells_changed (written 0 (length bytes) (slice_index bytes)) 0 (blank (length bytes + rest) 0) ≡ bytes ++ blank rest 0

@@ -7,7 +7,7 @@ use Rattle.zc_machine.specs.Step.{zc_step}
 use Rattle.zc_machine.specs.declared.answer.Step.{Step}
 use Rattle.zc_machine.specs.declared.answer.Step.TheVariants as answer
 
--- whichever run has come to this machine comes to the other one, and makes no environment call on the way
+-- whenever a run has come to machine z, it comes to z2 and makes no environment call in between
 pub record RunsToMachine (happens : ℕ → ZcCore → ZcCore) (z z2 : ZcCore) : Type 0 where
   pub exit : z2.exit ≡ z.exit
   pub on : z.commits ≤ z2.commits
@@ -15,9 +15,9 @@ pub record RunsToMachine (happens : ℕ → ZcCore → ZcCore) (z z2 : ZcCore) :
       → machine_after first input happens z.commits ≡ Ok (record { core = z; input = left; events = events })
       → machine_after first input happens z2.commits ≡ Ok (record { core = z2; input = left; events = events })
 
--- the machine came to its commit with number k, counted from 0 and one of the first so many, and made the step there, after
--- what happens before it: this is the step's answer, and how it left the machine; if it committed, that was the last of so
--- many
+-- the machine came to its commit with number k, counted from 0, which is one of the first `steps`, and made the step there, after
+-- what happens before it: this is the step's answer, and how it left the machine; if it committed, that was the last of the
+-- `steps` commits
 pub record CameToCommit (happens : ℕ → ZcCore → ZcCore) (z z2 : ZcCore) (k steps : ℕ) (given : Step) : Type 0 where
   pub last : ZcCore
   pub runs : RunsToMachine happens z last

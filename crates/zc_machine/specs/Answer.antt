@@ -41,7 +41,7 @@ has_read bytes z = record (onward z 4 (set_reg z.regs 10 (length bytes))) { memo
 abbrev pub has_written : ZcCore → ZcCore
 has_written z = onward z 4 (set_reg z.regs 10 (reg_in z 12))
 
--- the step wants a read, of so many bytes or more
+-- the step wants a read, of n bytes or more
 abbrev pub WantsRead : ℕ → ZcStep → Type 0
 WantsRead n step = (at : ℕ) × (len : ℕ) × (step ≡ Wants (Read at len)) × (n ≤ len)
 

@@ -8,7 +8,7 @@ abbrev pub bytes_at : ZcCore → ℕ → ℕ → List ℕ
 bytes_at z a zero = []
 bytes_at z a (suc n) = byte_in z a ∷ bytes_at z (suc a) n
 
--- they lie in memory for data, or there are none
+-- n bytes from an address on lie in memory for data, or n is 0
 abbrev pub InMemory : ZcCore → ℕ → ℕ → Type 0
 InMemory z a n = 0 < n → lies_in is_data (extents_of z.memory) a n ≡ true
 

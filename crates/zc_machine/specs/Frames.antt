@@ -1,5 +1,5 @@
 -- Pushes and pops in parts: whether their accesses can all be made, and the words of a whole list at once.
-use Rattle.std.specs.Prelude.{ℕ, ◌-◌, ◌%◌, ◌==◌, if◌then◌else◌, List, [], ◌∷◌, Option, Some, None, slice_index, slice_set}
+use Rattle.std.specs.Prelude.{◌≡◌, ℕ, ◌-◌, ◌%◌, ◌==◌, if◌then◌else◌, List, [], ◌∷◌, Option, Some, None, slice_index, slice_set}
 use Rattle.std.specs.Option.{option_or}
 use Rattle.zc_base.specs.Fields.{with_word, word_in}
 use Rattle.rv_decode.specs.Memory.{extents_of, is_data, lies_in}
@@ -8,8 +8,15 @@ use Rattle.zc_decode.specs.Accesses.{Access, sp_after, words_below}
 use Rattle.zc_decode.specs.Effect.{restored, saved}
 use Rattle.zc_decode.specs.Lists.{registers_of}
 use Rattle.zc_decode.specs.declared.short.Short.TheVariants.{Push, Pop}
+use Rattle.zc_machine.specs.Answer.{answer_of, core_after}
+use Rattle.zc_machine.specs.Step.{ZcStep}
+use Rattle.zc_machine.specs.declared.answer.Step.{Step}
 use Rattle.zc_machine.specs.declared.reason.Reason.{Reason}
 use Rattle.zc_machine.specs.declared.reason.Reason.TheVariants.{BadAccess, Misaligned}
+
+-- the answer and the state after it are this step's
+abbrev pub MakesStep : ZcStep → Step → ZcCore → ZcCore → Type 0
+MakesStep step answer old new = (answer ≡ answer_of step) × (new ≡ core_after step old)
 
 -- why a word at an address can't be loaded and stored, if it can't
 abbrev pub word_obstacle : ℕ → ZcCore → Option Reason
@@ -32,7 +39,7 @@ pushed list adjust z =
     let y = all_made saved (words_below (reg_in z 2) (registers_of list)) z in
     record y { regs = set_reg y.regs 2 (sp_after (Push list adjust) (reg_in z 2)) }
 
--- the same of a pop, with sp raised
+-- the state after the accesses of a pop, with sp raised
 abbrev pub popped : ℕ → ℕ → ZcCore → ZcCore
 popped list adjust z =
     let sp = sp_after (Pop list adjust) (reg_in z 2) in

@@ -12,7 +12,8 @@ use Rattle.zc_machine.specs.Fetch.{Fetched, Found, Missing, fetched_at}
 
 -- ---- accesses that were done
 
--- one access of an instruction, if it has it; one of a word that can't be loaded and stored is passed over
+-- the state after one access of an instruction was done; without an access, or if its word can't be loaded and stored, nothing
+-- changes
 abbrev pub done_one : Short → Option Access → ZcCore → ZcCore
 done_one s None z = z
 done_one s (Some a) z = if a.at % 4 == 0 && lies_in is_data (extents_of z.memory) a.at 4 then accessed s a z else z
@@ -29,7 +30,7 @@ done_of (Missing reason) done z = z
 
 -- ---- bytes that are written
 
--- one byte that is written, in the stack below sp; at any other address it is passed over
+-- the state after one byte was written in the stack below sp; at any other address nothing changes
 abbrev pub dirtied : ℕ × ℕ → ZcCore → ZcCore
 dirtied d z =
     if lies_in is_stack (extents_of z.memory) d.0 1 && nat_lt d.0 (reg_in z 2)
@@ -43,7 +44,7 @@ all_dirtied (d ∷ ds) z = all_dirtied ds (dirtied d z)
 
 -- ---- interrupts
 
--- one interrupt
+-- the state after one interrupt
 abbrev pub interrupted : Interrupt → ZcCore → ZcCore
 interrupted c z = all_dirtied c.dirt (done_of (fetched_at z z.pc) c.done z)
 

@@ -16,8 +16,8 @@ abbrev pub AreApart : List Extent → Type 0
 AreApart [] = Unit {0}
 AreApart (e ∷ es) = (e.at + e.size ≤ 2 ^ 32) × All (Apart e) es × AreApart es
 
--- how many cells from an address on an access may reach at once: of code all, and of data those up to the next multiple of
--- 4,096
+-- the number of cells from an address on that an access may reach at once: of code all, and of data those up to the next multiple
+-- of 4,096
 abbrev pub most_at_once : AccessKind → ℕ → ℕ
 most_at_once access.Fetch a = 2 ^ 32
 most_at_once access.Data a = 4096 - a % 4096
@@ -31,6 +31,6 @@ pub record Reaches (way : AccessKind) (memory : List (Region ℕ)) (a : ℕ) (ce
   pub holds : (i : ℕ) → i < length cells → cell_at 0 memory (a + i) ≡ slice_index cells i
   pub below : a + length cells ≤ 2 ^ 32
 
--- this is what the cells that a fetch reaches at an address begin with
+-- a fetch at an address finds the instruction that the cells there begin with
 abbrev pub Fetches : List (Region ℕ) → ℕ → Fetched → Type 0
 Fetches memory a found = (cells : List ℕ) × Reaches access.Fetch memory a cells × (found ≡ instruction cells)

@@ -11,7 +11,7 @@ reason_number Misaligned = 3
 reason_number Break = 4
 reason_number UnknownCall = 5
 
--- its name
+-- the name of a reason
 abbrev pub reason_name : Reason → List ℕ
 reason_name Illegal = codes "Illegal"
 reason_name BadAccess = codes "BadAccess"

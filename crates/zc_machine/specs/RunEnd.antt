@@ -10,7 +10,7 @@ use Rattle.zc_machine.specs.declared.run.RunEnd.{RunEnd}
 use Rattle.zc_machine.specs.declared.run.RunEnd.TheVariants as end
 use Rattle.zc_machine.specs.Run.{interrupts_by, machine_after}
 
--- the run from this core over this input, of at most so many commits, with what happens before each of them
+-- the run from this core over this input, of at most `steps` commits, with what happens before each of them
 abbrev pub course_of : ZcCore → List ℕ → (ℕ → ZcCore → ZcCore) → ℕ → Course ZcState Reason
 course_of first input happens steps = record {
   after = machine_after first input happens;
@@ -19,7 +19,7 @@ course_of first input happens steps = record {
   steps = steps;
 }
 
--- the same under a plan
+-- the run from this core over this input, of at most `steps` commits, under a plan
 abbrev pub zc_course : ZcCore → List ℕ → List Entry → ℕ → Course ZcState Reason
 zc_course first input plan steps = course_of first input (interrupts_by plan) steps
 

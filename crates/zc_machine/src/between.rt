@@ -11,7 +11,7 @@ pub trait BetweenCommits {
     // What happens before the commit with this number.
     ghost happens: { Self → ℕ → ZcCore → ZcCore };
 
-    // It has come to the commit with this number: what happens before that one is next.
+    // The implementer has come to the commit with this number: what happens before that commit is next.
     ghost HasComeTo: { Self → ℕ → Type 0 };
 
     /// Makes everything that happens before the machine's next commit.

@@ -69,7 +69,7 @@ pub fn instruction(cells: &[u8]) -> Result<(Short, u8), Reason>
     }
 }
 
-// The instruction of four bytes that a word spells, if all its bytes are there.
+// The instruction that a word is, if all four bytes are there.
 fn word_spells(word: Option<u32>) -> Result<(Short, u8), Reason>
     ensures { fetched_as result ≡ word_spells word }
 {

@@ -12,8 +12,8 @@ use std::alloc::{AllocError, Global};
 use std::marker::Model;
 use zc_decode::short::Short;
 
-/// What is kept of a halfword: nothing, or the instruction that begins there, with its size in bytes. The
-/// size stands beside the tag, so that all takes 16 bytes.
+/// A decoded-instruction cache entry: empty, or the instruction that begins at a halfword, with its size in bytes. The
+/// size stands beside the tag, so that an entry takes 16 bytes.
 #[derive(Clone, Copy)]
 pub enum Kept {
     Unknown,
@@ -50,7 +50,7 @@ impl Code {
         Ok(Code { bytes, kept })
     }
 
-    /// How many bytes there are.
+    /// The number of bytes.
     #[inline(always)]
     pub fn len(&self) -> usize
         ensures { result ≡ length self.now }

@@ -99,7 +99,7 @@ impl Machine {
         self.regs[r.number() as usize]
     }
 
-    /// How many instructions were committed.
+    /// The number of instructions that were committed.
     pub fn commits(&self) -> u64
         ensures { result ≡ self.now.commits }
     {
@@ -152,7 +152,7 @@ impl Machine {
         }
     }
 
-    // The same for an instruction that a word spells too.
+    // Makes the step of an instruction of RV32IM, of this size.
     #[inline(always)]
     fn execute_base(&mut self, instr: Instr, size: u32) -> Step
         requires { self.old.commits < 2 ^ 64 - 1 }

@@ -17,7 +17,7 @@ use zc_decode::short::Short;
 #[derive(Drop)]
 pub struct Memory {
     regions: Vec<Region>,
-    // The number of the region in which an instruction was last searched for: most often the next one stands there too.
+    // The number of the region in which an instruction was last searched for: most often the next one is in it too.
     last: usize,
 }
 
@@ -42,7 +42,7 @@ impl Memory {
         Memory { regions, last: 0 }
     }
 
-    /// Whether so many cells from an address on lie in one region, and an access may reach them.
+    /// Whether `count` cells from an address on lie in one region, and an access may reach them.
     #[inline(always)]
     pub fn holds(&self, access: AccessKind, address: u32, count: usize) -> bool
         requires { count < 2 ^ 63 }
@@ -72,7 +72,7 @@ impl Memory {
         }
     }
 
-    // The same of what isn't kept in the region of the last one.
+    // The instruction at an address, when it isn't cached in the region of the last one.
     #[cold]
     #[inline(never)]
     fn search(&mut self, address: u32) -> Result<(Short, u8), Reason>

@@ -8,7 +8,7 @@ ghost use Rattle.zc_outside.specs.Desk.{OnlyWrites, WriteCause};
 use crate::machine::Machine;
 use zc_outside::console::{Console, ConsoleFault};
 
-/// Writes so many bytes of a machine's memory to stream 1 or 2, piece by piece.
+/// Writes `len` bytes of a machine's memory to stream 1 or 2, piece by piece.
 pub fn write<C: Console>(
     machine: &Machine,
     fd: u8,

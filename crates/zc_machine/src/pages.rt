@@ -14,7 +14,7 @@ pub const PAGE: usize = 4096;
 /// Bytes in pages, of which a page takes memory from its first write on.
 #[derive(Drop)]
 pub struct Pages {
-    // How many bytes of the first page come before the first cell, and how many cells there are.
+    // The number of bytes of the first page before the first cell, and the number of cells.
     skip: usize,
     size: usize,
     // For each page the number of the one of the pool that holds it.
@@ -47,7 +47,7 @@ impl Pages {
         Ok(pages)
     }
 
-    // So many zeros, with so many bytes before them in the first page.
+    // `size` zeros, with `skip` bytes before them in the first page.
     fn zeros(alloc: Global, skip: usize, size: usize) -> Result<Pages, AllocError>
         requires first { skip < 4096 }
         requires few { size ≤ 2 ^ 63 }
@@ -66,7 +66,7 @@ impl Pages {
         })
     }
 
-    /// How many cells there are.
+    /// The number of cells.
     #[inline(always)]
     pub fn len(&self) -> usize
         ensures { result ≡ length self.now.cells }
@@ -103,7 +103,7 @@ impl Pages {
         }
     }
 
-    // How many bytes there are from an index up to the end of its page.
+    // The number of bytes from an index up to the end of its page.
     #[inline(always)]
     fn room(&self, index: usize) -> usize
         requires { index ≤ length self.now.cells }

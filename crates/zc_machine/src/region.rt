@@ -115,7 +115,7 @@ impl Region {
         })
     }
 
-    // How many cells there are.
+    // The number of cells.
     #[inline(always)]
     fn size(&self) -> usize
         ensures { result ≡ length self.now.cells }
@@ -136,7 +136,7 @@ impl Region {
             && ((address - self.at) as usize) < self.size()
     }
 
-    /// The same of so many cells from an address on.
+    /// Whether `count` cells from an address on lie in the region, and an access may reach them.
     #[inline(always)]
     pub fn holds(&self, access: AccessKind, address: u32, count: usize) -> bool
         requires { count < 2 ^ 63 }
@@ -145,7 +145,7 @@ impl Region {
         self.kind.allows(access) && self.spans(address, count)
     }
 
-    // Whether so many cells from an address on lie in the region.
+    // Whether `count` cells from an address on lie in the region.
     #[inline(always)]
     fn spans(&self, address: u32, count: usize) -> bool
         requires { count < 2 ^ 63 }

@@ -25,9 +25,9 @@ pub enum RunEnd {
     Console(ConsoleFault),
 }
 
-/// Runs a machine from its start for at most so many commits, of which an exit is one, and makes the
-/// interrupts of a plan before the commits that they name. What it reads comes from the front of the
-/// input, and what it writes goes to the console at once, piece by piece.
+/// Runs a machine from its start for at most `steps` commits, of which an exit is one, and makes the interrupts of a
+/// plan before the commits that they name. What it reads comes from the front of the input, and what it writes goes to
+/// the console at once, piece by piece.
 pub fn run<C: Console>(
     machine: &mut Machine,
     plan: &Plan,
@@ -85,8 +85,8 @@ pub fn run_with<B: BetweenCommits + Drop, C: Console>(
     RunEnd::Spent
 }
 
-// Makes steps until so many instructions were committed, or up to one that answers something else. A program has
-// this loop once, whatever consoles it runs machines with.
+// Makes steps until `steps` instructions were committed, or up to one that answers something else. A program has this
+// loop once, whatever consoles it runs machines with.
 #[inline(never)]
 fn advance<B: BetweenCommits>(machine: &mut Machine, between: &mut B, steps: u64) -> Step
     requires running { machine.old.exit ≡ None }

@@ -1,6 +1,6 @@
 -- Pushes and pops in parts: whether the words of a frame can all be loaded and stored, how far the loads have come, and what a pop
 -- does behind them.
-use Rattle.std.specs.Prelude.{◌≡◌, ◌≢◌, ℕ, pos, ◌+◌, ◌-◌, ◌*◌, ◌<◌, ◌≤◌, List, [], ◌∷◌, ◌++◌, drop, length, Option, Some, slice_index_or}
+use Rattle.std.specs.Prelude.{◌≡◌, ◌≢◌, ℕ, pos, ◌+◌, ◌-◌, ◌*◌, ◌%◌, ◌<◌, ◌≤◌, ◌&&◌, nat_le, true, List, [], ◌∷◌, ◌++◌, drop, length, Option, Some, slice_index_or}
 use Rattle.zc_base.specs.declared.mem_map.MemMap.{MemMap}
 use Rattle.zc_base.specs.declared.place.Place.{Place}
 use Rattle.rv_decode.specs.Bits.{add32}
@@ -41,12 +41,20 @@ pub record AreReached (s : PlainCore) (sp top n : ℕ) : Type 0 where
   pub room : 4 * n ≤ top
   pub each : (k : ℕ) → k < n → IsReached s (word_address sp top k)
 
--- the first of n words that can't be, and why
-pub record IsObstacle (s : PlainCore) (sp top n : ℕ) (why : Why) : Type 0 where
-  pub at : ℕ
-  pub within : at < n
-  pub before : (k : ℕ) → k < at → IsReached s (word_address sp top k)
-  pub cause : (go : ℕ → Does) → accessing 4 (Some (word_address sp top at)) s go ≡ Stops why
+-- the highest word of a frame can't be loaded or stored, and why
+abbrev pub IsObstacle : PlainCore → ℕ → ℕ → Why → Type 0
+IsObstacle s sp top why = (go : ℕ → Does) → accessing 4 (Some (word_address sp top 0)) s go ≡ Stops why
+
+-- a frame that ends in the stack, or at its end: each of its words can be loaded and stored
+pub record IsInStack (map : MemMap) (s : PlainCore) (sp top : ℕ) : Type 0 where
+  pub end : (nat_le map.stack_low (add32 sp (pos top)) && nat_le (add32 sp (pos top)) map.stack_high) ≡ true
+  pub reached : (n : ℕ) → 4 * n ≤ top → AreReached s sp top n
+
+-- the size of a frame: some words, of no more than 112 bytes
+pub record IsFrameBytes (top : ℕ) : Type 0 where
+  pub some : 0 < top
+  pub most : top ≤ 112
+  pub words : top % 4 ≡ 0
 
 -- a register of a frame is neither register 0 nor sp
 abbrev pub IsFrameRegister : ℕ → Type 0

@@ -76,7 +76,7 @@ impl SymMemory {
         }
     }
 
-    // The same byte by byte, as at a region's edge, or where not all bytes are kept.
+    // The word at an address, byte by byte: at a region's edge, or where not all bytes are kept.
     fn gathered(&self, a: u64) -> SymWord
         requires { a < 2 ^ 32 }
         ensures { result ≡ sym_word_at (regions_of self.now) a }
@@ -89,7 +89,7 @@ impl SymMemory {
         }
     }
 
-    /// The so many bytes from an address on, if all are numbers.
+    /// The `n` bytes from an address on, if all are numbers.
     pub fn numbers(&self, alloc: Global, a: u32, n: u32) -> Result<Option<Vec<u8>>, AllocError>
         ensures { IfOk result (λ found. MatchOption found
             (numbers_at (regions_of self.now) a n ≡ None)

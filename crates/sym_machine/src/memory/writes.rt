@@ -46,7 +46,7 @@ impl SymMemory {
         }
     }
 
-    // The same byte by byte, as at a region's edge, or where not all places are kept.
+    // Writes byte by byte: at a region's edge, or where not all places are kept.
     fn put_each(&mut self, a: u32, bytes: &[SymByte])
         ensures { IsChanged (written a (length bytes.now) (λ i. slice_index_or bytes.now i Undef)) self.old self.new }
     {
@@ -66,7 +66,7 @@ impl SymMemory {
         }
     }
 
-    // The same byte by byte.
+    // Writes numbers byte by byte, each if it is kept.
     fn put_each_number(&mut self, a: u32, numbers: &[u8])
         ensures { IsChanged (written a (length (map Num numbers.now)) (λ i. slice_index_or
             (map Num numbers.now) i Undef)) self.old self.new }

@@ -59,7 +59,7 @@ impl State {
         }
     }
 
-    // The address of an access of so many bytes, or why it can't be made.
+    // The address of an access of `n` bytes, or why it can't be made.
     pub(super) fn reach(&self, n: u32, address: Option<u32>) -> Result<u32, Why>
         requires { 0 < n }
         ensures { (go : ℕ → Does) → accessing n address self.now.core go ≡ reached result go }
@@ -90,7 +90,7 @@ pub(super) fn is_multiple(a: u32, n: u32) -> bool
     }
 }
 
-// How many bytes a load takes.
+// The number of bytes that a load reads.
 pub(super) fn load_width(op: LoadOp) -> u32
     ensures width { result ≡ effects.load_width op }
     ensures some { 0 < result }
@@ -102,7 +102,7 @@ pub(super) fn load_width(op: LoadOp) -> u32
     }
 }
 
-// How many bytes a store writes.
+// The number of bytes that a store writes.
 pub(super) fn store_width(op: StoreOp) -> u32
     ensures width { result ≡ effects.store_width op }
     ensures some { 0 < result }

@@ -13,8 +13,8 @@ use block_cut::cut::Cut;
 use std::alloc::AllocError;
 
 impl State {
-    /// Makes at most so many steps, up to the first that answers more than that it is done. Says how many came before
-    /// that one, and what it answered.
+    /// Makes at most `steps` steps, up to the first with an answer other than that it is done. Returns how many came
+    /// before that one, and its answer.
     #[inline(always)]
     pub fn advance(&mut self, cut: &Cut, steps: u64) -> (u64, Result<SymStep, AllocError>)
         requires some { 0 < steps }

@@ -39,7 +39,7 @@ impl State {
         }
     }
 
-    // The exit.
+    // The call that exits.
     fn call_exit(&mut self) -> SymStep
         requires { self.old.core.exit ≡ None }
         ensures { StepAnswers (applied self.old.map self.old.core (exit_does (number_of
@@ -72,7 +72,7 @@ impl State {
         arguments.len == 0 || self.reaches(arguments.at, arguments.len)
     }
 
-    // A read.
+    // The call that reads.
     fn call_read(&mut self, next: Place) -> SymStep
         requires { self.old.core.exit ≡ None }
         ensures { StepAnswers (applied self.old.map self.old.core (with_buffer (λ a0. a0 == 0) self.old.core
@@ -90,7 +90,7 @@ impl State {
         self.read(arguments, next)
     }
 
-    // A write.
+    // The call that writes.
     fn call_write(&mut self, next: Place) -> Result<SymStep, AllocError>
         requires { self.old.core.exit ≡ None }
         ensures { Makes result (applied self.old.map self.old.core (with_buffer is_output self.old.core

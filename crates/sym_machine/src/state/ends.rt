@@ -42,7 +42,7 @@ impl State {
         SymStep::Done
     }
 
-    // The same, with nothing to answer.
+    // Goes on to a place, and answers nothing.
     pub(super) fn pass(&mut self, to: Place)
         requires { self.old.core.exit ≡ None }
         ensures { RunsOn (applied self.old.map self.old.core (Goes (continues to))) [] self.old.core self.new.core }
@@ -64,7 +64,7 @@ impl State {
         self.place = to;
     }
 
-    // The same with a number.
+    // Sets a register that is neither register 0 nor sp to a number, and goes on to a place.
     #[inline(always)]
     pub(super) fn set_number(&mut self, rd: Reg, n: u32, to: Place)
         requires running { self.old.core.exit ≡ None }
@@ -78,7 +78,7 @@ impl State {
         self.place = to;
     }
 
-    // The same with a place's address.
+    // Sets a register that is neither register 0 nor sp to a place's address, and goes on to a place.
     #[inline(always)]
     pub(super) fn set_code(&mut self, rd: Reg, q: Place, to: Place)
         requires running { self.old.core.exit ≡ None }
@@ -92,8 +92,8 @@ impl State {
         self.place = to;
     }
 
-    // Gives a number to a register, and goes on to a place; not if the register is register 0, or sp
-    // can't have the number.
+    // Sets a register to a number and goes on to a place, unless the register is register 0, or is sp and can't have
+    // the number.
     #[inline(always)]
     pub(super) fn give_number(&mut self, rd: Reg, n: u32, to: Place) -> bool
         requires { self.old.core.exit ≡ None }
@@ -111,7 +111,7 @@ impl State {
         }
     }
 
-    // Gives a word to a register, and goes on to a place; not if the register is register 0 or sp.
+    // Sets a register to a word and goes on to a place, unless the register is register 0 or sp.
     #[inline(always)]
     pub(super) fn give_word(&mut self, rd: Reg, word: &Held, to: Place) -> bool
         requires { self.old.core.exit ≡ None }
@@ -128,7 +128,7 @@ impl State {
         }
     }
 
-    // Moves sp to an address, and goes on to a place; not if the address isn't in the stack.
+    // Moves sp to an address and goes on to a place, unless the address isn't in the stack.
     #[inline(never)]
     pub(super) fn move_sp(&mut self, sp: u32, to: Place) -> bool
         requires { self.old.core.exit ≡ None }
@@ -149,7 +149,7 @@ impl State {
         true
     }
 
-    // Jumps to a place, with the next place's address in a register; not if that is sp.
+    // Jumps to a place, with the next place's address in a register, unless that register is sp.
     pub(super) fn link(&mut self, rd: Reg, to: Place, next: Place) -> bool
         requires { self.old.core.exit ≡ None }
         ensures made { OnTrue result (RunsOn (applied self.old.map self.old.core (Goes (sets rd
@@ -169,7 +169,7 @@ impl State {
         }
     }
 
-    // Gives a word to a register, and goes on to a place.
+    // Sets a register to a word, and goes on to a place.
     pub(super) fn give(&mut self, rd: Reg, word: &Held, to: Place) -> Result<SymStep, AllocError>
         requires { self.old.core.exit ≡ None }
         ensures { Makes result (applied self.old.map self.old.core (Goes (sets rd
@@ -185,7 +185,7 @@ impl State {
         }
     }
 
-    // Gives a word to sp, if it is a number within the stack, and goes on to a place.
+    // Sets sp to a word, if it is a number within the stack, and goes on to a place.
     fn give_sp(&mut self, word: &Held, to: Place) -> Result<SymStep, AllocError>
         requires { self.old.core.exit ≡ None }
         ensures { Makes result (applied self.old.map self.old.core (Goes (sets 2
@@ -237,7 +237,7 @@ impl State {
         SymStep::Done
     }
 
-    // The same, with nothing to answer.
+    // Writes bytes to memory from an address on and goes on to a place, and answers nothing.
     pub(super) fn put_bytes(&mut self, a: u32, bytes: &[SymByte], to: Place)
         requires { self.old.core.exit ≡ None }
         ensures made { RunsOn (applied self.old.map self.old.core (Goes (puts a bytes.now to))) [] self.old.core
@@ -248,7 +248,8 @@ impl State {
         self.place = to;
     }
 
-    // The same of numbers, if their places are kept.
+    // Writes numbers to memory from an address on and goes on to a place, if all of them are kept; else changes
+    // nothing.
     pub(super) fn put_numbers(&mut self, a: u32, numbers: &[u8], to: Place) -> bool
         requires { self.old.core.exit ≡ None }
         ensures there { OnTrue result (in_memory self.old.core a (length numbers.now) ≡ true) }

@@ -4,11 +4,11 @@ ghost use Rattle.std.specs.Prelude.{◌≡◌, ◌≢◌, ◌∷◌, ◌++◌, �
 ghost use Rattle.rv_decode.specs.declared.instr.ImmOp.TheVariants.{Addi};
 ghost use Rattle.rv_decode.specs.declared.instr.Instr.TheVariants.{WithImm};
 ghost use Rattle.sym_machine.specs.AddressParts.{bytes_of};
-ghost use Rattle.sym_machine.specs.Answer.{RunsOn, StepAnswers};
+ghost use Rattle.sym_machine.specs.Answer.{RunsOn, RunsOnUnlessStuck};
 ghost use Rattle.sym_machine.specs.Change.{Goes, load_word, puts, sets};
 ghost use Rattle.sym_machine.specs.Expansions.{restores, saves};
 ghost use Rattle.sym_machine.specs.Invariants.Frames as frames;
-ghost use Rattle.sym_machine.specs.Invariants.Frames.{AreReached, HasStack, IsFrameRegister, IsLoading, IsObstacle, IsZeroed, behind_loads};
+ghost use Rattle.sym_machine.specs.Invariants.Frames.{AreReached, HasStack, IsFrameBytes, IsFrameRegister, IsInStack, IsLoading, IsObstacle, IsZeroed, behind_loads};
 ghost use Rattle.sym_machine.specs.State.{reg_of};
 ghost use Rattle.sym_machine.specs.Step.{applied, in_turn};
 ghost use Rattle.sym_machine.specs.Words.{code_of, number_of};
@@ -16,7 +16,6 @@ ghost use Rattle.zc_decode.specs.Lists.{registers_of};
 ghost use Rattle.zc_decode.specs.Operands.{IsFrameSize};
 
 use super::State;
-use crate::answer::SymStep;
 use crate::why::Why;
 use rv_decode::instr::LoadOp;
 use zc_base::place::Place;
@@ -32,53 +31,49 @@ pub(super) enum PopEnd {
 }
 
 impl State {
-    // A push: sp is lowered, and the registers of a list are saved above it.
-    pub(super) fn push(&mut self, list: u8, adjust: u8, next: Place) -> SymStep
+    // A push: sp is lowered, and the registers of a list are saved above it. Or nothing changes, and this is why.
+    pub(super) fn push(&mut self, list: u8, adjust: u8, next: Place) -> Option<Why>
         requires running { self.old.core.exit ≡ None }
         requires size { IsFrameSize list adjust }
-        ensures { StepAnswers (in_turn self.old.map (WithImm Addi 2 2 (negsuc (adjust - 1))
+        ensures { RunsOnUnlessStuck (in_turn self.old.map (WithImm Addi 2 2 (negsuc (adjust - 1))
             ∷ saves adjust (registers_of list)) next self.old.core) result self.old.core self.new.core }
     {
         let (registers, frame) = (registers(list), u32::from(adjust));
         let sp = self.sp();
         let low = sp.wrapping_sub(frame);
         if !self.has_sp(low) {
-            return self.stuck(Why::StackPointer);
+            return Some(Why::StackPointer);
         }
-        if let Some(why) = self.obstacle(low, frame, registers.len()) {
-            return self.stuck(why);
+        if let Some(why) = self.obstacle(low, frame) {
+            return Some(why);
         }
         let _lowered = self.move_sp(low, next);
         self.save_all(low, frame, registers, next);
-        SymStep::Done
+        None
     }
 
     // A pop: the registers of a list are restored, and sp is raised. It goes on, or returns to the place whose address
-    // ra then holds.
-    pub(super) fn pop(&mut self, list: u8, adjust: u8, end: PopEnd, next: Place) -> SymStep
+    // ra then holds. Or nothing changes, and this is why.
+    pub(super) fn pop(&mut self, list: u8, adjust: u8, end: PopEnd, next: Place) -> Option<Why>
         requires running { self.old.core.exit ≡ None }
         requires size { IsFrameSize list adjust }
-        ensures { StepAnswers (in_turn self.old.map (restores adjust (registers_of list) ++ behind_loads end adjust)
-            next self.old.core) result self.old.core self.new.core }
+        ensures { RunsOnUnlessStuck (in_turn self.old.map (restores adjust (registers_of list)
+            ++ behind_loads end adjust) next self.old.core) result self.old.core self.new.core }
     {
         let (registers, frame) = (registers(list), u32::from(adjust));
         let sp = self.sp();
-        if let Some(why) = self.obstacle(sp, frame, registers.len()) {
-            return self.stuck(why);
-        }
-        let top = sp.wrapping_add(frame);
-        if !self.has_sp(top) {
-            return self.stuck(Why::StackPointer);
+        if let Some(why) = self.obstacle(sp, frame) {
+            return Some(why);
         }
         let ra = sp.wrapping_add(frame - 4 * registers.len() as u32);
         let Some(to) = self.pop_target(end, ra, next) else {
-            return self.stuck(Why::TargetUnknown);
+            return Some(Why::TargetUnknown);
         };
         self.restore_all(sp, frame, registers, next);
         self.restore_ra(end, ra, to, next);
         self.clear_a0(end, next);
-        let _raised = self.move_sp(top, to);
-        SymStep::Done
+        let _raised = self.move_sp(sp.wrapping_add(frame), to);
+        None
     }
 
     // The number in sp.
@@ -99,22 +94,23 @@ impl State {
         self.memory.has_sp(sp)
     }
 
-    // The first cause why `count` words, from the highest down below an offset from sp, can't be loaded and stored.
-    // Most frames lie in the stack as a whole.
-    fn obstacle(&self, sp: u32, top: u32, count: usize) -> Option<Why>
-        requires room { 4 * count ≤ top }
-        requires aligned { top % 4 ≡ 0 }
-        ensures { MatchOption result (AreReached self.now.core sp top count)
-            (λ why. IsObstacle self.now.core sp top count why) }
+    // Why the words of a frame that begins in the stack can't be loaded and stored, if they can't. The highest comes first,
+    // and lies in the stack only if all of them do.
+    #[inline(always)]
+    fn obstacle(&self, sp: u32, frame: u32) -> Option<Why>
+        requires low { self.now.map.stack_low ≤ sp }
+        requires high { sp ≤ self.now.map.stack_high }
+        requires frame { IsFrameBytes frame }
+        ensures { MatchOption result (IsInStack self.now.map self.now.core sp frame)
+            (IsObstacle self.now.core sp frame) }
     {
-        if sp % 4 == 0 && top <= u32::MAX - sp && self.reaches(sp, top) {
-            return None;
+        // The invariant says where memory lies, so it is read here.
+        let _ = &self.registers;
+        if sp % 4 != 0 {
+            return Some(Why::Misaligned);
         }
-        for k in 0..count {
-            let a = sp.wrapping_add(top - 4 * (k as u32 + 1));
-            if let Err(why) = self.reach(4, Some(a)) {
-                return Some(why);
-            }
+        if !self.has_sp(sp.wrapping_add(frame)) {
+            return Some(Why::BadAddress);
         }
         None
     }
@@ -189,13 +185,30 @@ impl State {
     {
         let ra = Reg::new(1).unwrap();
         match end {
-            PopEnd::GoesOn => self.restore(ra, a, next),
+            PopEnd::GoesOn => self.restore_bytes(ra, a, next),
             PopEnd::Returns | PopEnd::ReturnsZero => self.set_code(ra, to, next),
         }
     }
 
-    // A register that is neither register 0 nor sp gets the word at an address.
+    // A register that is neither register 0 nor sp gets the word at an address. Of a number no four bytes are copied.
+    #[inline(always)]
     fn restore(&mut self, r: Reg, a: u32, next: Place)
+        requires running { self.old.core.exit ≡ None }
+        requires some { r ≢ 0 }
+        requires other { r ≢ 2 }
+        ensures made { RunsOn (applied self.old.map self.old.core (Goes (sets r (load_word LoadOp.Lw self.old.core a)
+            next))) [] self.old.core self.new.core }
+        ensures map { self.new.map ≡ self.old.map }
+    {
+        match self.loaded_number(LoadOp::Lw, a) {
+            Some(n) => self.set_number(r, n, next),
+            None => self.restore_bytes(r, a, next),
+        }
+    }
+
+    // The same of a word of whatever kind.
+    #[inline(never)]
+    fn restore_bytes(&mut self, r: Reg, a: u32, next: Place)
         requires running { self.old.core.exit ≡ None }
         requires some { r ≢ 0 }
         requires other { r ≢ 2 }
@@ -214,7 +227,10 @@ impl State {
     {
         match end {
             PopEnd::GoesOn => Some(next),
-            PopEnd::Returns | PopEnd::ReturnsZero => self.loaded(LoadOp::Lw, ra).code(),
+            PopEnd::Returns | PopEnd::ReturnsZero => match self.loaded_code(ra) {
+                Some(to) => Some(to),
+                None => self.loaded(LoadOp::Lw, ra).code(),
+            },
         }
     }
 

@@ -1,4 +1,4 @@
-// Steps by what stands at a place.
+// Steps of items.
 
 ghost use Rattle.std.specs.Prelude.{◌≡◌, None, Some};
 ghost use Rattle.psabi_sym.specs.Inputs.{parsed};
@@ -55,7 +55,7 @@ impl State {
         }
     }
 
-    // An instruction without relocation.
+    // The step of an instruction without relocation.
     fn step_op(&mut self, instr: &Instr, next: Place) -> Result<SymStep, AllocError>
         requires { self.old.core.exit ≡ None }
         ensures { Makes result (applied self.old.map self.old.core (op_does instr.now self.old.core next)) self.old.core

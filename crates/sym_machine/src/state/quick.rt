@@ -1,4 +1,4 @@
-// The quick way beside `step_item`: steps by numbers alone, jumps to places that are known, and loads and stores of any
+// The fast path beside `step_item`: steps by numbers alone, jumps to places that are known, and loads and stores of any
 // word. They are made in place, and answer no more than whether they were made. All else changes nothing here, and
 // `step_item` makes it.
 
@@ -62,7 +62,7 @@ impl State {
         }
     }
 
-    // The same of an instruction without relocation.
+    // Makes the step of an instruction without relocation if it is a quick one, and else changes nothing.
     #[inline(always)]
     fn quick_op(&mut self, instr: &Instr, next: Place) -> bool
         requires { self.old.core.exit ≡ None }
@@ -125,7 +125,7 @@ impl State {
         }
     }
 
-    // The place whose address a register holds, told in the same way.
+    // The place whose address a register holds, if the register tells it without a look at bytes.
     #[inline(always)]
     fn plain_code(&self, r: Reg) -> Option<Place>
         ensures { IfSome result (λ q. reg_of self.now.core r ≡ code_word q) }
@@ -144,7 +144,7 @@ impl State {
         Some(of_imm(op, self.plain(first)?, imm))
     }
 
-    // The same of an operation on two registers.
+    // The number that an operation on two registers gives, if it is known.
     #[inline(always)]
     fn quick_reg(&self, op: RegOp, first: Reg, second: Reg) -> Option<u32>
         ensures { IfSome result (λ n. number_word n
@@ -270,7 +270,7 @@ impl State {
         self.store_bytes(op, source, a, next)
     }
 
-    // The same of a number to places that are kept.
+    // A store of a number to places that are kept.
     #[inline(always)]
     fn store_number(&mut self, op: StoreOp, source: Reg, a: u32, next: Place) -> bool
         requires running { self.old.core.exit ≡ None }
@@ -321,7 +321,7 @@ fn of_words(op: RegOp, a: u32, b: u32) -> u32
     }
 }
 
-// The same of an operation on a word and an immediate.
+// What an operation on a word and an immediate gives. A sum, which most are, takes no call.
 #[inline(always)]
 fn of_imm(op: ImmOp, n: u32, imm: i32) -> u32
     ensures { result ≡ results.imm_result op n imm }

@@ -5,7 +5,7 @@ ghost use Rattle.std.specs.Option.{option_map_or};
 ghost use Rattle.block_cut.specs.declared.item.Item.TheVariants.{RawShort};
 ghost use Rattle.rv_decode.specs.declared.instr.ImmOp.TheVariants.{Addi};
 ghost use Rattle.rv_decode.specs.declared.instr.Instr.TheVariants.{WithImm};
-ghost use Rattle.sym_machine.specs.Answer.{RunsOn, StepAnswers};
+ghost use Rattle.sym_machine.specs.Answer.{RunsOn, RunsOnUnlessStuck, StepAnswers};
 ghost use Rattle.sym_machine.specs.Change.{Goes, Stops, sets};
 ghost use Rattle.sym_machine.specs.Expansions.{expansion};
 ghost use Rattle.sym_machine.specs.Program.{Program};
@@ -30,54 +30,62 @@ impl State {
         ensures { (p : Program) → StepAnswers (item_step self.old.map p (Some (RawShort half)) self.old.core next)
             result self.old.core self.new.core }
     {
-        match decode16(half) {
-            None => self.stuck(Why::NoInstruction),
-            Some(short) => self.make_short(&short, next),
+        let Some(short) = decode16(half) else {
+            return self.stuck(Why::NoInstruction);
+        };
+        match self.make_short(&short, next) {
+            Some(why) => SymStep::Stuck(self.place(), why),
+            None => SymStep::Done,
         }
     }
 
-    // The step of what a halfword spells.
-    fn make_short(&mut self, short: &Short, next: Place) -> SymStep
+    // Makes the step of the short instruction that a halfword is, or changes nothing and says why it is stuck.
+    fn make_short(&mut self, short: &Short, next: Place) -> Option<Why>
         requires running { self.old.core.exit ≡ None }
         requires operands { HasOperands short.now }
-        ensures { StepAnswers (option_map_or (λ is. in_turn self.old.map is next self.old.core) (expansion short.now)
-            (applied self.old.map self.old.core (Stops NoInstruction))) result self.old.core self.new.core }
+        ensures { RunsOnUnlessStuck (option_map_or (λ is. in_turn self.old.map is next self.old.core)
+            (expansion short.now) (applied self.old.map self.old.core (Stops NoInstruction))) result self.old.core
+            self.new.core }
     {
         match short {
-            Short::Base(_) | Short::TableJump { .. } => self.stuck(Why::NoInstruction),
+            Short::Base(_) | Short::TableJump { .. } => Some(Why::NoInstruction),
             Short::Push { list, adjust } => self.push(*list, *adjust, next),
             Short::Pop { list, adjust } => self.pop(*list, *adjust, PopEnd::GoesOn, next),
             Short::PopRet { list, adjust } => self.pop(*list, *adjust, PopEnd::Returns, next),
             Short::PopRetz { list, adjust } => {
                 self.pop(*list, *adjust, PopEnd::ReturnsZero, next)
             }
-            Short::MoveSa { first, second } => self.move_to(*first, *second, next),
-            Short::MoveAs { first, second } => self.move_from(*first, *second, next),
+            Short::MoveSa { first, second } => {
+                self.move_to(*first, *second, next);
+                None
+            }
+            Short::MoveAs { first, second } => {
+                self.move_from(*first, *second, next);
+                None
+            }
         }
     }
 
     // Moves a0 and a1, one after the other, to two other registers.
-    fn move_to(&mut self, first: Reg, second: Reg, next: Place) -> SymStep
+    fn move_to(&mut self, first: Reg, second: Reg, next: Place)
         requires running { self.old.core.exit ≡ None }
         requires first { IsMoved first }
         requires second { IsMoved second }
-        ensures { StepAnswers (in_turn self.old.map (WithImm Addi first 10 (pos 0) ∷ WithImm Addi second 11 (pos 0)
-            ∷ []) next self.old.core) result self.old.core self.new.core }
+        ensures { RunsOn (in_turn self.old.map (WithImm Addi first 10 (pos 0) ∷ WithImm Addi second 11 (pos 0) ∷ [])
+            next self.old.core) [] self.old.core self.new.core }
     {
         self.copy(first, Reg::new(10).unwrap(), next);
         self.copy(second, Reg::new(11).unwrap(), next);
-        SymStep::Done
     }
 
     // Moves two registers, one after the other, to a0 and a1.
-    fn move_from(&mut self, first: Reg, second: Reg, next: Place) -> SymStep
+    fn move_from(&mut self, first: Reg, second: Reg, next: Place)
         requires { self.old.core.exit ≡ None }
-        ensures { StepAnswers (in_turn self.old.map (WithImm Addi 10 first (pos 0) ∷ WithImm Addi 11 second (pos 0)
-            ∷ []) next self.old.core) result self.old.core self.new.core }
+        ensures { RunsOn (in_turn self.old.map (WithImm Addi 10 first (pos 0) ∷ WithImm Addi 11 second (pos 0) ∷ [])
+            next self.old.core) [] self.old.core self.new.core }
     {
         self.copy(Reg::new(10).unwrap(), first, next);
         self.copy(Reg::new(11).unwrap(), second, next);
-        SymStep::Done
     }
 
     // A register that is neither register 0 nor sp gets the word of another. Of a number no bytes are copied.

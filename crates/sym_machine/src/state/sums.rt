@@ -42,7 +42,7 @@ impl State {
         self.step_sum(instr, &word, next)
     }
 
-    // One whose immediate is the lower part of a target.
+    // An instruction whose immediate is the lower part of a target.
     pub(super) fn step_lo(
         &mut self,
         instr: &Instr,
@@ -57,7 +57,7 @@ impl State {
         self.step_sum(instr, &word, next)
     }
 
-    // One with the lower part that goes with the `auipc` at a place.
+    // An instruction whose immediate is the lower part that goes with the `auipc` at a place.
     pub(super) fn step_pc_lo(
         &mut self,
         cut: &Cut,
@@ -87,7 +87,7 @@ impl State {
         }
     }
 
-    // Such an instruction by the word of its sum.
+    // An instruction that goes by a sum, with the word of that sum.
     fn step_sum(&mut self, instr: &Instr, word: &Held, next: Place) -> Result<SymStep, AllocError>
         requires { self.old.core.exit ≡ None }
         ensures { Makes result (applied self.old.map self.old.core (by_sum instr.now

@@ -40,7 +40,7 @@ impl State {
         self.give(rd, &upper_word(op, imm), next)
     }
 
-    // One whose immediate is the upper part of a target.
+    // An instruction whose immediate is the upper part of a target.
     pub(super) fn step_hi(
         &mut self,
         instr: &Instr,
@@ -54,7 +54,7 @@ impl State {
         self.step_upper(UpperOp::Lui, instr, &high_word(target), next)
     }
 
-    // An `auipc` whose immediate is the upper part of the way to a target.
+    // An `auipc` whose immediate is the upper part of the distance to a target.
     pub(super) fn step_pc_hi(&mut self, instr: &Instr, next: Place) -> Result<SymStep, AllocError>
         requires { self.old.core.exit ≡ None }
         ensures { Makes result (applied self.old.map self.old.core (upper_does Auipc instr.now (value_word

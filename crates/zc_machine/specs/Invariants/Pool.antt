@@ -6,7 +6,7 @@ use Rattle.std.specs.List.{count_by, range_with_len}
 abbrev pub byte_of_pages : List ℕ → List ℕ → ℕ → ℕ
 byte_of_pages table pool i = slice_index pool (4096 * slice_index table (i / 4096) + i % 4096)
 
--- so many cells from an index on
+-- `size` cells from an index on
 abbrev pub pooled_bytes : List ℕ → List ℕ → ℕ → ℕ → List ℕ
 pooled_bytes table pool from size = map (byte_of_pages table pool) (range_with_len from size)
 
@@ -20,7 +20,7 @@ pub record IsPool (table pool : List ℕ) (capacity : ℕ) : Type 0 where
   pub room : 4096 * length table + 4096 ≤ capacity
   pub few : length table ≤ 2 ^ 52
 
--- the pages of so many cells, with so many bytes before them in the first page
+-- the pages of `size` cells, with `skip` bytes before them in the first page
 pub record AreCellPages (table pool : List ℕ) (capacity skip size : ℕ) : Type 0 where
   pub in_pool : IsPool table pool capacity
   pub first : skip < 4096

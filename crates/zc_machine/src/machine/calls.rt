@@ -52,8 +52,8 @@ impl Machine {
         self.commits += 1;
     }
 
-    /// The first of so many bytes at an address, up to where they end or to the next multiple of 4,096, or
-    /// none if they don't lie in one segment of data or in the stack.
+    /// The first of `len` bytes at an address, up to where they end or to the next multiple of 4,096, or none if they
+    /// don't lie in one segment of data or in the stack.
     pub fn piece(&self, at: u32, len: u32) -> Option<&[u8]>
         requires { 0 < len }
         ensures within { is_some result ≡ lies_in is_data (extents_of self.now.memory) at len }
@@ -67,7 +67,7 @@ impl Machine {
         Some(&self.memory.reach(AccessKind::Data, at)[..count as usize])
     }
 
-    // The environment call that the registers spell.
+    // The environment call that the registers ask for.
     pub(super) fn call(&self) -> Step
         ensures { result ≡ answer_of (called self.now) }
     {

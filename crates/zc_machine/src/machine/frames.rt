@@ -7,8 +7,7 @@ ghost use Rattle.zc_decode.specs.Accesses.{sp_after, words_below};
 ghost use Rattle.zc_decode.specs.Effect.{restored, returned, saved, short_effect, zeroed};
 ghost use Rattle.zc_decode.specs.Lists.{registers_of};
 ghost use Rattle.zc_decode.specs.declared.short.Short.TheVariants.{Push, Pop, PopRet, PopRetz};
-ghost use Rattle.zc_machine.specs.Answer.{answer_of, core_after};
-ghost use Rattle.zc_machine.specs.Frames.{all_made, obstacle, popped, pushed, word_obstacle, words_put, words_taken};
+ghost use Rattle.zc_machine.specs.Frames.{MakesStep, all_made, obstacle, popped, pushed, word_obstacle, words_put, words_taken};
 ghost use Rattle.zc_machine.specs.Step.{effect_step};
 
 use super::Machine;
@@ -26,9 +25,8 @@ impl Machine {
     // Makes a push of this size.
     pub(super) fn push(&mut self, list: u8, adjust: u8, size: u32) -> Step
         requires { self.old.commits < 2 ^ 64 - 1 }
-        ensures answer { result ≡ answer_of (effect_step (short_effect (Push list adjust) size self.old) self.old) }
-        ensures state { self.new ≡ core_after (effect_step (short_effect (Push list adjust)
-            size self.old) self.old) self.old }
+        ensures { MakesStep (effect_step (short_effect (Push list adjust) size self.old) self.old) result self.old
+            self.new }
     {
         match self.save_list(list, adjust) {
             Some(reason) => Step::Stopped(reason),
@@ -39,9 +37,8 @@ impl Machine {
     // Makes a pop of this size.
     pub(super) fn pop(&mut self, list: u8, adjust: u8, size: u32) -> Step
         requires { self.old.commits < 2 ^ 64 - 1 }
-        ensures answer { result ≡ answer_of (effect_step (short_effect (Pop list adjust) size self.old) self.old) }
-        ensures state { self.new ≡ core_after (effect_step (short_effect (Pop list adjust)
-            size self.old) self.old) self.old }
+        ensures { MakesStep (effect_step (short_effect (Pop list adjust) size self.old) self.old) result self.old
+            self.new }
     {
         match self.restore_list(list, adjust) {
             Some(reason) => Step::Stopped(reason),
@@ -52,9 +49,8 @@ impl Machine {
     // Makes a pop that returns.
     pub(super) fn pop_ret(&mut self, list: u8, adjust: u8, size: u32) -> Step
         requires { self.old.commits < 2 ^ 64 - 1 }
-        ensures answer { result ≡ answer_of (effect_step (short_effect (PopRet list adjust) size self.old) self.old) }
-        ensures state { self.new ≡ core_after (effect_step (short_effect (PopRet list adjust)
-            size self.old) self.old) self.old }
+        ensures { MakesStep (effect_step (short_effect (PopRet list adjust) size self.old) self.old) result self.old
+            self.new }
     {
         match self.restore_list(list, adjust) {
             Some(reason) => Step::Stopped(reason),
@@ -65,9 +61,8 @@ impl Machine {
     // Makes a pop that returns 0.
     pub(super) fn pop_retz(&mut self, list: u8, adjust: u8, size: u32) -> Step
         requires { self.old.commits < 2 ^ 64 - 1 }
-        ensures answer { result ≡ answer_of (effect_step (short_effect (PopRetz list adjust) size self.old) self.old) }
-        ensures state { self.new ≡ core_after (effect_step (short_effect (PopRetz list adjust)
-            size self.old) self.old) self.old }
+        ensures { MakesStep (effect_step (short_effect (PopRetz list adjust) size self.old) self.old) result self.old
+            self.new }
     {
         if let Some(reason) = self.restore_list(list, adjust) {
             return Step::Stopped(reason);

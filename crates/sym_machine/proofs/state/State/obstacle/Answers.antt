@@ -1,25 +1,37 @@
--- A frame that lies in memory as a whole has no word that doesn't; and each word that can be loaded and stored is one more.
-use Rattle.std.proofs.Common.{◌≡◌, ℕ, ◌+◌, ◌-◌, ◌*◌, ◌%◌, ◌^◌, Some, ap, sym, ◌∙◌, arith}
-use Rattle.sym_machine.specs.Answer.{reached}
-use Rattle.sym_machine.specs.Change.{accessing}
-use Rattle.sym_machine.specs.Invariants.Frames.{word_address}
-use Rattle.sym_machine.proofs.FrameLaws.{reached_next, reached_on, reached_whole}
+-- A frame at an address that is no multiple of 4 is misaligned; else it lies in the stack as a whole, or its highest word lies nowhere.
+use Rattle.std.proofs.Common.{◌≡◌, ℕ, ◌≤◌, pos, Bool, true, false, drop, refl, sym, ◌∙◌, subst}
+use Rattle.std.specs.Prelude.{◌&&◌, nat_le}
+use Rattle.rv_decode.specs.Bits.{add32}
+use Rattle.sym_machine.specs.Invariants.Frames.{IsInStack, IsObstacle}
+use Rattle.sym_machine.specs.Kept.{Working}
+use Rattle.sym_machine.specs.declared.why.Why.TheVariants.{BadAddress}
+use Rattle.sym_machine.proofs.FrameLaws.{frame_inside, frame_misaligned, frame_outside}
+use Rattle.sym_machine.proofs.StateLaws.{core_of}
 use Rattle.sym_machine.proofs.state.State.obstacle.Goals as goal
 
-pub returns-then-reaches : goal.returns-then-reaches
-returns-then-reaches c =
-    let s = c.args.self.now.core in
-    reached_whole s c.args.sp c.args.top c.args.count (omega (arith, c.ranges.sp.fits, c.if-top-sp.true)) (omega (arith, c.if-sp-eq0.true)) c.requires.aligned c.requires.room
-    (sym c.reaches.ensures ∙ c.if-reaches.true)
+-- a frame that begins in a state's stack, and whether it ends there
+record Begins (sp top : ℕ) (ends : Bool) (w : Working) : Type 0 where
+  low : w.map.stack_low ≤ sp
+  high : sp ≤ w.map.stack_high
+  end : (nat_le w.map.stack_low (add32 sp (pos top)) && nat_le (add32 sp (pos top)) w.map.stack_high) ≡ ends
 
-pub loop-k-preserved : goal.loop-k-preserved
-loop-k-preserved c =
-    let s = c.args.self.now.core in
-    let k = c.loop-k.k in
-    let a : ℕ = word_address c.args.sp c.args.top k in
-    let at : a ≡ (c.args.sp + (c.args.top - 4 * (k + 1))) % 2 ^ 32 = omega arith in
-    let here = reached_on s a c.in_default.field-0 (λ go. ap (λ n. accessing 4 (Some n) s go) at ∙ c.reach.ensures go ∙ ap (λ r. reached r go) c.in_default.is) in
-    record { before = reached_next s c.args.sp c.args.top k c.loop-k.invariant.before here }
+pub returns-then-sp-ne0 : goal.returns-then-sp-ne0
+returns-then-sp-ne0 c = frame_misaligned c.args.self.now.core c.args.sp c.args.frame c.requires.frame c.if-sp-ne0.true
+
+pub returns-then-not-has_sp : goal.returns-then-not-has_sp
+returns-then-not-has_sp c =
+    let i = c.self.inside in
+    let s = core_of i.place i.registers i.memory (drop i.taken i.input.items) i.exit in
+    let begins : Begins c.args.sp c.args.frame false c.args.self.now = record { low = c.requires.low; high = c.requires.high; end = sym c.has_sp.ensures ∙ c.if-not-has_sp.true } in
+    let b = subst (Begins c.args.sp c.args.frame false) (sym c.self.view_is) begins in
+    subst (λ (w : Working). IsObstacle w.core c.args.sp c.args.frame BadAddress) c.self.view_is
+    (frame_outside i.memory c.self.invariant.0.kept s refl c.args.sp c.args.frame b.low b.high c.requires.frame b.end c.if-sp-ne0.false)
 
 pub returns : goal.returns
-returns c = record { room = c.requires.room; each = λ i few. c.loop-k.invariant.before i (omega (arith, few, c.loop-k-test.false)) }
+returns c =
+    let i = c.self.inside in
+    let s = core_of i.place i.registers i.memory (drop i.taken i.input.items) i.exit in
+    let begins : Begins c.args.sp c.args.frame true c.args.self.now = record { low = c.requires.low; high = c.requires.high; end = sym c.has_sp.ensures ∙ c.if-not-has_sp.false } in
+    let b = subst (Begins c.args.sp c.args.frame true) (sym c.self.view_is) begins in
+    subst (λ (w : Working). IsInStack w.map w.core c.args.sp c.args.frame) c.self.view_is
+    (frame_inside i.memory c.self.invariant.0.kept s refl c.args.sp c.args.frame b.low b.high c.requires.frame b.end c.if-sp-ne0.false)

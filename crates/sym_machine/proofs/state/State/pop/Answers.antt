@@ -1,65 +1,34 @@
--- The step is stuck at a load, as sp is raised, or as it returns; or all loads are made, then a0 is 0 or not, and sp is raised.
-use Rattle.std.proofs.Common.{◌≡◌, ℕ, ◌+◌, ◌-◌, ◌*◌, ◌%◌, ◌^◌, ◌<◌, pos, List, [], ◌++◌, length, Some, None, Bool, true, false, ap, sym, ◌∙◌, subst, arith, get_or}
+-- The step is stuck at its first load, or as it returns; or all loads are made, then a0 is 0 or not, and sp is raised.
+use Rattle.std.proofs.Common.{◌≡◌, ℕ, ◌+◌, ◌-◌, ◌*◌, ◌%◌, ◌^◌, ◌<◌, pos, List, [], ◌++◌, length, Some, None, Bool, true, refl, ap, sym, ◌∙◌, subst, arith, get_or}
 use Rattle.std.specs.Bool.{OnTrue}
-use Rattle.std.specs.Prelude.{All}
 use Rattle.zc_base.specs.declared.mem_map.MemMap.{MemMap}
 use Rattle.zc_base.specs.declared.place.Place.{Place}
 use Rattle.rv_decode.specs.Bits.{add32}
 use Rattle.rv_decode.specs.declared.instr.LoadOp.TheVariants.{Lw}
-use Rattle.sym_machine.specs.Answer.{RunsOn, StepAnswers}
+use Rattle.sym_machine.specs.Answer.{RunsOn}
 use Rattle.sym_machine.specs.Change.{Goes, load_word, sets}
 use Rattle.sym_machine.specs.Expansions.{restores}
 use Rattle.sym_machine.specs.Invariants.Frames as frames
-use Rattle.sym_machine.specs.Invariants.Frames.{AreReached, HasStack, IsFrameRegister, IsLoading, IsZeroed, behind_loads, word_address}
+use Rattle.sym_machine.specs.Invariants.Frames.{AreReached, HasStack, IsFrameBytes, IsFrameRegister, IsLoading, IsZeroed, behind_loads, word_address}
 use Rattle.sym_machine.specs.State.{PlainCore}
-use Rattle.sym_machine.specs.Step.{PlainStep, Stuck, Went, applied, in_turn}
+use Rattle.sym_machine.specs.Step.{Stuck, Went, applied, in_turn}
 use Rattle.sym_machine.specs.Words.{code_of, number_word}
 use Rattle.sym_machine.specs.declared.state.frames.PopEnd.{PopEnd}
-use Rattle.sym_machine.specs.declared.why.Why.TheVariants.{StackPointer, TargetUnknown}
+use Rattle.sym_machine.specs.declared.why.Why.TheVariants.{TargetUnknown}
 use Rattle.sym_machine.proofs.FrameLaws.{loading_more, loads_stuck}
-use Rattle.sym_machine.proofs.PushPopLaws.{is_within, list_registers, loaded_of, loaded_some, pop_goes, raise_outside, return_stuck, returns_of}
-use Rattle.zc_decode.specs.Lists.{registers_of}
-use Rattle.zc_decode.specs.Operands.{IsFrameSize}
-use Rattle.zc_decode.proofs.OperandLaws.{frame_list, frame_range}
+use Rattle.sym_machine.proofs.PushPopLaws.{IsListed, is_listed, is_within, loaded_of, loaded_some, pop_goes, return_stuck}
 use Rattle.sym_machine.proofs.state.State.pop.Goals as goal
-
--- what is known of the list, in the code's names for it and for the frame
-record IsList (frame : ℕ) (rs : List ℕ) : Type 0 where
-  known : All IsFrameRegister rs
-  some : 0 < length rs
-  last : get_or rs (length rs - 1) 0 ≡ 1
-  positive : 0 < frame
-  small : frame < 2 ^ 31
-
-is_list : (list adjust frame : ℕ) (rs : List ℕ) → IsFrameSize list adjust → frame ≡ adjust → rs ≡ registers_of list → IsList frame rs
-is_list list adjust frame rs size frame_is rs_is =
-    let of = frame_list list adjust size in
-    let range = frame_range list adjust size in
-    let least = range.least in
-    let most = range.most in
-    record {
-      known = subst (All IsFrameRegister) (sym rs_is) (list_registers list);
-      some = subst (λ (l : List ℕ). 0 < length l) (sym rs_is) of.some;
-      last = subst (λ (l : List ℕ). get_or l (length l - 1) 0 ≡ 1) (sym rs_is) of.last;
-      positive = omega (arith, frame_is, least);
-      small = omega (arith, frame_is, most);
-    }
 
 -- the address of ra's word
 ra_at : (sp frame n : ℕ) → 0 < n → (sp + (frame - 4 * n)) % 2 ^ 32 ≡ word_address sp frame (n - 1)
 ra_at sp frame n some = ap (λ k. (sp + k) % 2 ^ 32) (let same : frame - 4 * n ≡ frame - 4 * (n - 1 + 1) = omega (arith, some) in same)
 
-module _ (map : MemMap) (sp frame : ℕ) (end : PopEnd) (rs : List ℕ) (next : Place) (s : PlainCore) (small : sp < 2 ^ 32) (of : IsList frame rs) (stack : HasStack map sp s) (reached : AreReached s sp frame (length rs)) where
-  outside : is_within map (add32 sp (pos frame)) ≡ false → in_turn map (restores frame rs ++ behind_loads end frame) next s ≡ Stuck StackPointer
-  outside out =
-      let z = loaded_some map sp frame end rs next s of.some of.last small of.known stack reached in
-      z.is.same ∙ raise_outside map sp frame next z.state z.is.stack of.positive (returns_of end) out
-
+module _ (map : MemMap) (sp frame : ℕ) (end : PopEnd) (rs : List ℕ) (next : Place) (s : PlainCore) (small : sp < 2 ^ 32) (of : IsListed frame rs) (stack : HasStack map sp s) (reached : AreReached s sp frame (length rs)) where
   unknown : is_within map (add32 sp (pos frame)) ≡ true → frames.pop_target end (code_of (load_word Lw s (word_address sp frame (length rs - 1)))) next ≡ None
       → in_turn map (restores frame rs ++ behind_loads end frame) next s ≡ Stuck TargetUnknown
   unknown inside none =
       let z = loaded_some map sp frame end rs next s of.some of.last small of.known stack reached in
-      z.is.same ∙ return_stuck map sp frame next z.state z.is.stack of.positive inside end (ap (λ w. frames.pop_target end (code_of w) next) z.is.ra ∙ none)
+      z.is.same ∙ return_stuck map sp frame next z.state z.is.stack of.size.some inside end (ap (λ w. frames.pop_target end (code_of w) next) z.is.ra ∙ none)
 
   goes : (s1 z s4 : PlainCore) (to : Place) → is_within map (add32 sp (pos frame)) ≡ true
       → frames.pop_target end (code_of (load_word Lw s (word_address sp frame (length rs - 1)))) next ≡ Some to
@@ -67,7 +36,7 @@ module _ (map : MemMap) (sp frame : ℕ) (end : PopEnd) (rs : List ℕ) (next : 
       → in_turn map (restores frame rs ++ behind_loads end frame) next s ≡ Went s4 []
   goes s1 z s4 to inside target loading cleared h =
       let l = loaded_of map sp frame end rs next s of.some of.last s1 z loading cleared in
-      l.same ∙ pop_goes map sp frame next z l.stack of.positive inside end to s4 (ap (λ w. frames.pop_target end (code_of w) next) l.ra ∙ target) h
+      l.same ∙ pop_goes map sp frame next z l.stack of.size.some inside end to s4 (ap (λ w. frames.pop_target end (code_of w) next) l.ra ∙ target) h
 
   -- behind all other loads ra's is made
   all_loaded : (s1 s2 : PlainCore) → IsLoading map sp frame (length rs - 1) rs next s s1
@@ -81,28 +50,22 @@ module _ (map : MemMap) (sp frame : ℕ) (end : PopEnd) (rs : List ℕ) (next : 
       ap (λ r. applied map s1 (Goes (sets r (load_word Lw s1 (word_address sp frame k)) next))) of.last ∙ h in
       subst (λ (n : ℕ). IsLoading map sp frame n rs next s s2) all (loading_more map sp frame rs next s small of.known k s1 s2 few (reached.each k few) loading own)
 
+pub obstacle-requires-clause-frame : goal.obstacle-requires-clause-frame
+obstacle-requires-clause-frame c =
+    (is_listed c.args.list c.args.adjust c.from-frame.result c.registers-registers.result.now c.requires.size c.from-frame.ensures c.registers-registers.ensures.value).size
+
 pub returns-in-Some : goal.returns-in-Some
 returns-in-Some c =
     let first = c.args.self.now in
     let s = first.core in
     let frame : ℕ = c.from-frame.result in
     let rs : List ℕ = c.registers-registers.result.now in
-    let of = is_list c.args.list c.args.adjust frame rs c.requires.size c.from-frame.ensures c.registers-registers.ensures.value in
-    let all = (λ j. in_turn first.map (restores (sym c.from-frame.ensures j) (sym c.registers-registers.ensures.value j) ++ behind_loads c.args.end (sym c.from-frame.ensures j)) c.args.next s)
-    ∙ loads_stuck first.map c.sp-sp.result frame rs c.args.next s c.sp-sp.type_inv of.known c.sp-sp.ensures c.in-Some.why (behind_loads c.args.end frame) c.in-Some.ensures in
-    subst (λ (t : PlainStep). StepAnswers t c.stuck.result s s) (sym all) c.stuck.ensures
-
-pub returns-then-not-has_sp : goal.returns-then-not-has_sp
-returns-then-not-has_sp c =
-    let first = c.args.self.now in
-    let s = first.core in
-    let frame : ℕ = c.from-frame.result in
-    let rs : List ℕ = c.registers-registers.result.now in
-    let of = is_list c.args.list c.args.adjust frame rs c.requires.size c.from-frame.ensures c.registers-registers.ensures.value in
-    let out = sym c.has_sp.ensures ∙ c.if-not-has_sp.true in
-    let all = (λ j. in_turn first.map (restores (sym c.from-frame.ensures j) (sym c.registers-registers.ensures.value j) ++ behind_loads c.args.end (sym c.from-frame.ensures j)) c.args.next s)
-    ∙ outside first.map c.sp-sp.result frame c.args.end rs c.args.next s c.sp-sp.type_inv of c.sp-sp.ensures c.in_default.ensures out in
-    subst (λ (t : PlainStep). StepAnswers t c.stuck-then-not-has_sp.result s s) (sym all) c.stuck-then-not-has_sp.ensures
+    let of = is_listed c.args.list c.args.adjust frame rs c.requires.size c.from-frame.ensures c.registers-registers.ensures.value in (
+      c.requires.running,
+      refl,
+      (λ j. in_turn first.map (restores (sym c.from-frame.ensures j) (sym c.registers-registers.ensures.value j) ++ behind_loads c.args.end (sym c.from-frame.ensures j)) c.args.next s)
+          ∙ loads_stuck first.map c.sp-sp.result frame rs c.args.next s c.sp-sp.type_inv of.known c.sp-sp.ensures c.in-Some.why (behind_loads c.args.end frame) of.some c.in-Some.ensures,
+    )
 
 pub returns-in_default-pop_target : goal.returns-in_default-pop_target
 returns-in_default-pop_target c =
@@ -111,15 +74,23 @@ returns-in_default-pop_target c =
     let sp : ℕ = c.sp-sp.result in
     let frame : ℕ = c.from-frame.result in
     let rs : List ℕ = c.registers-registers.result.now in
-    let of = is_list c.args.list c.args.adjust frame rs c.requires.size c.from-frame.ensures c.registers-registers.ensures.value in
-    let inside = sym c.has_sp.ensures ∙ c.if-not-has_sp.false in
-    let none = ap (λ a. frames.pop_target c.args.end (code_of (load_word Lw s a)) c.args.next) (sym (ra_at sp frame (length rs) of.some)) ∙ sym c.pop_target.ensures ∙ c.in_default-pop_target.is in
-    let all = (λ j. in_turn first.map (restores (sym c.from-frame.ensures j) (sym c.registers-registers.ensures.value j) ++ behind_loads c.args.end (sym c.from-frame.ensures j)) c.args.next s)
-    ∙ unknown first.map sp frame c.args.end rs c.args.next s c.sp-sp.type_inv of c.sp-sp.ensures c.in_default.ensures inside none in
-    subst (λ (t : PlainStep). StepAnswers t c.stuck-in_default-pop_target.result s s) (sym all) c.stuck-in_default-pop_target.ensures
+    let of = is_listed c.args.list c.args.adjust frame rs c.requires.size c.from-frame.ensures c.registers-registers.ensures.value in
+    let none = ap (λ a. frames.pop_target c.args.end (code_of (load_word Lw s a)) c.args.next) (sym (ra_at sp frame (length rs) of.some)) ∙ sym c.pop_target.ensures ∙ c.in_default-pop_target.is in (
+      c.requires.running,
+      refl,
+      (λ j. in_turn first.map (restores (sym c.from-frame.ensures j) (sym c.registers-registers.ensures.value j) ++ behind_loads c.args.end (sym c.from-frame.ensures j)) c.args.next s)
+          ∙ unknown first.map sp frame c.args.end rs c.args.next s c.sp-sp.type_inv of c.sp-sp.ensures (c.in_default.ensures.reached (length rs) of.room) c.in_default.ensures.end none,
+    )
 
 pub restore_all-requires-clause-known : goal.restore_all-requires-clause-known
-restore_all-requires-clause-known c = subst (All IsFrameRegister) (sym c.registers-registers.ensures.value) (list_registers c.args.list)
+restore_all-requires-clause-known c =
+    (is_listed c.args.list c.args.adjust c.from-frame.result c.registers-registers.result.now c.requires.size c.from-frame.ensures c.registers-registers.ensures.value).known
+
+pub restore_all-requires-clause-reached : goal.restore_all-requires-clause-reached
+restore_all-requires-clause-reached c =
+    let rs : List ℕ = c.registers-registers.result.now in
+    let of = is_listed c.args.list c.args.adjust c.from-frame.result rs c.requires.size c.from-frame.ensures c.registers-registers.ensures.value in
+    c.in_default.ensures.reached (length rs) of.room
 
 pub restore_ra-requires-clause-leads : goal.restore_ra-requires-clause-leads
 restore_ra-requires-clause-leads c =
@@ -141,13 +112,14 @@ returns c =
     let s2 = c.restore_ra.new.self in
     let z = c.clear_a0.new.self in
     let s4 = c.move_sp-raised.new.self.core in
-    let of = is_list c.args.list c.args.adjust frame rs c.requires.size c.from-frame.ensures c.registers-registers.ensures.value in
-    let inside = sym c.has_sp.ensures ∙ c.if-not-has_sp.false in
+    let of = is_listed c.args.list c.args.adjust frame rs c.requires.size c.from-frame.ensures c.registers-registers.ensures.value in
+    let inside = c.in_default.ensures.end in
+    let reached = c.in_default.ensures.reached (length rs) of.room in
     let map1 = c.restore_all.ensures.runs.1 in
     let map2 : s2.map ≡ first.map = c.restore_ra.ensures.map ∙ map1 in
     let ra_made : applied first.map s1.core (Goes (sets 1 (load_word Lw s1.core (word_address sp frame (length rs - 1))) next)) ≡ Went s2.core [] =
     (λ j. applied (sym map1 j) s1.core (Goes (sets 1 (load_word Lw s1.core (sym (ra_at sp frame (length rs) of.some) j)) next))) ∙ c.restore_ra.ensures.made.2 in
-    let loading = all_loaded first.map sp frame c.args.end rs next s c.sp-sp.type_inv of c.sp-sp.ensures c.in_default.ensures s1.core s2.core c.restore_all.ensures.loaded ra_made in
+    let loading = all_loaded first.map sp frame c.args.end rs next s c.sp-sp.type_inv of c.sp-sp.ensures reached s1.core s2.core c.restore_all.ensures.loaded ra_made in
     let target = ap (λ a. frames.pop_target c.args.end (code_of (load_word Lw s a)) next) (sym (ra_at sp frame (length rs) of.some)) ∙ sym c.pop_target.ensures ∙ c.in-Some-pop_target.is in
     let map_z : z.map ≡ first.map = c.clear_a0.ensures.runs.1 ∙ map2 in
     let top : ℕ = (sp + frame) % 2 ^ 32 in
@@ -158,5 +130,5 @@ returns c =
       c.requires.running,
       made.1,
       (λ j. in_turn first.map (restores (sym c.from-frame.ensures j) (sym c.registers-registers.ensures.value j) ++ behind_loads c.args.end (sym c.from-frame.ensures j)) next s)
-          ∙ goes first.map sp frame c.args.end rs next s c.sp-sp.type_inv of c.sp-sp.ensures c.in_default.ensures s2.core z.core s4 to inside target loading cleared raised,
+          ∙ goes first.map sp frame c.args.end rs next s c.sp-sp.type_inv of c.sp-sp.ensures reached s2.core z.core s4 to inside target loading cleared raised,
     )

@@ -1,24 +1,24 @@
 -- The step is stuck as sp is lowered or at a store; or all stores come behind sp.
-use Rattle.std.proofs.Common.{◌≡◌, ℕ, ◌+◌, ◌-◌, ◌%◌, ◌^◌, ◌≤◌, negsuc, List, [], ◌∷◌, length, Bool, ap, sym, ◌∙◌, subst, arith}
+use Rattle.std.proofs.Common.{◌≡◌, ℕ, ◌+◌, ◌-◌, ◌%◌, ◌^◌, ◌≤◌, negsuc, List, [], ◌∷◌, length, Bool, leb, refl, ap, sym, ◌∙◌, subst, arith}
+use Rattle.std.proofs.lemmas.Bool.{and_parts, leb-true}
 use Rattle.std.specs.Bool.{OnTrue}
-use Rattle.std.specs.Prelude.{All}
 use Rattle.zc_base.specs.declared.mem_map.MemMap.{MemMap}
 use Rattle.rv_decode.specs.Bits.{add32}
 use Rattle.rv_decode.specs.declared.instr.ImmOp.TheVariants.{Addi}
 use Rattle.rv_decode.specs.declared.instr.Instr.TheVariants.{WithImm}
-use Rattle.sym_machine.specs.Answer.{RunsOn, StepAnswers}
+use Rattle.sym_machine.specs.Answer.{RunsOn}
 use Rattle.sym_machine.specs.Change.{Goes, sets}
 use Rattle.sym_machine.specs.Expansions.{saves}
-use Rattle.sym_machine.specs.Invariants.Frames.{IsFrameRegister, IsObstacle}
-use Rattle.sym_machine.specs.Step.{PlainStep, Went, applied, in_turn}
+use Rattle.sym_machine.specs.Invariants.Frames.{IsObstacle}
+use Rattle.sym_machine.specs.Step.{Went, applied, in_turn}
 use Rattle.sym_machine.specs.Words.{number_word}
 use Rattle.sym_machine.proofs.FrameLaws.{reached_same}
-use Rattle.sym_machine.proofs.PushPopLaws.{is_within, list_registers, lowered_is, push_goes, push_outside, push_stuck}
+use Rattle.sym_machine.proofs.PushPopLaws.{is_listed, is_within, lowered_is, push_goes, push_outside, push_stuck}
 use Rattle.sym_machine.proofs.StepLaws.{extents-made}
 use Rattle.zc_decode.proofs.OperandLaws.{frame_range}
 use Rattle.sym_machine.proofs.state.State.push.Goals as goal
 
--- where sp is lowered to, for a frame of so many bytes
+-- where sp is lowered to, for a frame of `frame` bytes
 lowers : (sp frame adjust : ℕ) → frame ≡ adjust → 16 ≤ adjust → adjust ≤ 112 → (sp + (2 ^ 32 - frame)) % 2 ^ 32 ≡ add32 sp (negsuc (frame - 1))
 lowers sp frame adjust is least most = lowered_is sp frame (omega (arith, is, least)) (omega (arith, is, most))
 
@@ -31,10 +31,28 @@ returns-then-not-has_sp c =
     let rs : List ℕ = c.registers-registers.result.now in
     let range = frame_range c.args.list c.args.adjust c.requires.size in
     let low = lowers sp frame c.args.adjust c.from-frame.ensures range.least range.most in
-    let out = ap (is_within first.map) (sym low) ∙ sym c.has_sp.ensures ∙ c.if-not-has_sp.true in
-    let all = (λ j. in_turn first.map (WithImm Addi 2 2 (negsuc (sym c.from-frame.ensures j - 1)) ∷ saves (sym c.from-frame.ensures j) (sym c.registers-registers.ensures.value j)) c.args.next s)
-    ∙ push_outside first.map s sp frame c.sp-sp.ensures rs c.args.next out in
-    subst (λ (t : PlainStep). StepAnswers t c.stuck.result s s) (sym all) c.stuck.ensures
+    let out = ap (is_within first.map) (sym low) ∙ sym c.has_sp.ensures ∙ c.if-not-has_sp.true in (
+      c.requires.running,
+      refl,
+      (λ j. in_turn first.map (WithImm Addi 2 2 (negsuc (sym c.from-frame.ensures j - 1)) ∷ saves (sym c.from-frame.ensures j) (sym c.registers-registers.ensures.value j)) c.args.next s)
+          ∙ push_outside first.map s sp frame c.sp-sp.ensures rs c.args.next out,
+    )
+
+pub obstacle-requires-clause-low : goal.obstacle-requires-clause-low
+obstacle-requires-clause-low c =
+    let map = c.args.self.now.map in
+    let low : ℕ = (c.sp-sp.result + (2 ^ 32 - c.from-frame.result)) % 2 ^ 32 in
+    leb-true map.stack_low low (and_parts (leb map.stack_low low) (leb low map.stack_high) (sym c.has_sp.ensures ∙ c.if-not-has_sp.false)).0
+
+pub obstacle-requires-clause-high : goal.obstacle-requires-clause-high
+obstacle-requires-clause-high c =
+    let map = c.args.self.now.map in
+    let low : ℕ = (c.sp-sp.result + (2 ^ 32 - c.from-frame.result)) % 2 ^ 32 in
+    leb-true low map.stack_high (and_parts (leb map.stack_low low) (leb low map.stack_high) (sym c.has_sp.ensures ∙ c.if-not-has_sp.false)).1
+
+pub obstacle-requires-clause-frame : goal.obstacle-requires-clause-frame
+obstacle-requires-clause-frame c =
+    (is_listed c.args.list c.args.adjust c.from-frame.result c.registers-registers.result.now c.requires.size c.from-frame.ensures c.registers-registers.ensures.value).size
 
 pub returns-in-Some : goal.returns-in-Some
 returns-in-Some c =
@@ -45,25 +63,31 @@ returns-in-Some c =
     let rs : List ℕ = c.registers-registers.result.now in
     let range = frame_range c.args.list c.args.adjust c.requires.size in
     let low = lowers sp frame c.args.adjust c.from-frame.ensures range.least range.most in
+    let of = is_listed c.args.list c.args.adjust frame rs c.requires.size c.from-frame.ensures c.registers-registers.ensures.value in
     let inside = ap (is_within first.map) (sym low) ∙ sym c.has_sp.ensures ∙ c.if-not-has_sp.false in
     let why = c.in-Some.why in
-    let is = subst (λ (n : ℕ). IsObstacle s n frame (length rs) why) low c.in-Some.ensures in
-    let all = (λ j. in_turn first.map (WithImm Addi 2 2 (negsuc (sym c.from-frame.ensures j - 1)) ∷ saves (sym c.from-frame.ensures j) (sym c.registers-registers.ensures.value j)) c.args.next s)
-    ∙ push_stuck first.map s sp frame c.sp-sp.ensures rs c.args.next why inside is in
-    subst (λ (t : PlainStep). StepAnswers t c.stuck-in-Some.result s s) (sym all) c.stuck-in-Some.ensures
+    let is = subst (λ (n : ℕ). IsObstacle s n frame why) low c.in-Some.ensures in (
+      c.requires.running,
+      refl,
+      (λ j. in_turn first.map (WithImm Addi 2 2 (negsuc (sym c.from-frame.ensures j - 1)) ∷ saves (sym c.from-frame.ensures j) (sym c.registers-registers.ensures.value j)) c.args.next s)
+          ∙ push_stuck first.map s sp frame c.sp-sp.ensures rs c.args.next why inside of.some is,
+    )
 
 pub save_all-requires-clause-known : goal.save_all-requires-clause-known
-save_all-requires-clause-known c = subst (All IsFrameRegister) (sym c.registers-registers.ensures.value) (list_registers c.args.list)
+save_all-requires-clause-known c =
+    (is_listed c.args.list c.args.adjust c.from-frame.result c.registers-registers.result.now c.requires.size c.from-frame.ensures c.registers-registers.ensures.value).known
 
 pub save_all-requires-clause-reached : goal.save_all-requires-clause-reached
 save_all-requires-clause-reached c =
     let first = c.args.self.now in
+    let rs : List ℕ = c.registers-registers.result.now in
     let s = first.core in
     let s1 = c.move_sp-lowered.new.self.core in
     let low : ℕ = (c.sp-sp.result + (2 ^ 32 - c.from-frame.result)) % 2 ^ 32 in
     let could = c.move_sp-lowered.ensures.could ∙ sym c.has_sp.ensures ∙ c.if-not-has_sp.false in
     let made = subst (λ (b : Bool). OnTrue b (RunsOn (applied first.map s (Goes (sets 2 (number_word low) c.args.next))) [] s s1)) could c.move_sp-lowered.ensures.made in
-    reached_same s s1 low c.from-frame.result (length c.registers-registers.result.now) (extents-made first.map s s1 (Goes (sets 2 (number_word low) c.args.next)) [] made.2) c.in_default.ensures
+    reached_same s s1 low c.from-frame.result (length rs) (extents-made first.map s s1 (Goes (sets 2 (number_word low) c.args.next)) [] made.2)
+    (c.in_default.ensures.reached (length rs) (is_listed c.args.list c.args.adjust c.from-frame.result rs c.requires.size c.from-frame.ensures c.registers-registers.ensures.value).room)
 
 pub returns : goal.returns
 returns c =

@@ -27,8 +27,5 @@ returns c =
       exit = None;
     }
 
-pub new-requires-clause-stack : goal.new-requires-clause-stack
-new-requires-clause-stack c = omega (arith, c.map-map.ensures.is_map.stack)
-
 pub new-requires-clause-apart : goal.new-requires-clause-apart
 new-requires-clause-apart c = omega (arith, c.map-map.ensures.is_map.data_room, c.map-map.ensures.is_map.stack, c.in_ok-data.ensures.most)
