@@ -1,4 +1,4 @@
--- Addresses at given sizes: how many there are, how they follow one another, and how large they are.
+-- Addresses at given sizes: their number, how they follow one another, and how large they are.
 use Rattle.std.proofs.Common.{◌≡◌, ℕ, zero, suc, ◌+◌, ◌%◌, ◌<◌, ◌≤◌, List, [], ◌∷◌, length, All, get_or, refl, sym, ap, ◌∙◌, subst, arith, true}
 use Rattle.std.specs.Prelude.{slice_index}
 use Rattle.std.specs.List.{sum_by}
@@ -7,8 +7,8 @@ use Rattle.std.proofs.lemmas.List.{get_or_default}
 use Rattle.std.proofs.lemmas.List.Elements.{All-nil, All-cons, All-tail}
 use Rattle.std.proofs.lemmas.List.Sums.{sum_by-cons}
 use Rattle.shrink_layout.specs.declared.piece.Piece.{Piece}
-use Rattle.shrink_layout.specs.Forms.{IsForm, HasAlignment, IsEvenPiece, holds, longest, near_limit, target, width}
-use Rattle.shrink_layout.specs.Layout.{addresses_of, holds_at, fit_from, all_fit, IsLayout}
+use Rattle.shrink_layout.specs.Forms.{IsForm, HasAlignment, IsEvenPiece, form_reaches, longest, near_limit, target, width}
+use Rattle.shrink_layout.specs.Layout.{addresses_of, form_reaches_at, fit_from, all_fit, IsLayout}
 use Rattle.shrink_layout.specs.Least.{AreForms}
 use Rattle.shrink_layout.proofs.FormLaws.{even_after, width_most}
 use Rattle.shrink_layout.proofs.RoundLaws.{round_forms}
@@ -28,7 +28,7 @@ layout_forms text pieces sizes is = subst (AreForms pieces) (sym is.is) (round_f
 
 -- ---- how addresses follow one another
 
--- there is one for each piece, and that of the end
+-- there is one address for each piece, and one for the end
 pub length_addresses : (at : ℕ) (pieces : List Piece) (sizes : List ℕ) → AreForms pieces sizes → length (addresses_of at pieces sizes) ≡ length pieces + 1
 length_addresses at [] sizes h = refl
 length_addresses at (p ∷ pieces) [] h = absurd h
@@ -98,7 +98,7 @@ address_least at pieces sizes h = λ k d lt.
       ascending at pieces sizes h 0 k (omega arith) (omega (arith, lt, length_addresses at pieces sizes h)),
     )
 
--- so any two are near
+-- any two addresses are near each other
 pub near_addresses : (at : ℕ) (pieces : List Piece) (sizes : List ℕ) → All HasAlignment pieces → AreForms pieces sizes → sum_by longest pieces < near_limit
     → All (λ a. All (λ b. a < b + near_limit) (addresses_of at pieces sizes)) (addresses_of at pieces sizes)
 near_addresses at pieces sizes some h near = λ k d lt j e within. omega (arith, near, address_most at pieces sizes some h k d lt, address_least at pieces sizes h j e within)
@@ -106,19 +106,19 @@ near_addresses at pieces sizes some h near = λ k d lt j e within. omega (arith,
 -- ---- what fits
 
 -- if pieces that are counted from n on fit, the form of each reaches its target
-pub fit_at : (a : List ℕ) (n : ℕ) (pieces : List Piece) (sizes : List ℕ) (k : ℕ) (d : Piece) → k < length pieces → AreForms pieces sizes → fit_from a n pieces sizes ≡ true → holds_at a (n + k) (get_or pieces k d) (slice_index sizes k) ≡ true
+pub fit_at : (a : List ℕ) (n : ℕ) (pieces : List Piece) (sizes : List ℕ) (k : ℕ) (d : Piece) → k < length pieces → AreForms pieces sizes → fit_from a n pieces sizes ≡ true → form_reaches_at a (n + k) (get_or pieces k d) (slice_index sizes k) ≡ true
 fit_at a n [] sizes k d lt h fits = absurd (omega arith)
 fit_at a n (p ∷ pieces) [] k d lt h fits = absurd h
 fit_at a n (p ∷ pieces) (size ∷ sizes) zero d lt h fits =
     let first : n + 0 ≡ n = omega arith in
-    ap (λ j. holds_at a j p size) first ∙ (and_parts (holds_at a n p size) (fit_from a (n + 1) pieces sizes) fits).0
+    ap (λ j. form_reaches_at a j p size) first ∙ (and_parts (form_reaches_at a n p size) (fit_from a (n + 1) pieces sizes) fits).0
 fit_at a n (p ∷ pieces) (size ∷ sizes) (suc k) d lt h fits =
     let next : n + suc k ≡ n + 1 + k = omega arith in
-    ap (λ j. holds_at a j (get_or pieces k d) (slice_index sizes k)) next ∙ fit_at a (n + 1) pieces sizes k d (omega arith) h.1 (and_parts (holds_at a n p size) (fit_from a (n + 1) pieces sizes) fits).1
+    ap (λ j. form_reaches_at a j (get_or pieces k d) (slice_index sizes k)) next ∙ fit_at a (n + 1) pieces sizes k d (omega arith) h.1 (and_parts (form_reaches_at a n p size) (fit_from a (n + 1) pieces sizes) fits).1
 
 -- if all fit, the form of each piece reaches its target
 pub fits_at : (text : ℕ) (pieces : List Piece) (sizes : List ℕ) (k : ℕ) (d : Piece) → k < length pieces → AreForms pieces sizes → all_fit text pieces sizes ≡ true
-    → holds (get_or pieces k d) (slice_index sizes k) (slice_index (addresses_of text pieces sizes) k) (slice_index (addresses_of text pieces sizes) (target (get_or pieces k d))) ≡ true
+    → form_reaches (get_or pieces k d) (slice_index sizes k) (slice_index (addresses_of text pieces sizes) k) (slice_index (addresses_of text pieces sizes) (target (get_or pieces k d))) ≡ true
 fits_at text pieces sizes k d lt h fits =
     let from_first : 0 + k ≡ k = omega arith in
-    ap (λ j. holds_at (addresses_of text pieces sizes) j (get_or pieces k d) (slice_index sizes k)) (sym from_first) ∙ fit_at (addresses_of text pieces sizes) 0 pieces sizes k d lt h fits
+    ap (λ j. form_reaches_at (addresses_of text pieces sizes) j (get_or pieces k d) (slice_index sizes k)) (sym from_first) ∙ fit_at (addresses_of text pieces sizes) 0 pieces sizes k d lt h fits

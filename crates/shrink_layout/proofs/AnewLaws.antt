@@ -16,7 +16,7 @@ use Rattle.shrink_layout.proofs.MoveLaws.{most_at}
 use Rattle.shrink_layout.proofs.RoundLaws.{length_forms}
 use Rattle.shrink_layout.proofs.WidthLaws.{width_at}
 
--- how many pieces of the block changed before each of the pieces so far, and before the next one, which has number k
+-- the number of changed pieces of the block before each of its pieces so far, and before the next one, which has number k
 abbrev counts_with : Widths → ℕ → ℕ → List ℕ
 counts_with w k changed = set w.within.items k changed
 
@@ -80,7 +80,7 @@ module _ (pieces : List Piece) (sizes : List ℕ) (old : Widths) (block : ℕ) (
         ] in
         omega (arith, sum_below pieces all (length-set w.sums k taken ∙ now.sums_count ∙ can.long) most, can.room)
 
-    -- one more piece is laid
+    -- one piece more is laid
     pub laid_more : (w' : Widths) (changed' : ℕ) → w'.starts.items ≡ w.starts.items → w'.changes.items ≡ w.changes.items
         → w'.sums ≡ set w.sums k taken → w'.within.items ≡ counts_with w k changed → changed ≤ changed' → changed' ≤ changed + 1
         → (changed ≡ changed' → slice_index w.sums k ≡ taken) → IsLaidTo text pieces sizes old w' first (k + 1) (at + taken) changed'

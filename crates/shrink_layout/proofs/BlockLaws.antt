@@ -1,4 +1,4 @@
--- Pieces that are moved: which take as many bytes as before, and which reach as before.
+-- Pieces that are moved: which ones take as many bytes as before, and whose targets are in range as before.
 use Rattle.std.proofs.Common.{◌≡◌, ℕ, zero, suc, pos, negsuc, ◌+◌, ◌-◌, ◌%◌, ◌/◌, ◌<◌, ◌≤◌, true, cond, eqb, List, length, set, get_or-set_same, get_or-set_other, refl, sym, ap, ◌∙◌, subst, arith, inl, inr}
 use Rattle.std.specs.Prelude.{slice_index}
 use Rattle.std.proofs.Math.Nat.{add-mod-mod, mod-mod_of_dvd}
@@ -6,17 +6,17 @@ use Rattle.std.proofs.lemmas.Bool.{cases_lt}
 use Rattle.std.proofs.lemmas.Nat.Gcd.{dvd_of_mod-eq-zero, dvd_trans, mod-eq-zero_of_dvd}
 use Rattle.psabi_reloc.specs.Reaches.{branch_reach, short_branch_reach, short_jump_reach}
 use Rattle.shrink_layout.specs.declared.piece.Piece.{Piece}
-use Rattle.shrink_layout.specs.declared.piece.Piece.TheVariants.{Fixed, Joined, Align, Branch, Jump}
+use Rattle.shrink_layout.specs.declared.piece.Piece.TheVariants.{Fixed, WithOthers, Align, Branch, Jump}
 use Rattle.shrink_layout.specs.Invariants.Blocks.{IsMovedBy, block_size, nth_piece}
-use Rattle.shrink_layout.specs.Forms.{distance, holds, width}
+use Rattle.shrink_layout.specs.Forms.{distance, form_reaches, width}
 use Rattle.shrink_layout.proofs.Distances.{distance_back, distance_on}
 
 -- ---- moves
 
--- a piece takes as many bytes at two addresses that are apart by such a multiple
+-- a piece takes as many bytes at two addresses whose distance is such a multiple
 pub same_width : (n : ℕ) (p : Piece) (size a b : ℕ) → IsMovedBy n p → a % n ≡ b % n → width p size a ≡ width p size b
 same_width n (Fixed m) size a b moved e = refl
-same_width n (Joined m) size a b moved e = refl
+same_width n (WithOthers m) size a b moved e = refl
 same_width n (Align alignment) size a b moved e =
     let divides = dvd_of_mod-eq-zero alignment moved in
     let same : a % alignment ≡ b % alignment = sym (mod-mod_of_dvd alignment a divides) ∙ ap (λ r. r % alignment) e ∙ mod-mod_of_dvd alignment b divides in
@@ -27,7 +27,7 @@ same_width n (Jump to) size a b moved e = refl
 -- what is so for a number is so for a multiple of it
 pub moved_through : (n m : ℕ) (p : Piece) → m % n ≡ 0 → IsMovedBy n p → IsMovedBy m p
 moved_through n m (Fixed size) e moved = tt
-moved_through n m (Joined size) e moved = tt
+moved_through n m (WithOthers size) e moved = tt
 moved_through n m (Align alignment) e moved = mod-eq-zero_of_dvd alignment (dvd_trans alignment (dvd_of_mod-eq-zero alignment moved) (dvd_of_mod-eq-zero n e))
 moved_through n m (Branch to short) e moved = tt
 moved_through n m (Jump to) e moved = tt
@@ -37,7 +37,7 @@ abbrev pub AreMovedTo : List Piece → List ℕ → ℕ → Type 0
 AreMovedTo pieces multiples k =
     (j : ℕ) → j < k → 0 < slice_index multiples (j / block_size) → IsMovedBy (slice_index multiples (j / block_size)) (nth_piece pieces j)
 
--- one more, with which the number of its block changes
+-- one piece more, with which the number of its block changes
 pub moved_more :
     (pieces : List Piece) (old new : List ℕ) (k x : ℕ) → k / block_size < length old → new ≡ set old (k / block_size) x
     → (0 < x → (0 < slice_index old (k / block_size)) × IsMovedBy x (nth_piece pieces k))
@@ -60,7 +60,7 @@ moved_more pieces old new k x within is here before now = λ j lt some. elim (ca
       ])
 ]
 
--- one more that is no padding
+-- one piece more that is no padding
 pub moved_still : (pieces : List Piece) (old new : List ℕ) (k : ℕ) → new ≡ old → ((n : ℕ) → IsMovedBy n (nth_piece pieces k)) → AreMovedTo pieces old k
     → AreMovedTo pieces new (k + 1)
 moved_still pieces old new k is any now = subst (λ l. AreMovedTo pieces l (k + 1)) (sym is) (λ j lt some. elim (cases_lt j k) [
@@ -79,7 +79,7 @@ alike_on n here at x y d e is is' =
 abbrev pub IsSameStep : List ℕ → List ℕ → ℕ → Type 0
 IsSameStep old new k = slice_index new (k + 1) + slice_index old k ≡ slice_index old (k + 1) + slice_index new k
 
--- between numbers between which all are as far, the way is the same
+-- where each address is as far from the next as before, distances are the same
 pub same_way : (old new : List ℕ) (i d : ℕ) → ((k : ℕ) → i ≤ k → k < i + d → IsSameStep old new k) → slice_index new (i + d) + slice_index old i ≡ slice_index old (i + d) + slice_index new i
 same_way old new i zero same = let e : i + 0 ≡ i = omega arith in omega (arith, ap (slice_index new) e, ap (slice_index old) e)
 same_way old new i (suc d) same =
@@ -93,7 +93,7 @@ way_between old new i j le same =
     let way = same_way old new i (j - i) (λ k ge lt. same k ge (omega arith)) in
     omega (arith, way, ap (slice_index new) e, ap (slice_index old) e)
 
--- the same way is the same distance
+-- the same difference is the same distance
 same_distance : (f t f' t' : ℕ) → t' + f ≡ t + f' → distance f t ≡ distance f' t'
 same_distance f t f' t' way = elim (cases_lt t f) [
   | inl back ↦
@@ -104,14 +104,14 @@ same_distance f t f' t' way = elim (cases_lt t f) [
       distance_on f t on ∙ ap pos e ∙ sym (distance_on f' t' (omega arith))
 ]
 
--- and what reaches goes by the distance alone
-same_holds : (p : Piece) (size f t f' t' : ℕ) → distance f t ≡ distance f' t' → holds p size f t ≡ holds p size f' t'
+-- whether the target is in a form's range depends on the distance alone
+same_holds : (p : Piece) (size f t f' t' : ℕ) → distance f t ≡ distance f' t' → form_reaches p size f t ≡ form_reaches p size f' t'
 same_holds (Fixed n) size f t f' t' e = refl
-same_holds (Joined n) size f t f' t' e = refl
+same_holds (WithOthers n) size f t f' t' e = refl
 same_holds (Align alignment) size f t f' t' e = refl
 same_holds (Branch to short) size f t f' t' e = ap (λ z. cond (eqb size 2) (short_branch_reach z) (cond (eqb size 4) (branch_reach z) true)) e
 same_holds (Jump to) size f t f' t' e = ap (λ z. cond (eqb size 2) (short_jump_reach z) true) e
 
--- so a form reaches as before
-pub still_holds : (p : Piece) (size f t f' t' : ℕ) → t' + f ≡ t + f' → holds p size f t ≡ true → holds p size f' t' ≡ true
+-- a target is in a form's range as before
+pub still_holds : (p : Piece) (size f t f' t' : ℕ) → t' + f ≡ t + f' → form_reaches p size f t ≡ true → form_reaches p size f' t' ≡ true
 still_holds p size f t f' t' way held = sym (same_holds p size f t f' t' (same_distance f t f' t' way)) ∙ held

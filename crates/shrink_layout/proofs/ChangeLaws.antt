@@ -6,13 +6,13 @@ use Rattle.std.proofs.lemmas.Bool.{cases_lt}
 use Rattle.std.proofs.lemmas.List.{get_or_default}
 use Rattle.std.proofs.lemmas.List.Sums.{sum_by-cons, sum_by-take-le}
 use Rattle.shrink_layout.specs.declared.piece.Piece.{Piece}
-use Rattle.shrink_layout.specs.declared.piece.Piece.TheVariants.{Fixed, Joined, Align, Branch, Jump}
+use Rattle.shrink_layout.specs.declared.piece.Piece.TheVariants.{Fixed, WithOthers, Align, Branch, Jump}
 use Rattle.shrink_layout.specs.declared.widths.Widths.{Widths}
 use Rattle.shrink_layout.specs.Forms.{IsForm, longest, target, width}
 use Rattle.shrink_layout.specs.Invariants.Blocks.{IsStill, block_fits, block_size, nth_piece}
 use Rattle.shrink_layout.specs.Invariants.Rounds.{ArePlaced}
 use Rattle.shrink_layout.specs.Invariants.Widths.{AreCounted, AreStarts, IsUntouched, addresses_by, addresses_in, changed_before}
-use Rattle.shrink_layout.specs.Layout.{addresses_of, holds_at, widths_of}
+use Rattle.shrink_layout.specs.Layout.{addresses_of, form_reaches_at, widths_of}
 use Rattle.shrink_layout.proofs.AddressLaws.{form_at}
 use Rattle.shrink_layout.proofs.BlockLaws.{IsSameStep, still_holds, way_between}
 use Rattle.shrink_layout.proofs.RoundLaws.{length_forms}
@@ -24,7 +24,7 @@ index_is xs k d x lt is = is ∙ get_or_default xs k d 0 lt
 
 -- ---- addresses
 
--- those of pieces are those by the bytes that they take
+-- the addresses of pieces are those by the bytes that they take
 pub by_widths : (at : ℕ) (pieces : List Piece) (sizes : List ℕ) → addresses_by at (widths_of at pieces sizes) ≡ addresses_of at pieces sizes
 by_widths at [] sizes = refl
 by_widths at (p ∷ pieces) [] = refl
@@ -51,7 +51,7 @@ by_next at (w ∷ widths) (suc k) lt =
     let next : suc k + 1 ≡ suc (k + 1) = omega arith in
     ap (slice_index (addresses_by at (w ∷ widths))) next ∙ by_next (at + w) widths k (omega arith)
 
--- and each is after the bytes of all before it
+-- each address comes after the bytes of all pieces before it
 pub by_sum : (at : ℕ) (widths : List ℕ) (k : ℕ) → k ≤ length widths → slice_index (addresses_by at widths) k ≡ at + sum (take k widths)
 by_sum at [] zero le = omega arith
 by_sum at [] (suc k) le = absurd (omega arith)
@@ -62,7 +62,7 @@ by_sum at (w ∷ widths) (suc k) le = omega (arith, by_sum (at + w) widths k (om
 pub by_top : (at : ℕ) (widths : List ℕ) (k : ℕ) → k ≤ length widths → slice_index (addresses_by at widths) k ≤ at + sum widths
 by_top at widths k le = omega (arith, by_sum at widths k le, sum_by-take-le (λ (x : ℕ). x) widths k)
 
--- there is one for each piece, and for the end
+-- there is one address for each piece, and one for the end
 pub by_long : (at : ℕ) (widths : List ℕ) → length (addresses_by at widths) ≡ length widths + 1
 by_long at [] = refl
 by_long at (w ∷ widths) = omega (arith, by_long (at + w) widths)
@@ -144,7 +144,7 @@ module _ (w : Widths) (counted : AreCounted w) where
 -- a piece that takes as many bytes has the same form
 pub same_form : (p : Piece) (size size' at at' : ℕ) → IsForm p size → IsForm p size' → width p size at ≡ width p size' at' → size ≡ size'
 same_form (Fixed n) size size' at at' h h' e = e
-same_form (Joined n) size size' at at' h h' e = e
+same_form (WithOthers n) size size' at at' h h' e = e
 same_form (Align alignment) size size' at at' h h' e = h ∙ sym h'
 same_form (Branch to short) size size' at at' h h' e = e
 same_form (Jump to) size size' at at' h h' e = e
@@ -168,7 +168,7 @@ placed_width pieces sizes w k placed lt =
 module _ (pieces : List Piece) (old sizes : List ℕ) (w w' : Widths) (targets : All (λ p. target p ≤ length pieces) pieces) (before : ArePlaced pieces old w) (after : ArePlaced pieces sizes w')
     (fit : (k : ℕ) → k < length pieces → slice_index sizes k ≡ slice_index old k → block_fits (addresses_in w) pieces old k ≡ true)
     (same : (k : ℕ) → k < length pieces → changed_before w' k ≡ changed_before w' (k + 1) → slice_index w'.sums k ≡ slice_index w.sums k) where
-  -- pieces that take as many bytes leave the next address as far
+  -- pieces that take as many bytes as before leave the next address as far away
   same_step : (m : ℕ) → m < length pieces → changed_before w' m ≡ changed_before w' (m + 1) → IsSameStep (addresses_in w) (addresses_in w') m
   same_step m lt e =
       omega (
@@ -193,7 +193,7 @@ module _ (pieces : List Piece) (old sizes : List ℕ) (w w' : Widths) (targets :
       let form : slice_index sizes k ≡ slice_index old k =
       same_form p (slice_index sizes k) (slice_index old k) _ _ (form_at pieces sizes k (Fixed 0) lt after.forms) (form_at pieces old k (Fixed 0) lt before.forms)
       (sym width_same ∙ same k lt (unchanged k (omega arith) (omega arith)) ∙ placed_width pieces old w k before lt) in
-      let held : holds_at a k p (slice_index sizes k) ≡ true = ap (holds_at a k p) form ∙ fit k lt form in
+      let held : form_reaches_at a k p (slice_index sizes k) ≡ true = ap (form_reaches_at a k p) form ∙ fit k lt form in
       let way : slice_index a' t + slice_index a k ≡ slice_index a t + slice_index a' k = elim (cases_lt t k) [
         | inl back ↦ omega (arith, way_between a a' t k (omega arith) (λ m ge below. same_step m (omega arith) (unchanged m (omega arith) (omega arith))))
         | inr on ↦ way_between a a' k t on (λ m ge below. same_step m (omega (arith, in_t)) (unchanged m (omega arith) (omega arith)))

@@ -1,5 +1,5 @@
--- Pieces are counted as places are: places of a section have numbers one after another, behind that of its padding, so the pieces that meet a
--- test are as many as the places whose units do (`units_counted`).
+-- Pieces are counted as places are: places of a section have numbers one after another, after that of its padding, so as many
+-- pieces meet a test as places whose units do (`units_counted`).
 use Rattle.std.proofs.Common.{◌≡◌, ℕ, zero, suc, ◌+◌, ◌%◌, ◌<◌, List, [], ◌∷◌, ◌++◌, length, filter, map, drop, take, slice_index, Bool, true, false, cond, Option, Some, None, slice_get, refl, sym, ap, ◌∙◌, arith, eqb, ltb}
 use Rattle.std.specs.List.{flat_map, range_with_len, sum_by}
 use Rattle.std.specs.Option.{option_map_or}
@@ -29,7 +29,7 @@ use Rattle.shrink_layout.proofs.NumberLaws.{item_target, length-section_laid, nu
 
 -- ---- the starts of a section, by their numbers in it
 
--- one more each
+-- a range whose numbers are all one larger
 range_more : (a c : ℕ) → map suc (range_with_len a c) ≡ range_with_len (a + 1) c
 range_more a zero = refl
 range_more a (suc c) = let next : suc a ≡ a + 1 = omega arith in λ i. next i ∷ range_more (a + 1) c i
@@ -44,7 +44,7 @@ count_more n low xs (y ∷ ys) lt above =
     λ i. kept i ∷ count_more n low xs ys lt above.1 i
 
 module _ (s : SectionParts) (code : is_code_section s ≡ true) (whole : IsWhole s) where
-  -- each has as many before it as its place in the list says
+  -- the index of each start is its place in the list
   pub indexes : map (index_on s) (starts_in s) ≡ range_with_len 0 (length (starts_in s))
   indexes = along s code whole (λ n xs. map (λ m. length (filter (λ j. ltb j m) xs)) xs ≡ range_with_len 0 (length xs)) refl each
     where
@@ -59,7 +59,7 @@ module _ (s : SectionParts) (code : is_code_section s ≡ true) (whole : IsWhole
 -- ---- tests
 
 module _ (objects : List ObjectParts) where
-  -- so it is for the piece of a jump, whether it has a short form or not
+  -- the piece of a jump counts by its size, whether it has a short form or not
   jump_counts : (to : Place) (short : Bool) (size : ℕ) → (is_short_piece (jump_piece objects to short) size ≡ eqb size 2) × (is_long_piece (jump_piece objects to short) size ≡ false)
   jump_counts to true size = (refl, refl)
   jump_counts to false size = (refl, refl)
@@ -82,7 +82,7 @@ module _ (objects : List ObjectParts) where
   item_counts (item.RawPair first second) size = (refl, refl)
 
 module _ (objects : List ObjectParts) where
-  -- and so with what is written at a place; what is written together counts as neither
+  -- what is written at a place counts as its piece; what is written together counts as neither
   pub unit_short : (o : Option CodeUnit) (size : ℕ) → is_short_piece (unit_piece objects o) size ≡ option_map_or (is_sized 2 size) o false
   unit_short None size = refl
   unit_short (Some (OneItem i)) size = (item_counts objects i size).0
@@ -97,7 +97,7 @@ module _ (objects : List ObjectParts) where
 
 -- ---- counts
 
--- those of two lists
+-- the counts of two lists
 count_append : (test : Piece → ℕ → Bool) (sizes : List ℕ) (k : ℕ) (first second : List Piece)
     → count_from test sizes k (first ++ second) ≡ count_from test sizes k first + count_from test sizes (k + length first) second
 count_append test sizes k [] second =
@@ -158,7 +158,7 @@ module _
         by true same = omega (arith, same)
         by false same = omega (arith, same)
 
-  -- so of a section
+  -- of the places of a section as many pass as pieces
   section_counted : (l : IndexedSection) → section_at inputs.objects l.object l.index ≡ Some l.section → (is_code_section l.section ≡ true → IsWhole l.section)
       → count_from of_piece sizes (1 + sum_by piece_count (sections_before inputs.objects l.object l.index)) (section_pieces inputs slot l) ≡ length (filter passes (places_of l))
   section_counted l here whole = by (is_code_section l.section) refl
@@ -179,7 +179,7 @@ module _
           omega (arith, ap (λ b. cond {A = ℕ} b 1 0) pad, ap (λ n. count_from of_piece sizes n places_of_code) same, own)
       by false other = refl
 
-  -- and of sections one after another
+  -- of the places of sections one after another as many pass as pieces
   sections_counted : (k : ℕ) (ls : List IndexedSection)
       → ((j : ℕ) (l : IndexedSection) → slice_get ls j ≡ Some l → count_from of_piece sizes (k + sum_by piece_count (take j ls)) (section_pieces inputs slot l) ≡ length (filter passes (places_of l)))
       → count_from of_piece sizes k (pieces_in inputs slot ls) ≡ length (filter passes (flat_map places_of ls))

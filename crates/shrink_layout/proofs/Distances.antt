@@ -4,8 +4,8 @@ use Rattle.std.proofs.Math.IntN.{+ℤ-neg_ℤ_cancel, +ℤ_comm}
 use Rattle.std.proofs.lemmas.Bool.{and_from, and_parts, cases_lt, eq-eqb, lt-ltb, ltb-true}
 use Rattle.psabi_reloc.specs.Reaches.{is_even_of}
 use Rattle.shrink_layout.specs.declared.piece.Piece.{Piece}
-use Rattle.shrink_layout.specs.declared.piece.Piece.TheVariants.{Fixed, Joined, Align, Branch, Jump}
-use Rattle.shrink_layout.specs.Forms.{distance, holds}
+use Rattle.shrink_layout.specs.declared.piece.Piece.TheVariants.{Fixed, WithOthers, Align, Branch, Jump}
+use Rattle.shrink_layout.specs.Forms.{distance, form_reaches}
 
 -- ---- what a distance is
 
@@ -15,7 +15,7 @@ on_by a n =
     let sum : n + a ≡ a + n = omega arith in
     ap (λ m. pos m -ℤ pos a) (sym sum) ∙ +ℤ-neg_ℤ_cancel (pos n) (pos a)
 
--- and back from one that is k + 1 bytes on
+-- the distance back from an address that is k + 1 bytes further on
 back_by : (b k : ℕ) → distance (b + suc k) b ≡ negsuc k
 back_by b k =
     let down : pos (b + suc k) +ℤ negsuc k ≡ pos b = +ℤ-neg_ℤ_cancel (pos b) (pos (suc k)) in
@@ -28,7 +28,7 @@ distance_on f t le =
     let sum : f + (t - f) ≡ t = omega arith in
     ap (distance f) (sym sum) ∙ on_by f (t - f)
 
--- and so it is back
+-- the distance back to a lower address
 pub distance_back : (f t : ℕ) → t < f → distance f t ≡ negsuc (f - t - 1)
 distance_back f t lt =
     let sum : t + suc (f - t - 1) ≡ f = omega arith in
@@ -52,7 +52,7 @@ reach_back bits f t lt reached =
     let there = ap (is_even_of bits) (sym (distance_back f t lt)) ∙ reached in
     ltb-true (f - t - 1) (2 ^ (bits - 1)) (and_parts (ltb (f - t - 1) (2 ^ (bits - 1))) (eqb ((f - t - 1) % 2) 1) there).0
 
--- and even addresses that are no farther away are reached
+-- even addresses that are no farther away than this are in range
 on_reach : (bits f t : ℕ) → f ≤ t → f % 2 ≡ 0 → t % 2 ≡ 0 → t - f < 2 ^ (bits - 1) → is_even_of bits (distance f t) ≡ true
 on_reach bits f t le e e' near =
     ap (is_even_of bits) (distance_on f t le)
@@ -64,7 +64,7 @@ back_reach bits f t lt e e' near =
     ap (is_even_of bits) (distance_back f t lt)
     ∙ and_from (ltb (f - t - 1) (2 ^ (bits - 1))) (eqb ((f - t - 1) % 2) 1) (lt-ltb (f - t - 1) (2 ^ (bits - 1)) near) (eq-eqb ((f - t - 1) % 2) 1 (omega arith))
 
--- what reaches so far reaches nearer too
+-- if an address is in range, so is one that is nearer
 pub reaches_nearer : (bits f' t' f t : ℕ) → 0 < 2 ^ (bits - 1) → f' % 2 ≡ 0 → t' % 2 ≡ 0 → Nearer f' t' f t → is_even_of bits (distance f t) ≡ true → is_even_of bits (distance f' t') ≡ true
 reaches_nearer bits f' t' f t some e e' (inl on) reached =
     let far = reach_on bits f t on.1 reached in
@@ -82,10 +82,10 @@ either_way : (b x x' y y' : Bool) → (x ≡ true → x' ≡ true) → (y ≡ tr
 either_way true x x' y y' f g h = f h
 either_way false x x' y y' f g h = g h
 
--- a form that reaches so far reaches nearer too
-pub holds_nearer : (p : Piece) (size f' t' f t : ℕ) → f' % 2 ≡ 0 → t' % 2 ≡ 0 → Nearer f' t' f t → holds p size f t ≡ true → holds p size f' t' ≡ true
+-- if a target is in a form's range, so is one that is nearer
+pub holds_nearer : (p : Piece) (size f' t' f t : ℕ) → f' % 2 ≡ 0 → t' % 2 ≡ 0 → Nearer f' t' f t → form_reaches p size f t ≡ true → form_reaches p size f' t' ≡ true
 holds_nearer (Fixed n) size f' t' f t e e' near reached = refl
-holds_nearer (Joined n) size f' t' f t e e' near reached = refl
+holds_nearer (WithOthers n) size f' t' f t e e' near reached = refl
 holds_nearer (Align alignment) size f' t' f t e e' near reached = refl
 holds_nearer (Branch to short) size f' t' f t e e' near reached =
     either_way (eqb size 2) _ _ _ _ (reaches_nearer 9 f' t' f t (omega arith) e e' near) (either_way (eqb size 4) _ _ _ _ (reaches_nearer 13 f' t' f t (omega arith) e e' near) (λ h. h)) reached

@@ -11,7 +11,7 @@ use Rattle.shrink_layout.specs.Pieces.{group_size, piece_number_at, pieces_of, s
 use Rattle.shrink_layout.specs.Settled.{settled_address, settled_addresses, settled_sizes}
 use Rattle.shrink_layout.specs.Units.{CodeUnit, OneGroup, OneItem, OneSite, unit_items}
 use Rattle.shrink_layout.specs.declared.piece.Piece.{Piece}
-use Rattle.shrink_layout.specs.declared.piece.Piece.TheVariants.{Fixed, Joined}
+use Rattle.shrink_layout.specs.declared.piece.Piece.TheVariants.{Fixed, WithOthers}
 use Rattle.shrink_layout.proofs.AddressLaws.{form_at, next_address}
 use Rattle.shrink_layout.proofs.KeptLaws.{settled_forms}
 use Rattle.shrink_layout.proofs.NumberLaws.{unit_there}
@@ -32,7 +32,7 @@ module _ (inputs : ParsedInputs) (slots : List (Option Place)) (k : ℕ) (p : Pi
   pub piece_form : IsForm p (slice_index (settled_sizes inputs slots) k)
   piece_form = subst (λ x. IsForm x (slice_index (settled_sizes inputs slots) k)) is_piece (form_at (pieces_of inputs slots) (settled_sizes inputs slots) k (Fixed 0) within (settled_forms inputs slots))
 
-  -- and the next address is after its bytes
+  -- the next address is after the piece's bytes
   pub piece_ends : slice_index (settled_addresses inputs slots) (k + 1)
       ≡ slice_index (settled_addresses inputs slots) k + width p (slice_index (settled_sizes inputs slots) k) (slice_index (settled_addresses inputs slots) k)
   unfolding settled_addresses
@@ -41,14 +41,14 @@ module _ (inputs : ParsedInputs) (slots : List (Option Place)) (k : ℕ) (p : Pi
       ∙ ap (λ x. slice_index (settled_addresses inputs slots) k + width x (slice_index (settled_sizes inputs slots) k) (slice_index (settled_addresses inputs slots) k)) is_piece
 
 -- pieces for nothing take no bytes
-nothing_between : (inputs : ParsedInputs) (slots : List (Option Place)) (k n : ℕ) → ((j : ℕ) → 0 < j → j < suc n → slice_get (pieces_of inputs slots) (k + j) ≡ Some (Joined 0))
+nothing_between : (inputs : ParsedInputs) (slots : List (Option Place)) (k n : ℕ) → ((j : ℕ) → 0 < j → j < suc n → slice_get (pieces_of inputs slots) (k + j) ≡ Some (WithOthers 0))
     → slice_index (settled_addresses inputs slots) (k + suc n) ≡ slice_index (settled_addresses inputs slots) (k + 1)
 nothing_between inputs slots k zero between = ap (slice_index (settled_addresses inputs slots)) (omega arith)
 nothing_between inputs slots k (suc n) between =
     let there = between (suc n) (omega arith) (omega arith) in
     let next : k + suc (suc n) ≡ k + suc n + 1 = omega arith in
-    let none = piece_form inputs slots (k + suc n) (Joined 0) there in
-    let ends = piece_ends inputs slots (k + suc n) (Joined 0) there in
+    let none = piece_form inputs slots (k + suc n) (WithOthers 0) there in
+    let ends = piece_ends inputs slots (k + suc n) (WithOthers 0) there in
     omega (
       arith,
       ap (slice_index (settled_addresses inputs slots)) next,
@@ -98,6 +98,6 @@ module _ (inputs : Inputs) (none : gather_fault inputs ≡ None) (slots : List (
   group_ends q g a is here =
       let k = piece_number_at given.objects q in
       let at : slice_index (settled_addresses given slots) k ≡ a = same_Some _ a (sym (unit_address q (OneGroup g) is) ∙ here) in
-      let size = piece_form given slots k (Joined (group_size g)) (unit_there inputs none slots q (OneGroup g) is) in
+      let size = piece_form given slots k (WithOthers (group_size g)) (unit_there inputs none slots q (OneGroup g) is) in
       let sum : slice_index (settled_addresses given slots) (k + 1) ≡ a + group_size g = omega (arith, unit_ends q (OneGroup g) is, at, size) in
       behind_address q (OneGroup g) is ∙ ap Some sum

@@ -5,11 +5,11 @@ use Rattle.std.proofs.lemmas.Option.{get_or_from_slice_get, slice_get_within}
 use Rattle.zc_decode.specs.declared.short.Short.{Short}
 use Rattle.frame_match.specs.declared.group.Group.{Group}
 
--- how many of some groups are of a kind
+-- the number of groups of a kind in a list
 abbrev pub kinds_in : (Short → Bool) → List Group → ℕ
 kinds_in test gs = length (filter (λ g. test g.kind) gs)
 
--- one more
+-- the number of groups of a kind, with one group more
 kinds_more : (test : Short → Bool) (gs : List Group) (g : Group) → kinds_in test (gs ++ g ∷ []) ≡ kinds_in test gs + cond {A = ℕ} (test g.kind) 1 0
 kinds_more test [] g = by (test g.kind)
   where

@@ -42,7 +42,7 @@ abbrev pub slotted : List ℕ → ℕ → List Saving → Place → Bool
 slotted numbers i [] p = false
 slotted numbers i (s ∷ rest) p = (has_slot numbers (i + 1) && same_place p s.target) || slotted numbers (i + 1) rest p
 
--- one that is no target is not
+-- a place that is no target has no slot
 none_slotted : (numbers : List ℕ) (i : ℕ) (savings : List Saving) (p : Place) → list_any (λ s. same_place p s.target) savings ≡ false → slotted numbers i savings p ≡ false
 none_slotted numbers i [] p none = refl
 none_slotted numbers i (s ∷ rest) p none =
@@ -160,7 +160,7 @@ module _ (rd : ℕ) (numbers : List ℕ) where
       by true true true false once a b same = omega (arith, same)
       by true true false n once a b same = omega (arith, same)
 
-  -- so all do
+  -- the slots save two bytes for each site whose target has one
   pub sites_saved : (savings : List Saving) → AreApart savings → (sites : List (ℕ × Place))
       → saved_from (at_sites sites) numbers 0 savings ≡ 2 * length (filter (λ y. eqb y.0 rd && slotted numbers 0 savings y.1) sites)
   sites_saved savings apart [] = saved_none numbers 0 savings
@@ -176,7 +176,7 @@ module _ (rd : ℕ) (numbers : List ℕ) where
 
 -- ---- savings by sites
 
--- each saving says how many sites lead to its target
+-- each saving has the number of sites that lead to its target
 abbrev pub AreCounted : List (ℕ × Place) → List Saving → Type 0
 AreCounted sites savings = Each (λ s. s ≡ saving_of sites s.target) savings
 

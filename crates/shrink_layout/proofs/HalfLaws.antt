@@ -29,11 +29,11 @@ pub no_table_half : is_table_half 0 ≡ false
 unfolding decoded16 form_of
 no_table_half = refl
 
--- one with the effect of an instruction doesn't
+-- a halfword with the effect of a 32-bit instruction is no jump through the table
 pub effect_no_table : (i : Instr) (half : ℕ) → HasEffectOf i half → is_table_half half ≡ false
 effect_no_table i half has = ap is_table_jump has.1
 
--- that of a slot does
+-- the halfword of a slot is a jump through the table
 pub table_half_is : (slot half : ℕ) → encoded16 (TableJump slot) ≡ Some half → is_table_half half ≡ true
 unfolding decoded16
 table_half_is slot half is =
@@ -52,28 +52,28 @@ table_half_is slot half is =
 
 -- ---- those of pieces
 
--- those of two lists
+-- the halfwords of two lists
 pub halves-append : (owners more : List (Option CodeUnit)) (halves others : List ℕ) → AreHalvesOf owners halves → AreHalvesOf more others → AreHalvesOf (owners ++ more) (halves ++ others)
 halves-append [] more [] others one two = two
 halves-append [] more (h ∷ halves) others one two = absurd one
 halves-append (owner ∷ owners) more [] others one two = absurd one
 halves-append (owner ∷ owners) more (h ∷ halves) others one two = (one.0, halves-append owners more halves others one.1 two)
 
--- there are as many
+-- there are as many halfwords as owners
 pub length-halves : (owners : List (Option CodeUnit)) (halves : List ℕ) → AreHalvesOf owners halves → length halves ≡ length owners
 length-halves [] [] are = refl
 length-halves [] (h ∷ halves) are = absurd are
 length-halves (owner ∷ owners) [] are = absurd are
 length-halves (owner ∷ owners) (h ∷ halves) are = ap suc (length-halves owners halves are.1)
 
--- that of one
+-- the halfword of one owner
 half_got : (owners : List (Option CodeUnit)) (halves : List ℕ) → AreHalvesOf owners halves → (k : ℕ) (o : Option CodeUnit) → slice_get owners k ≡ Some o → IsHalfAt o (slice_index halves k)
 half_got [] halves are k o is = absurd (none-some o is)
 half_got (owner ∷ owners) [] are k o is = absurd are
 half_got (owner ∷ owners) (h ∷ halves) are zero o is = subst (λ x. IsHalfAt x h) (same_Some owner o is) are.0
 half_got (owner ∷ owners) (h ∷ halves) are (suc k) o is = half_got owners halves are.1 k o is
 
--- those of all pieces
+-- the halfwords of all pieces
 pub all_halves : (inputs : Inputs) → gather_fault inputs ≡ None → (slots : List (Option Place)) (halves : List ℕ)
     → AreHalvesOf (all_owners (parsed inputs) slots) halves → AreHalves (parsed inputs) slots halves
 all_halves inputs none slots halves are =
@@ -92,7 +92,7 @@ site_half_by (Some (OneItem i)) half is table = absurd (cc (is.1, table))
 site_half_by (Some (OneGroup g)) half is table = absurd (cc (is, table))
 site_half_by (Some (OneSite slot)) half is table = sym is
 
--- and none if it isn't
+-- another halfword is none of a jump through the table
 pub no_site_half_by : (o : Option CodeUnit) (half : ℕ) → IsHalfAt o half → is_table_half half ≡ false → IsSiteHalf o None
 no_site_half_by None half is other = refl
 no_site_half_by (Some (OneItem i)) half is other = refl

@@ -29,7 +29,7 @@ none_below n (x ∷ xs) all =
     ap (λ b. cond b (x ∷ filter (λ j. ltb j n) xs) (filter (λ j. ltb j n) xs)) (le-ltb x n (all 0 x refl))
     ∙ none_below n xs (λ i m got. all (suc i) m got)
 
--- each has as many below it as stand before it, and all come from a number on
+-- each number of the list has as many below it as come before it, and all are n or above
 record AreOrdered (n : ℕ) (xs : List ℕ) : Type 0 where
   above : (i m : ℕ) → slice_get xs i ≡ Some m → n ≤ m
   index : (i m : ℕ) → slice_get xs i ≡ Some m → length (filter (λ j. ltb j m) xs) ≡ i

@@ -26,7 +26,7 @@ module _ (inputs : ParsedInputs) (slots : List (Option Place)) where
   unfolding settled_sizes sizes_of
   settled_forms = round_forms inputs.map.text (pieces_of inputs slots) (2 * length (pieces_of inputs slots))
 
-  -- there is one for each piece
+  -- there is one size for each piece
   pub sizes_long : length (settled_sizes inputs slots) ≡ length (pieces_of inputs slots)
   sizes_long = length_forms (pieces_of inputs slots) (settled_sizes inputs slots) settled_forms
 
@@ -40,7 +40,7 @@ module _ (inputs : ParsedInputs) (slots : List (Option Place)) where
   unfolding settled_addresses
   address_first = first_address inputs.map.text (pieces_of inputs slots) (settled_sizes inputs slots)
 
-  -- so the text doesn't end before it begins
+  -- the text doesn't end before it begins
   pub end_rises : inputs.map.text ≤ settled_end inputs slots
   unfolding settled_end
   end_rises = omega (arith, address_first, addresses_rise 0 (length (pieces_of inputs slots)) (omega arith) (omega arith))
@@ -50,12 +50,12 @@ module _ (inputs : ParsedInputs) (slots : List (Option Place)) where
   unfolding settled_sizes
   kept_sizes = refl
 
-  -- so are the bytes that pieces take
+  -- the bytes that pieces take are those of the layout
   pub kept_widths : widths_of inputs.map.text (pieces_of inputs slots) (sizes_of inputs.map.text (pieces_of inputs slots)) ≡ settled_widths inputs slots
   unfolding settled_widths settled_sizes
   kept_widths = refl
 
-  -- of which there are as many as pieces
+  -- there are as many of them as pieces
   pub widths_long : length (settled_widths inputs slots) ≡ length (pieces_of inputs slots)
   unfolding settled_widths
   widths_long = widths_count inputs.map.text (pieces_of inputs slots) (settled_sizes inputs slots) sizes_long
@@ -65,7 +65,7 @@ module _ (inputs : ParsedInputs) (slots : List (Option Place)) where
   unfolding settled_addresses settled_widths
   address_summed k le = address_by_widths inputs.map.text (pieces_of inputs slots) (settled_sizes inputs slots) k sizes_long le
 
-  -- and so are addresses
+  -- the addresses of pieces are those of the layout
   pub kept_addresses : addresses_of inputs.map.text (pieces_of inputs slots) (sizes_of inputs.map.text (pieces_of inputs slots)) ≡ settled_addresses inputs slots
   unfolding settled_addresses
   kept_addresses = ap (addresses_of inputs.map.text (pieces_of inputs slots)) kept_sizes
@@ -117,7 +117,7 @@ size_by inputs slots q there outside = by (item_at inputs q) refl there
     by None is h = absurd cc
     by (Some i) is h = size_outside inputs slots q i is outside
 
--- its number is below the number of pieces then
+-- the number of an item's piece is below the number of pieces
 pub below_by : (inputs : Inputs) → gather_fault inputs ≡ None → (slots : List (Option Place)) (q : Place) → is_some (item_at (parsed inputs) q) ≡ true → piece_number_at (parsed inputs).objects q < length (pieces_of (parsed inputs) slots)
 below_by inputs none slots q there = by (item_at (parsed inputs) q) refl there
   where

@@ -10,8 +10,8 @@ use Rattle.shrink_layout.specs.declared.piece.Piece.{Piece}
 use Rattle.shrink_layout.specs.declared.piece.Piece.TheVariants.{Fixed}
 use Rattle.shrink_layout.specs.declared.widths.Widths.{Widths}
 use Rattle.shrink_layout.specs.Invariants.Blocks.{AreMultiples, AreNear, block_count, block_fits, block_size, nth_piece}
-use Rattle.shrink_layout.specs.Forms.{IsForm, holds, longer, longest, shortest, target}
-use Rattle.shrink_layout.specs.Layout.{addresses_of, all_fit, fit_from, grown_from, holds_at, next_sizes, widths_of}
+use Rattle.shrink_layout.specs.Forms.{IsForm, form_reaches, longer, longest, shortest, target}
+use Rattle.shrink_layout.specs.Layout.{addresses_of, all_fit, fit_from, grown_from, form_reaches_at, next_sizes, widths_of}
 use Rattle.shrink_layout.specs.Least.{AreForms}
 use Rattle.shrink_layout.specs.Invariants.Rounds.{AreBlocks, AreLaid, ArePlaced, CanBeLaid, HaveGrown}
 use Rattle.shrink_layout.specs.Invariants.Widths.{AreCounted, AreStarts, CanBeTested, addresses_in, changed_before}
@@ -63,7 +63,7 @@ module _ (text : ℕ) (pieces : List Piece) (sizes : List ℕ) (w : Widths) (blo
         | inr more ↦ omega (arith, still, counted.none, count_block w counted 1 (omega (arith, more)), changed (1 * block_size) (omega (arith, more)))
       ]
 
-  -- so each is tested
+  -- before the first round the pieces are laid, since each is tested
   pub shortest_laid : AreLaid pieces sizes w blocks
   shortest_laid = record {
     placed = shortest_placed;
@@ -81,7 +81,7 @@ module _ (text : ℕ) (pieces : List Piece) (sizes : List ℕ) (w : Widths) (blo
 
 -- ---- pieces that are tested
 
--- it can be tested which pieces fit
+-- with this it can be tested which pieces fit
 pub placed_testable : (pieces : List Piece) (sizes : List ℕ) (w : Widths) → ArePlaced pieces sizes w → CanBeTested pieces w
 placed_testable pieces sizes w placed =
     let text = slice_index w.starts.items 0 in
@@ -117,7 +117,7 @@ laid_others pieces sizes w blocks laid k lt still =
 -- ---- pieces that grow
 
 -- a piece that kept its form fitted
-kept_fitted : (b : Bool) (p : Piece) (size new f t : ℕ) → b ≡ holds p size f t → IsForm p size → new ≡ cond b size (longer p size) → new ≡ size → b ≡ true
+kept_fitted : (b : Bool) (p : Piece) (size new f t : ℕ) → b ≡ form_reaches p size f t → IsForm p size → new ≡ cond b size (longer p size) → new ≡ size → b ≡ true
 kept_fitted true p size new f t is form grown same = refl
 kept_fitted false p size new f t is form grown same =
     let less = slack_falls p size f t form (sym is) in
@@ -132,7 +132,7 @@ module _ (pieces : List Piece) (old sizes : List ℕ) (w : Widths) (before after
       grown_all (addresses_in w) pieces old sizes before.lows.items after.lows.items before.highs.items after.highs.items after.grown.items block n fitted all (length_forms pieces old laid.placed.forms) grown
       ∙ ap (λ l. grown_from l 0 pieces old) (placed_addresses pieces old w laid.placed)
 
-  -- and it is told whether they fitted
+  -- the answer says whether all pieces fitted
   pub were_fit : fitted ≡ all_fit (slice_index w.starts.items 0) pieces old
   were_fit =
       fitted_all (addresses_in w) pieces old sizes before.lows.items after.lows.items before.highs.items after.highs.items after.grown.items block n fitted all (length_forms pieces old laid.placed.forms) grown
@@ -157,7 +157,7 @@ module _ (pieces : List Piece) (old sizes : List ℕ) (w : Widths) (before after
     fit = λ k lt same.
         let a = addresses_in w in
         let p = nth_piece pieces k in
-        kept_fitted (holds_at a k p (slice_index old k)) p (slice_index old k) (slice_index sizes k) (slice_index a k) (slice_index a (target p)) refl
+        kept_fitted (form_reaches_at a k p (slice_index old k)) p (slice_index old k) (slice_index sizes k) (slice_index a k) (slice_index a (target p)) refl
         (form_at pieces old k (Fixed 0) lt laid.placed.forms) (grown.done k (omega (arith, all, lt))) same;
     near = λ k lt. (all_tested (addresses_in w) pieces old sizes before.lows.items after.lows.items before.highs.items after.highs.items after.grown.items block n fitted all grown k lt).1;
   }
@@ -178,7 +178,7 @@ fit_laid pieces old sizes w before after laid grown next fits =
       blocks_are = grown.blocks_are;
       others = λ k ge lt still.
           let e : k ≡ 0 + k = omega arith in
-          ap (λ n. holds_at a n (nth_piece pieces k) (slice_index sizes k)) e ∙ fit_at a 0 pieces sizes k (Fixed 0) lt grown.forms fit;
+          ap (λ n. form_reaches_at a n (nth_piece pieces k) (slice_index sizes k)) e ∙ fit_at a 0 pieces sizes k (Fixed 0) lt grown.forms fit;
       near = λ k lt still. grown.near k lt;
     }
 
@@ -222,7 +222,7 @@ module _ (pieces : List Piece) (sizes : List ℕ) (old w : Widths) (blocks : Blo
         };
       }
 
-  -- so the pieces are laid
+  -- after the blocks are moved the pieces are laid
   pub moved_laid : AreLaid pieces sizes w blocks
   moved_laid = record {
     placed = moved_placed;

@@ -1,12 +1,12 @@
--- If no piece is aligned above 2 bytes, smaller sizes make every way shorter. So a form that reaches at a choice that fits reaches
--- at every smaller one, and no round passes a choice that fits.
+-- If no piece is aligned above 2 bytes, smaller sizes make every distance shorter. So a form whose target is in range at a choice
+-- that fits has it in range at every smaller one, and no round passes a choice that fits.
 use Rattle.std.proofs.Common.{◌≡◌, ℕ, zero, suc, ◌+◌, ◌%◌, ◌<◌, ◌≤◌, Bool, true, false, cond, List, [], ◌∷◌, map, length, All, refl, sym, ap, ◌∙◌, arith, inl, inr, subst}
 use Rattle.std.specs.Prelude.{slice_index}
 use Rattle.std.proofs.lemmas.List.Elements.{All-tail}
 use Rattle.std.proofs.lemmas.Bool.{and_parts, cases_lt, cases_order, true≢false}
 use Rattle.shrink_layout.specs.declared.piece.Piece.{Piece}
 use Rattle.shrink_layout.specs.Forms.{shortest, longer, IsEvenPiece, IsForm, width, target}
-use Rattle.shrink_layout.specs.Layout.{addresses_of, holds_at, fit_from, grown_from, Fits, round, IsLayout}
+use Rattle.shrink_layout.specs.Layout.{addresses_of, form_reaches_at, fit_from, grown_from, Fits, round, IsLayout}
 use Rattle.shrink_layout.specs.Least.{AreForms, IsLeast, IsTight}
 use Rattle.shrink_layout.proofs.AddressLaws.{ascending, even_address, first_address}
 use Rattle.shrink_layout.proofs.Distances.{Nearer, holds_nearer}
@@ -19,7 +19,7 @@ Below [] other = Unit {0}
 Below (r ∷ sizes) [] = ⊥
 Below (r ∷ sizes) (s ∷ other) = (r ≤ s) × Below sizes other
 
--- that is, at each place
+-- the sizes are no larger at each place
 pub below_at : (sizes other : List ℕ) → Below sizes other → (k : ℕ) → slice_index sizes k ≤ slice_index other k
 below_at [] other h k = omega arith
 below_at (r ∷ sizes) [] h k = absurd h
@@ -28,7 +28,7 @@ below_at (r ∷ sizes) (s ∷ other) h (suc k) = below_at sizes other h.1 k
 
 -- ---- ways
 
--- with smaller sizes it is no farther, also if some pieces are others
+-- with smaller sizes a distance is no longer, even if some pieces are others
 pub closer :
     (low high : ℕ) (pieces others : List Piece) (sizes other : List ℕ) → All IsEvenPiece pieces → All IsTight pieces → All IsEvenPiece others → All IsTight others
     → low % 2 ≡ 0 → high % 2 ≡ 0 → AreForms pieces sizes → AreForms others other → Below sizes other → (i j : ℕ) → i ≤ j → j ≤ length pieces
@@ -56,7 +56,7 @@ closer low high (p ∷ pieces) (p' ∷ others) (r ∷ sizes) (s ∷ other) even 
     let is_even' = even' 0 p' (omega arith) in
     closer (low + width p r low) (high + width p' s high) pieces others sizes other (All-tail IsEvenPiece p pieces even) (All-tail IsTight p pieces tight) (All-tail IsEvenPiece p' others even') (All-tail IsTight p' others tight') (even_after p r low is_even h.0 e) (even_after p' s high is_even' h'.0 e') h.1 h'.1 b.1 i j (omega arith) (omega arith)
 
--- each way is nearer, in either direction
+-- each distance is shorter, in either direction
 pub nearer :
     (low high : ℕ) (pieces others : List Piece) (sizes other : List ℕ) → All IsEvenPiece pieces → All IsTight pieces → All IsEvenPiece others → All IsTight others
     → low % 2 ≡ 0 → high % 2 ≡ 0 → length others ≡ length pieces → AreForms pieces sizes → AreForms others other → Below sizes other
@@ -75,7 +75,8 @@ head_below : (b : Bool) (p : Piece) (r s : ℕ) → IsForm p r → IsForm p s �
 head_below true p r s h h' le f = le
 head_below false p r s h h' le f = longer_least p r s h h' (f refl)
 
--- so what a round makes of smaller sizes is no larger than the other choice; a and a' are the addresses at the two, and n counts all pieces
+-- what a round makes of smaller sizes is no larger than the other choice; a and a' are the addresses at the two, and n counts all
+-- pieces
 below_grown : (a a' : List ℕ) (n k : ℕ) (pieces : List Piece) (sizes other : List ℕ) → ((j : ℕ) → slice_index a j % 2 ≡ 0)
     → ((k t : ℕ) → k ≤ n → t ≤ n → Nearer (slice_index a k) (slice_index a t) (slice_index a' k) (slice_index a' t))
     → k + length pieces ≤ n → All (λ p. target p ≤ n) pieces → AreForms pieces sizes → AreForms pieces other → Below sizes other → fit_from a' k pieces other ≡ true
@@ -84,16 +85,16 @@ below_grown a a' n k [] sizes other even near within targets h h' b fits = b
 below_grown a a' n k (p ∷ pieces) [] other even near within targets h h' b fits = absurd h
 below_grown a a' n k (p ∷ pieces) (r ∷ sizes) [] even near within targets h h' b fits = absurd h'
 below_grown a a' n k (p ∷ pieces) (r ∷ sizes) (s ∷ other) even near within targets h h' b fits =
-    let parts = and_parts (holds_at a' k p s) (fit_from a' (k + 1) pieces other) fits in
-    let strictly : holds_at a k p r ≡ false → r < s =
+    let parts = and_parts (form_reaches_at a' k p s) (fit_from a' (k + 1) pieces other) fits in
+    let strictly : form_reaches_at a k p r ≡ false → r < s =
     λ out. elim (cases_order r s) [
       | inl same ↦
-          let there : holds_at a' k p r ≡ true = ap (holds_at a' k p) same ∙ parts.0 in
-          let here : holds_at a k p r ≡ true = holds_nearer p r _ _ _ _ (even k) (even (target p)) (near k (target p) (omega arith) (targets 0 p (omega arith))) there in
+          let there : form_reaches_at a' k p r ≡ true = ap (form_reaches_at a' k p) same ∙ parts.0 in
+          let here : form_reaches_at a k p r ≡ true = holds_nearer p r _ _ _ _ (even k) (even (target p)) (near k (target p) (omega arith) (targets 0 p (omega arith))) there in
           absurd (true≢false (sym here ∙ out))
       | inr differ ↦ elim differ [ inl lt ↦ lt | inr gt ↦ absurd (omega (arith, b.0)) ]
     ] in
-    (head_below (holds_at a k p r) p r s h.0 h'.0 b.0 strictly, below_grown a a' n (k + 1) pieces sizes other even near (omega arith) (All-tail (λ q. target q ≤ n) p pieces targets) h.1 h'.1 b.1 parts.1)
+    (head_below (form_reaches_at a k p r) p r s h.0 h'.0 b.0 strictly, below_grown a a' n (k + 1) pieces sizes other even near (omega arith) (All-tail (λ q. target q ≤ n) p pieces targets) h.1 h'.1 b.1 parts.1)
 
 -- the shortest forms are below every choice
 shortest_below : (pieces : List Piece) (other : List ℕ) → AreForms pieces other → Below (map shortest pieces) other
@@ -110,7 +111,7 @@ round_below text pieces (suc r) other e even tight targets h fits =
     let forms = round_forms text pieces r in
     below_grown (addresses_of text pieces (round text pieces r)) (addresses_of text pieces other) (length pieces) 0 pieces (round text pieces r) other (even_address text pieces (round text pieces r) even forms e) (nearer text text pieces pieces (round text pieces r) other even tight even tight e e refl forms h so_far) (omega arith) targets forms h so_far fits
 
--- so the first one that fits is the least
+-- the first round that fits is the least
 pub least : (text : ℕ) (pieces : List Piece) (sizes : List ℕ) → text % 2 ≡ 0 → All IsEvenPiece pieces → All IsTight pieces → All (λ p. target p ≤ length pieces) pieces
     → IsLayout text pieces sizes → IsLeast text pieces sizes
 least text pieces sizes e even tight targets is = record {

@@ -40,15 +40,15 @@ doubled e b is = let one : 2 ^ e * 2 ^ 1 ≡ b * 2 = ap (λ x. x * 2) (sym is) i
 
 -- ---- the greatest power of two that divides a number
 
--- it isn't 0
+-- the power isn't 0
 pub low_some : (i b : ℕ) → IsLowPower i b → 0 < b
 low_some i b is = subst (λ n. 0 < n) (sym is.power) (pow_pos is.exponent)
 
--- it is no more than the number
+-- the power is no more than the number
 pub low_within : (i b : ℕ) → IsLowPower i b → b ≤ i
 low_within i b is = let le : 1 * b ≤ (2 * is.half + 1) * b = mul-le-mul_right b (omega arith) in omega (arith, le, is.odd)
 
--- within a block it is no more than the way from the block's first number
+-- within a block the power is no more than the distance from the block's first number
 pub low_in_block : (i b : ℕ) → IsLowPower i b → (i % 64 ≡ 0 → ⊥) → b ≤ i % 64
 low_in_block i b is some = by is.exponent is.power
   where
@@ -76,7 +76,7 @@ low_bits n (suc t) zeros =
     let at : 2 ^ (1 + t) ≡ 2 ^ suc t = let e : 1 + t ≡ suc t = omega arith in ap (λ k. 2 ^ k) e in
     sym (ap (λ m. n % m) at) ∙ split ∙ omega (arith, none, before)
 
--- so the place of the lowest bit that is 1 gives the greatest
+-- the place of the lowest bit that is 1 gives the greatest power
 low_at : (n t : ℕ) → bit_at n t ≡ 1 → ((i : ℕ) → i < t → bit_at n i ≡ 0) → IsLowPower n (2 ^ t)
 low_at n t one zeros =
     let q = n / 2 ^ t in
@@ -100,7 +100,7 @@ low_not_more k b c is is' lt =
     let f : 2 * is.half + 1 ≡ (2 * is'.half + 1) * (2 ^ p.0 * 2) = cancel _ _ b (low_some k b is) e in
     even_odd is.half ((2 * is'.half + 1) * 2 ^ p.0) (f ∙ sym (mul_assoc (2 * is'.half + 1) (2 ^ p.0) 2))
 
--- there is only one
+-- there is only one such power
 pub low_same : (k b c : ℕ) → IsLowPower k b → IsLowPower k c → b ≡ c
 low_same k b c is is' =
     elim (cases_order is.exponent is'.exponent) [
@@ -113,7 +113,7 @@ low_same k b c is is' =
 
 -- ---- those of two numbers
 
--- one of the two is no more than how far the numbers are apart, since the lesser one divides both
+-- one of two powers is no more than the difference of the two numbers, since the lesser power divides both
 pub low_apart : (i k b c r : ℕ) → IsLowPower i b → IsLowPower k c → i + r ≡ k → 0 < r → min b c ≤ r
 low_apart i k b c r is is' apart some =
     elim (cases_lt is'.exponent is.exponent) [
@@ -135,7 +135,7 @@ odd_even h h' d e = omega (arith, e)
 twice : (b d c : ℕ) → 0 < d → c ≡ d * (b + b) → b + b ≤ c
 twice b d c some e = omega (arith, mul-le-mul_right (b + b) some, e)
 
--- that of the number after which the power ends is at least twice as much
+-- the power of the number that is the power further on is at least twice as much
 pub low_next : (k b c : ℕ) → IsLowPower k b → IsLowPower (k + b) c → b + b ≤ c
 low_next k b c is is' =
     elim (cases_lt is.exponent is'.exponent) [
@@ -151,7 +151,7 @@ low_next k b c is is' =
           absurd (odd_even is.half is'.half (2 ^ p.0) (cancel _ _ c (low_some (k + b) c is') e))
     ]
 
--- of the two numbers that lie the power away, one has a power just twice as much
+-- of the two numbers that are the power away, one has a power just twice as much
 pub low_beside : (k b : ℕ) → IsLowPower k b → IsLowPower (k + b) (b + b) ⊎ IsLowPower (k - b) (b + b)
 low_beside k b is =
     let two : b + b ≡ 2 ^ (is.exponent + 1) = sym (doubled is.exponent b is.power) in

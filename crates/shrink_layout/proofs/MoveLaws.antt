@@ -71,7 +71,7 @@ none_moved pieces sizes old_sizes w n placed long e first =
 module _ (pieces : List Piece) (sizes : List ℕ) (old w w' : Widths) (block n end here next : ℕ) (in_blocks : block < length pieces / block_size + 1)
     (n_is : n ≡ block * block_size) (end_is : end ≡ min (length pieces) (block * block_size + block_size))
     (now : IsMovedOn pieces sizes old w block n here) (laid : IsLaid (slice_index old.starts.items 0) pieces sizes w w' block n end) (next_is : next ≡ slice_index w.starts.items (block + 1)) where
-  -- the blocks before it count as many
+  -- the counts of the blocks before this one stay
   count_kept : (k : ℕ) → k ≤ n → changed_before w' k ≡ changed_before w k
   count_kept k le =
       let before = laid.changes (k / block_size) (omega (arith, n_is, le)) in
@@ -153,7 +153,7 @@ module _ (pieces : List Piece) (old_sizes sizes : List ℕ) (old : Widths) (bloc
   abbrev a' : List ℕ
   a' = addresses_of (slice_index old.starts.items 0) pieces sizes
 
-  -- a piece takes as many bytes if its address moved as the first did
+  -- a piece takes as many bytes if its address moved as the first one did
   bytes_same : (k : ℕ) → n ≤ k → k < end → slice_index a' k + slice_index a n ≡ slice_index a k + slice_index a' n
       → width (nth_piece pieces k) (slice_index sizes k) (slice_index a' k) ≡ width (nth_piece pieces k) (slice_index old_sizes k) (slice_index a k)
   bytes_same k ge lt moved =
@@ -164,7 +164,7 @@ module _ (pieces : List Piece) (old_sizes sizes : List ℕ) (old : Widths) (bloc
       alike_on multiple (slice_index a n) (slice_index a' n) (slice_index a k) (slice_index a' k) d alike (omega (arith, up)) (omega (arith, up, moved)) in
       sym (same_width multiple p (slice_index sizes k) (slice_index a k) (slice_index a' k) (movable k ge lt) rest) ∙ ap (λ s. width p s (slice_index a k)) (kept k ge lt)
 
-  -- so all moved as the first did
+  -- all addresses of the block moved as the first one did
   all_moved : (d : ℕ) → n + d ≤ end → slice_index a' (n + d) + slice_index a n ≡ slice_index a (n + d) + slice_index a' n
   all_moved zero le = let e : n + 0 ≡ n = omega arith in omega (arith, ap (slice_index a) e, ap (slice_index a') e)
   all_moved (suc d) le =
@@ -187,7 +187,7 @@ module _ (pieces : List Piece) (old_sizes sizes : List ℕ) (old : Widths) (bloc
       let e : n + (k - n) ≡ k = omega (arith, ge) in
       omega (arith, all_moved (k - n) (omega (arith, ge, le)), ap (slice_index a) e, ap (slice_index a') e)
 
-  -- each takes as many bytes as before
+  -- each piece of the block takes as many bytes as before
   pub moved_bytes : (k : ℕ) → n ≤ k → k < end → slice_index old.sums k ≡ slice_index (widths_of (slice_index old.starts.items 0) pieces sizes) k
   moved_bytes k ge lt =
       let in_pieces : k < length pieces = omega (arith, end_is, lt) in

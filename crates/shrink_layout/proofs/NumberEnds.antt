@@ -18,7 +18,7 @@ abbrev pub padding_number : List ObjectParts → ℕ → ℕ → ℕ
 padding_number objects o i = 1 + sum_by piece_count (sections_before objects o i)
 
 module _ (objects : List ObjectParts) (o i : ℕ) (s : SectionParts) (found : section_at objects o i ≡ Some s) where
-  -- that of the next section is after its pieces
+  -- the padding of the next section comes after this section's pieces
   pub padding_number-next : padding_number objects o (i + 1) ≡ padding_number objects o i + piece_count (listed o i s)
   padding_number-next =
       omega (
@@ -33,7 +33,7 @@ module _ (objects : List ObjectParts) (o i : ℕ) (s : SectionParts) (found : se
     pub number-start : pieces_before objects o i s 0 ≡ padding_number objects o i + 1
     number-start = omega (arith, ap length (before_first_none s code whole))
 
-    -- its end has that of the next section
+    -- the end of a section has the number of the next section's padding
     pub number-end : pieces_before objects o i s (length s.bytes) ≡ padding_number objects o (i + 1)
     number-end =
         let own : piece_count (listed o i s) ≡ 1 + length (starts_in s) = ap (λ b. cond b (1 + length (starts_in s)) 0) code in

@@ -44,7 +44,7 @@ module _ {X : Type 0} (pad : SectionParts → X) (f : Place → X) where
   abbrev pub laid_in : List IndexedSection → List X
   laid_in ls = flat_map section_laid ls
 
-  -- a section has so many
+  -- a section of code has its padding and its items as pieces, and any other section none
   pub length-section_laid : (l : IndexedSection) → length (section_laid l) ≡ piece_count l
   length-section_laid l = by (is_code_section l.section)
     where
@@ -52,7 +52,7 @@ module _ {X : Type 0} (pad : SectionParts → X) (f : Place → X) where
       by true = omega (arith, length-map (map (place_of l) (starts_in l.section)) f, length-map (starts_in l.section) (place_of l))
       by false = refl
 
-  -- those of sections one after another
+  -- the pieces of sections one after another
   pub length-laid_in : (ls : List IndexedSection) → length (laid_in ls) ≡ sum_by piece_count ls
   length-laid_in [] = refl
   length-laid_in (l ∷ ls) =
@@ -75,7 +75,7 @@ module _ {X : Type 0} (pad : SectionParts → X) (f : Place → X) where
     pub rest : List X
     pub are : laid_in (all_sections objects) ≡ laid_in (sections_before objects o i) ++ pad s ∷ (map (λ m. f (place_at o i m)) (starts_in s) ++ rest)
 
-  -- so it is at each section of code
+  -- the pieces of all code are those before a section of code, its own, and those after it
   pub cut_into : (objects : List ObjectParts) (o i : ℕ) (s : SectionParts) → section_at objects o i ≡ Some s → is_code_section s ≡ true → IsCutInto objects o i s
   cut_into objects o i s found code =
       let cut = cut_at objects o i s found in
@@ -109,7 +109,7 @@ below_rises n m (x ∷ xs) le = by (ltb x n) refl (ltb x m) refl (below_rises n 
     by false low true high rest = omega arith
     by false low false high rest = omega arith
 
--- and below what comes after a start there are more
+-- below an offset after a start there are more
 pub below_more : (n m : ℕ) (xs : List ℕ) → n < m → is_among n xs ≡ true → length (filter (λ k. ltb k n) xs) < length (filter (λ k. ltb k m) xs)
 below_more n m [] lt is = absurd cc
 below_more n m (x ∷ xs) lt is = by (ltb x n) refl (ltb x m) refl (eqb x n) refl is (below_rises n m xs (omega arith)) (below_more n m xs lt)
@@ -130,7 +130,7 @@ pub record AreCutAt (s : SectionParts) (n : ℕ) : Type 0 where
   pub rest : List ℕ
   pub are : starts_in s ≡ filter (λ m. ltb m n) (starts_in s) ++ n ∷ rest
 
--- so it is at each start
+-- the starts of a section are those before each start, that start, and those after it
 pub starts_cut : (s : SectionParts) → is_code_section s ≡ true → IsWhole s → (n : ℕ) → starts_on s n ≡ true → AreCutAt s n
 starts_cut s code whole n start =
     let own = start_is s code whole n start in
@@ -144,12 +144,12 @@ starts_cut s code whole n start =
 
 -- ---- numbers
 
--- that of a place where code may lead
+-- the number of a place where code may lead
 pub number-code : (objects : List ObjectParts) (q : Place) (s : SectionParts) → is_target_at objects q ≡ true → code_at objects q ≡ Some s
     → piece_number_at objects q ≡ pieces_before objects q.object q.section s q.offset
 number-code objects q s target at = λ j. cond (target j) (option_map_or (λ t. pieces_before objects q.object q.section t q.offset) (at j) 0) 0
 
--- that of a place where it may not
+-- the number of a place where code may not lead
 pub number-nowhere : (objects : List ObjectParts) (q : Place) → is_target_at objects q ≡ false → piece_number_at objects q ≡ 0
 number-nowhere objects q other = ap (λ b. cond b (option_map_or (λ t. pieces_before objects q.object q.section t q.offset) (code_at objects q) 0) 0) other
 
@@ -160,7 +160,7 @@ item_target inputs q i is =
     ap (λ o. option_map_or (λ t. starts_on t q.offset) o false || is_end_at inputs.objects q) found.code
     ∙ ap (λ b. b || is_end_at inputs.objects q) found.start
 
--- there are as many pieces as sections and items, and what stands in front
+-- there are as many pieces as sections and items, and one for the table with its stub
 pub length-pieces_of : (inputs : ParsedInputs) (slots : List (Option Place)) → length (pieces_of inputs slots) ≡ 1 + sum_by piece_count (all_sections inputs.objects)
 unfolding pieces_by pieces_of
 length-pieces_of inputs slots =
@@ -237,7 +237,7 @@ module _ (inputs : Inputs) (none : gather_fault inputs ≡ None) where
       ) in
       (λ j. slice_get (all j) (number j)) ∙ behind head (g q.offset) (map g starts.rest ++ cut.rest)
 
-  -- so the piece there does
+  -- the piece with the number of a place is the one at that place
   pub place_piece : (slots : List (Option Place)) (q : Place) (i : Item) → item_at given q ≡ Some i
       → slice_get (pieces_of given slots) (piece_number_at given.objects q) ≡ Some (piece_at given (slot_at given slots) q)
   unfolding pieces_by pieces_of
@@ -250,7 +250,7 @@ module _ (inputs : Inputs) (none : gather_fault inputs ≡ None) where
       let at = found_item given q (unit_found given (slot_at given slots) q u is) in
       place_piece slots q at.0 at.1 ∙ ap (λ o. Some (unit_piece given.objects o)) is
 
-  -- and its number is below the number of pieces
+  -- the number of a place is below the number of pieces
   pub number_below : (slots : List (Option Place)) (q : Place) (i : Item) → item_at given q ≡ Some i → piece_number_at given.objects q < length (pieces_of given slots)
   number_below slots q i is =
       slice_get_within (pieces_of given slots) (piece_number_at given.objects q) (piece_at given (slot_at given slots) q) (place_piece slots q i is)

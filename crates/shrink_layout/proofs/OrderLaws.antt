@@ -81,7 +81,7 @@ module _ (objects : List ObjectParts) (q r : Place) (from_target : is_target_at 
       by (Within object section lt) =
           omega (arith, number-code objects q s from_target from_code, same_section object section, below_rises q.offset r.offset (starts_in s) (omega (arith, lt)))
 
--- and what comes after an item has a greater one
+-- a place after an item has a greater number than the item's place
 pub number_rises_past : (inputs : ParsedInputs) (q r : Place) (i : Item) → item_at inputs q ≡ Some i → is_target_at inputs.objects r ≡ true → is_before q r ≡ true → piece_number_at inputs.objects q < piece_number_at inputs.objects r
 number_rises_past inputs q r i is to_target before = by (ordered q r before)
   where
@@ -123,7 +123,7 @@ module _ (inputs : Inputs) (none : gather_fault inputs ≡ None) where
           omega (arith, inside)
       by false other h = omega (arith, end_on q s here h)
 
-  -- so of two such places the later one has the greater number
+  -- of two such places the later one has the greater number
   number_less : (q r : Place) → is_target_at objects q ≡ true → is_target_at objects r ≡ true → is_before q r ≡ true → piece_number_at objects q < piece_number_at objects r
   number_less q r target other before = by (ordered q r before)
     where
@@ -151,7 +151,7 @@ module _ (inputs : Inputs) (none : gather_fault inputs ≡ None) where
       by (Earlier order) = later_section objects q r target other order
       by (Within object section lt) = within object section lt (is_start_at objects q) refl target
 
-  -- and no other place has the number of one
+  -- two such places with one number are one place
   pub numbers_apart : (q r : Place) → is_target_at objects q ≡ true → piece_number_at objects q ≡ piece_number_at objects r → q ≡ r
   numbers_apart q r target same = by (is_target_at objects r) refl
     where

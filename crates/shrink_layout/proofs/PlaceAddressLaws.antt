@@ -46,7 +46,7 @@ module _ (inputs : ParsedInputs) (slots : List (Option Place)) (q : Place) where
   unfolding settled_address
   address_nowhere is = ap (λ b. cond b (Some (slice_index (settled_addresses inputs slots) (piece_number_at inputs.objects q))) None) is
 
-  -- so a place with an address is such a place
+  -- a place with an address is one that images list
   pub address_listed : (a : ℕ) → settled_address inputs slots q ≡ Some a → is_listed_at inputs q ≡ true
   unfolding settled_address
   address_listed a is = by (is_listed_at inputs q) refl is
@@ -55,7 +55,7 @@ module _ (inputs : ParsedInputs) (slots : List (Option Place)) (q : Place) where
       by true listed h = listed
       by false other h = absurd cc
 
-  -- and code may lead there
+  -- code may lead to a place with an address
   pub address_target : (a : ℕ) → settled_address inputs slots q ≡ Some a → is_target_at inputs.objects q ≡ true
   address_target a is = listed_target inputs q (address_listed a is)
 
@@ -63,7 +63,7 @@ module _ (inputs : ParsedInputs) (slots : List (Option Place)) (q : Place) where
 pub end_address : (inputs : ParsedInputs) (slots : List (Option Place)) (q : Place) → is_end_at inputs.objects q ≡ true → is_some (settled_address inputs slots q) ≡ true
 end_address inputs slots q end = ap is_some (address_there inputs slots q (end_listed inputs q end))
 
--- and so has each place where a basic block begins
+-- each place where a basic block begins has an address
 pub leader_address : (inputs : Inputs) → gather_fault inputs ≡ None → (slots : List (Option Place)) (q : Place) → is_target_at (parsed inputs).objects q ≡ true → is_leader_at (parsed inputs) q ≡ true
     → is_some (settled_address (parsed inputs) slots q) ≡ true
 leader_address inputs none slots q target leads = ap is_some (address_there (parsed inputs) slots q (leader_listed inputs none q target leads))
@@ -94,12 +94,12 @@ unit_written inputs none slots q = by (unit_at given slots q) refl (is_start_at 
 
 -- ---- sizes
 
--- the way from a place to the next address
+-- the distance from a place's address to the next one
 abbrev way_on : ParsedInputs → List (Option Place) → Place → ℕ
 way_on inputs slots q = slice_index (settled_addresses inputs slots) (piece_number_at inputs.objects q + 1) - slice_index (settled_addresses inputs slots) (piece_number_at inputs.objects q)
 
 module _ (inputs : ParsedInputs) (slots : List (Option Place)) (q : Place) where
-  -- the size of what is written is that way
+  -- the size of what is written is that distance
   pub size_there : (u : CodeUnit) → unit_at inputs slots q ≡ Some u
       → settled_size inputs slots q ≡ Some (slice_index (settled_addresses inputs slots) (piece_number_at inputs.objects q + 1) - slice_index (settled_addresses inputs slots) (piece_number_at inputs.objects q))
   size_there u is = ap (option_map (λ v. way_on inputs slots q)) is
@@ -112,11 +112,11 @@ module _ (inputs : ParsedInputs) (slots : List (Option Place)) (q : Place) where
       by None at h = absurd cc
       by (Some u) at h = (found_start inputs q (unit_found inputs (slot_at inputs slots) q u at), cc)
 
-  -- and elsewhere there is no size
+  -- where nothing is written there is no size
   pub size_nowhere : unit_at inputs slots q ≡ None → settled_size inputs slots q ≡ None
   size_nowhere is = ap (option_map (λ v. way_on inputs slots q)) is
 
-  -- as where no item starts
+  -- where no item starts there is no size
   pub size_without : is_some (item_at inputs q) ≡ false → settled_size inputs slots q ≡ None
   size_without other = size_nowhere (by (unit_at inputs slots q) refl)
     where
@@ -124,7 +124,7 @@ module _ (inputs : ParsedInputs) (slots : List (Option Place)) (q : Place) where
       by None at = at
       by (Some u) at = let i = found_item inputs q (unit_found inputs (slot_at inputs slots) q u at) in absurd (cc (other, ap is_some i.1))
 
-  -- and inside a group
+  -- inside a group there is no size
   pub size_inside : is_inside inputs q ≡ true → settled_size inputs slots q ≡ None
   size_inside inside = by (role_at inputs q) refl inside
     where

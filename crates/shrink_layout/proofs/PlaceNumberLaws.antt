@@ -24,7 +24,7 @@ pub record IsToldBy (objects : List ObjectParts) (starts : List ℕ) (q : Place)
   pub is : slice_index starts number.section + number.index ≡ piece_number_at objects q
 
 module _ (objects : List ObjectParts) (starts : List ℕ) (are : AreFirstNumbers objects starts) where
-  -- there is one for each section
+  -- there is one number for each section
   pub starts_count : length starts ≡ length (all_sections objects)
   starts_count = ap length are ∙ length-map-range_with_len (first_number objects) 0 (length (all_sections objects))
 
@@ -54,7 +54,7 @@ module _ (objects : List ObjectParts) (starts : List ℕ) (are : AreFirstNumbers
         );
       }
 
-  -- so it is where an item starts
+  -- the number of a place where an item starts
   pub start_told : (q : Place) (number : PlaceNumber) → is_start_at objects q ≡ true → IsPlaceNumber objects q number → IsToldBy objects starts q number
   start_told q number start has = piece_number_is q number (or_left (is_start_at objects q) (is_end_at objects q) start) has
 

@@ -47,17 +47,17 @@ abbrev pub Each : {X : Type 0} → (X → Type 0) → List X → Type 0
 Each P [] = Unit {0}
 Each P (x ∷ xs) = P x × Each P xs
 
--- of two lists
+-- what holds of each element of two lists
 pub each-append : {X : Type 0} (P : X → Type 0) (xs ys : List X) → Each P xs → Each P ys → Each P (xs ++ ys)
 each-append P [] ys one two = two
 each-append P (x ∷ xs) ys one two = (one.0, each-append P xs ys one.1 two)
 
--- of what a function gives
+-- what holds of each value of a function
 each-map : {X Y : Type 0} (P : Y → Type 0) (f : X → Y) → ((x : X) → P (f x)) → (xs : List X) → Each P (map f xs)
 each-map P f all [] = tt
 each-map P f all (x ∷ xs) = (all x, each-map P f all xs)
 
--- and so by index
+-- what holds of each element holds by its index
 pub all_of : {X : Type 0} (P : X → Type 0) (xs : List X) → Each P xs → All P xs
 all_of {X = X} P [] each = λ k d lt. absurd (omega (arith, lt))
 all_of {X = X} P (x ∷ xs) each = λ k d lt. by k d lt (all_of P xs each.1)
@@ -187,12 +187,12 @@ module _ (inputs : ParsedInputs) (slots : List (Option Place)) where
   place_leads : (q : Place) → target (piece_at inputs slot q) ≤ length (pieces_of inputs slots)
   place_leads q = piece_case inputs slot q (λ p. target p ≤ length (pieces_of inputs slots)) (omega arith) (λ i is. item_leads i) (λ g. omega arith) (omega arith)
 
-  -- so is what is written where an item isn't padding
+  -- the piece of an item that isn't padding is tight
   place_tight : (q : Place) (s : SectionParts) → code_at objects q ≡ Some s → is_align (item_in inputs s q) ≡ false → IsTight (piece_at inputs slot q)
   place_tight q s here other =
       piece_case inputs slot q IsTight tt (λ i is. item_tight i (ap is_align (item_same inputs q s i here is) ∙ other)) (λ g. tt) tt
 
-  -- and it takes at most twice what the bytes of the step there count
+  -- the piece at a step takes at most twice what the bytes of the step count
   place_longest : (q : Place) (s : SectionParts) (n : ℕ) → code_at objects q ≡ Some s → n % code_step s.compressed ≡ 0 → 2 ≤ n → Takes (item_in inputs s q) n
       → longest (piece_at inputs slot q) ≤ 2 * counted_bytes s.compressed n
   place_longest q s n here step some takes =
@@ -212,7 +212,7 @@ module _ (inputs : ParsedInputs) (slots : List (Option Place)) where
     even : a % 2 ≡ 0
     most : a ≤ max 4 s.align
 
-  -- so is that of each whole section
+  -- the padding of each whole section
   padding_is : (s : SectionParts) → IsWhole s → IsPaddingTo s (section_alignment s)
   padding_is s whole = by (nat_le s.align 4) refl
     where
@@ -245,7 +245,7 @@ module _ (inputs : ParsedInputs) (slots : List (Option Place)) where
         let two = or_parts (is_align (item_in inputs l.section (place_of l n))) (list_any is_align (map (λ m. item_in inputs l.section (place_of l m)) ns)) none in
         (place_tight (place_of l n) l.section (there inputs l here code n) two.0, each_tight ns two.1)
 
-  -- so all pieces of sections are tight that aren't aligned either
+  -- all pieces of sections that aren't aligned either are tight
   sections_tight : (ls : List IndexedSection) → ((k : ℕ) (l : IndexedSection) → slice_get ls k ≡ Some l → section_at objects l.object l.index ≡ Some l.section)
       → list_any is_align (flat_map (items_in inputs) ls) ≡ false → list_any is_aligned_code ls ≡ false → Each IsTight (pieces_in inputs slot ls)
   sections_tight [] here none low = tt
@@ -354,7 +354,7 @@ front_even : (slots : List (Option Place)) → front_size slots % 2 ≡ 0
 front_even [] = refl
 front_even (x ∷ xs) = omega arith
 
--- and few
+-- the table and its stub are short
 pub front_few : (slots : List (Option Place)) → length slots ≤ 256 → front_size slots ≤ 0x40c
 front_few [] few = omega arith
 front_few (x ∷ xs) few = omega (arith, few)
@@ -385,7 +385,7 @@ module _ (inputs : Inputs) (none : gather_fault inputs ≡ None) (slots : List (
   pub all_aligned : All HasAlignment (pieces_of given slots)
   all_aligned = all_pieces HasAlignment tt (λ s whole. (padding_is given slots s whole).some) (place_aligned given slots)
 
-  -- and all pieces are even
+  -- all pieces are even
   pub all_even : All IsEvenPiece (pieces_of given slots)
   all_even = all_pieces IsEvenPiece (front_even slots) (λ s whole. (padding_is given slots s whole).even) (place_even given slots)
 
@@ -404,7 +404,7 @@ module _ (inputs : Inputs) (none : gather_fault inputs ≡ None) (slots : List (
         rooms_few inputs none,
       )
 
-  -- and there are few pieces
+  -- there are few pieces
   pub pieces_few : 4 * length (pieces_of given slots) ≤ 0x4_0004
   pieces_few =
       omega (arith, ap length (pieces_are given slots), (sections_longest given slots sections (λ k l is. listed_at given.objects k l is) (all_whole inputs none)).1, rooms_few inputs none)

@@ -140,12 +140,12 @@ module _ {X : Type 0} (first : X) (pad : SectionParts → X) (old new : Place �
 
 -- ---- all pieces
 
--- those without a table
+-- the pieces of all sections without a table are those of a table without slots
 pub first_pieces : (inputs : ParsedInputs) → Fixed 0 ∷ pieces_in inputs (slot_at inputs []) (all_sections inputs.objects) ≡ pieces_of inputs []
 unfolding pieces_by pieces_of
 first_pieces inputs = refl
 
--- and those behind one, once no section is left
+-- once no section is left, the pieces are those with the table
 pub last_pieces : (inputs : ParsedInputs) (slots : List (Option Place)) (k : ℕ) (made : Pieces) → length (all_sections inputs.objects) ≤ k → ArePut inputs slots k made → ArePiecesOf inputs slots made
 unfolding pieces_by pieces_of
 last_pieces inputs slots k made le put =
@@ -222,14 +222,14 @@ module _ (inputs : Inputs) (starts : List ℕ) (are : AreFirstNumbers (parsed in
           slice_get_within places i p got,
         )
 
-    -- its piece is the first
+    -- the piece of the place is the one without the table
     pub first_there : slice_get made.pieces.items (piece_number_at given.objects q) ≡ Some (first_piece given q)
     first_there =
         ap (λ ps. slice_get ps (piece_number_at given.objects q)) (so_far.pieces_are ∙ ap (pieces_put before) todo)
         ∙ put_got (Fixed (front_size slots)) (λ s. Align (section_alignment s)) (piece_at given (slot_at given [])) (piece_at given (slot_at given slots)) all_of k l before q after
         (piece_number_at given.objects q) placed
 
-    -- and the new one is put there
+    -- the new piece is put in its place
     pub put_one : (next : Pieces) → next.pieces.items ≡ set made.pieces.items (piece_number_at given.objects q) (piece_at given (slot_at given slots) q)
         → ((owners : List (Option CodeUnit)) → AreHalvesOf owners made.halves.items → slice_get owners (piece_number_at given.objects q) ≡ Some (first_unit given q)
         → AreHalvesOf (set owners (piece_number_at given.objects q) (unit_at given slots q)) next.halves.items)

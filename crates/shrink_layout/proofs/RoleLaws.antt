@@ -1,5 +1,5 @@
--- Roles of items, one after another: behind the first of a group stand as many inside it as it has further items, and then one that isn't inside
--- (`role_next`).
+-- Roles of items, one after another: after the first item of a group come as many inside it as it has further items, and then one
+-- that isn't inside (`role_next`).
 use Rattle.std.proofs.Common.{◌≡◌, ◌∙◌, ℕ, zero, suc, ◌+◌, ◌<◌, ◌≤◌, List, [], ◌∷◌, Option, Some, None, Bool, true, false, cond, length, refl, ap, subst, arith}
 use Rattle.std.specs.Prelude.{slice_get}
 use Rattle.std.proofs.lemmas.Option.{none-some, same_Some}
@@ -47,26 +47,26 @@ role_outside s ss = by (longest_of (ops_from s ss))
 
 -- ---- roles
 
--- there are as many as items
+-- there are as many roles as items
 pub roles_count : (left : ℕ) (ss : List Spot) → length (roles_from left ss) ≡ length ss
 roles_count zero [] = refl
 roles_count (suc left) [] = refl
 roles_count zero (s ∷ ss) = ap suc (roles_count (items_behind (group_role s.place (longest_of (ops_from s ss)))) ss)
 roles_count (suc left) (s ∷ ss) = ap suc (roles_count left ss)
 
--- so many items are inside a group, and the next one isn't
+-- from role k on, `left` items are inside a group, and the next one isn't
 pub record AreInside (rs : List Role) (k left : ℕ) : Type 0 where
   pub inside : (j : ℕ) → j < left → slice_get rs (k + j) ≡ Some Inside
   pub next : is_within (slice_get rs (k + left)) ≡ false
 
--- one item on
+-- with one role more in front, the items are inside from role k + 1 on
 inside_more : (r : Role) (rs : List Role) (k left : ℕ) → AreInside rs k left → AreInside (r ∷ rs) (suc k) left
 inside_more r rs k left are = record {
   inside = λ j lt. let e : suc k + j ≡ suc (k + j) = omega arith in ap (slice_get (r ∷ rs)) e ∙ are.inside j lt;
   next = let e : suc k + left ≡ suc (k + left) = omega arith in ap (λ n. is_within (slice_get (r ∷ rs) n)) e ∙ are.next;
 }
 
--- those that belong to the group before come first
+-- the items that belong to the group before come first
 inside_first : (left : ℕ) (ss : List Spot) → left ≤ length ss → AreInside (roles_from left ss) 0 left
 inside_first zero [] few = record { inside = λ j lt. absurd (omega (arith, lt)); next = refl }
 inside_first zero (s ∷ ss) few = record { inside = λ j lt. absurd (omega (arith, lt)); next = role_outside s ss }

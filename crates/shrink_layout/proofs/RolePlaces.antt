@@ -1,5 +1,5 @@
--- Roles of items by their places: behind what is written at a place stands one that images list (`behind_unit`), and so does each place where a basic
--- block begins (`leader_listed`).
+-- Roles of items by their places: images list the place after what is written at a place (`behind_unit`), and each place where a
+-- basic block begins (`leader_listed`).
 use Rattle.std.proofs.Common.{◌≡◌, ◌∙◌, ℕ, zero, suc, ◌+◌, ◌-◌, ◌<◌, ◌≤◌, ◌⊎◌, inl, inr, List, [], ◌∷◌, length, filter, map, Bool, true, false, cond, Option, Some, None, slice_get, refl, sym, ap, subst, arith, eqb, ltb}
 use Rattle.std.specs.Prelude.{◌||◌}
 use Rattle.std.specs.Option.{is_some, option_and_then, option_map, option_map_or}
@@ -25,7 +25,7 @@ use Rattle.frame_match.specs.declared.role.Role.TheVariants.{Alone, First, Insid
 use Rattle.frame_match.proofs.GroupLaws.{inside_no_leader}
 use Rattle.shrink_layout.specs.Pieces.{piece_number_at, pieces_of, slot_at, unit_at, unit_piece}
 use Rattle.shrink_layout.specs.Units.{CodeUnit, OneGroup, OneItem, OneSite, is_inside, is_listed_at, is_within, item_unit, no_slot, unit_by, unit_items}
-use Rattle.shrink_layout.specs.declared.piece.Piece.TheVariants.{Joined}
+use Rattle.shrink_layout.specs.declared.piece.Piece.TheVariants.{WithOthers}
 use Rattle.shrink_layout.proofs.NumberLaws.{behind, below_more, filter_few, number_next, place_piece, starts_cut}
 use Rattle.shrink_layout.proofs.RoleLaws.{AreInside, first_some, role_next, roles_count}
 use Rattle.shrink_layout.proofs.SectionLaws.{some_at}
@@ -73,7 +73,7 @@ role_there inputs q i is =
     let at = some_at (roles_in inputs (own q s)) (index_on s q.offset) (omega (arith, index_less s q.offset found.start, roles_many inputs q s found.code)) in
     (at.0, role-code inputs q s found.code found.start ∙ at.1)
 
--- so something is written where an item starts that isn't inside a group
+-- something is written where an item starts that isn't inside a group
 pub unit_outside : (inputs : ParsedInputs) (slot : Place → Option ℕ) (q : Place) (i : Item) → item_at inputs q ≡ Some i → is_inside inputs q ≡ false
     → (u : CodeUnit) × (unit_by inputs slot q ≡ Some u)
 unit_outside inputs slot q i is outside = let r = role_there inputs q i is in by r.0 r.1
@@ -116,7 +116,7 @@ module _ (inputs : ParsedInputs) (q : Place) where
       by None at h = ap (λ b. is_start_at inputs.objects q || b) h ∙ or_true (is_start_at inputs.objects q)
       by (Some u) at h = ap (λ b. b || is_end_at inputs.objects q) (found_start inputs q (unit_found inputs no_slot q u at))
 
-  -- and it isn't inside a group
+  -- a place that code may lead to and that isn't inside a group is listed
   pub target_listed : is_target_at inputs.objects q ≡ true → is_inside inputs q ≡ false → is_listed_at inputs q ≡ true
   target_listed target outside = by (is_start_at inputs.objects q) refl target
     where
@@ -126,11 +126,11 @@ module _ (inputs : ParsedInputs) (q : Place) where
 
 -- ---- behind what is written
 
--- so many items on stands a place that images list, whose number is as many more; nothing is written between
+-- n items after a place comes one that images list, whose number is n more; nothing is written between
 pub record IsBehind (inputs : ParsedInputs) (slots : List (Option Place)) (q r : Place) (n : ℕ) : Type 0 where
   pub listed : is_listed_at inputs r ≡ true
   pub number : piece_number_at inputs.objects r ≡ piece_number_at inputs.objects q + n
-  pub between : (j : ℕ) → 0 < j → j < n → slice_get (pieces_of inputs slots) (piece_number_at inputs.objects q + j) ≡ Some (Joined 0)
+  pub between : (j : ℕ) → 0 < j → j < n → slice_get (pieces_of inputs slots) (piece_number_at inputs.objects q + j) ≡ Some (WithOthers 0)
 
 module _ (inputs : Inputs) (none : gather_fault inputs ≡ None) where
   abbrev given : ParsedInputs
@@ -157,9 +157,9 @@ module _ (inputs : Inputs) (none : gather_fault inputs ≡ None) where
     start_here : is_start_at given.objects q ≡ true → starts_on s q.offset ≡ true
     start_here start = ap (λ o. option_map_or (λ t. starts_on t q.offset) o false) (sym here) ∙ start
 
-  -- one item more before it, if nothing is written at the next
+  -- one item more before it, if nothing is written at the next place
   one_before : (slots : List (Option Place)) (q next : Place) (left : ℕ) (r : Place) → piece_number_at given.objects next ≡ piece_number_at given.objects q + 1
-      → slice_get (pieces_of given slots) (piece_number_at given.objects next) ≡ Some (Joined 0)
+      → slice_get (pieces_of given slots) (piece_number_at given.objects next) ≡ Some (WithOthers 0)
       → IsBehind given slots next r (suc left) → IsBehind given slots q r (suc (suc left))
   one_before slots q next left r number nothing rest = record {
     listed = rest.listed;
@@ -167,14 +167,14 @@ module _ (inputs : Inputs) (none : gather_fault inputs ≡ None) where
     between = by;
   }
     where
-      by : (j : ℕ) → 0 < j → j < suc (suc left) → slice_get (pieces_of given slots) (piece_number_at given.objects q + j) ≡ Some (Joined 0)
+      by : (j : ℕ) → 0 < j → j < suc (suc left) → slice_get (pieces_of given slots) (piece_number_at given.objects q + j) ≡ Some (WithOthers 0)
       by zero some few = absurd (omega (arith, some))
       by (suc zero) some few = ap (slice_get (pieces_of given slots)) (sym number) ∙ nothing
       by (suc (suc j)) some few =
           let e : piece_number_at given.objects q + suc (suc j) ≡ piece_number_at given.objects next + suc j = omega (arith, number) in
           ap (slice_get (pieces_of given slots)) e ∙ rest.between (suc j) (omega arith) (omega (arith, few))
 
-  -- from an item on, behind which so many are inside a group
+  -- from an item on that `left` items inside a group follow
   behind_from : (slots : List (Option Place)) (left : ℕ) (q : Place) (i : Item) (s : SectionParts) → item_at given q ≡ Some i → code_at given.objects q ≡ Some s → starts_on s q.offset ≡ true
       → AreInside (roles_in given (own q s)) (suc (index_on s q.offset)) left
       → IsBehind given slots q (after_items given.objects (suc left) q) (suc left)
@@ -286,7 +286,7 @@ module _ (inputs : Inputs) (none : gather_fault inputs ≡ None) where
       let here : slice_get (starts_in s) k ≡ Some q.offset = ap (λ ns. slice_get ns k) cut.are ∙ behind (filter (λ m. ltb m q.offset) (starts_in s)) q.offset cut.rest in
       inside_no_leader given (own q s) k q.offset two.1 (sym (role-code given q s found.code found.start) ∙ is) here
 
-  -- so each place where one does is listed
+  -- each place where a basic block begins is listed
   pub leader_listed : (q : Place) → is_target_at given.objects q ≡ true → is_leader_at given q ≡ true → is_listed_at given q ≡ true
   leader_listed q target leads = target_listed given q target (by (role_at given q) refl)
     where

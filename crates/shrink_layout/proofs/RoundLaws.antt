@@ -3,7 +3,7 @@ use Rattle.std.proofs.Common.{◌≡◌, ℕ, zero, suc, ◌+◌, ◌<◌, ◌�
 use Rattle.std.proofs.lemmas.Bool.{and_parts, true≢false}
 use Rattle.shrink_layout.specs.declared.piece.Piece.{Piece}
 use Rattle.shrink_layout.specs.Forms.{shortest, longer, IsForm}
-use Rattle.shrink_layout.specs.Layout.{holds_at, fit_from, grown_from, round}
+use Rattle.shrink_layout.specs.Layout.{form_reaches_at, fit_from, grown_from, round}
 use Rattle.shrink_layout.specs.Least.{AreForms}
 use Rattle.shrink_layout.proofs.FormLaws.{slack, shortest_form, longer_form, slack_falls}
 
@@ -26,13 +26,13 @@ either_form : (b : Bool) (p : Piece) (size : ℕ) → IsForm p size → IsForm p
 either_form true p size h = h
 either_form false p size h = longer_form p size h
 
--- and so is what a round makes of one
+-- what a round makes of forms are forms
 pub grown_forms : (a : List ℕ) (k : ℕ) (pieces : List Piece) (sizes : List ℕ) → AreForms pieces sizes → AreForms pieces (grown_from a k pieces sizes)
 grown_forms a k [] sizes h = h
 grown_forms a k (p ∷ pieces) [] h = absurd h
-grown_forms a k (p ∷ pieces) (size ∷ sizes) h = (either_form (holds_at a k p size) p size h.0, grown_forms a (k + 1) pieces sizes h.1)
+grown_forms a k (p ∷ pieces) (size ∷ sizes) h = (either_form (form_reaches_at a k p size) p size h.0, grown_forms a (k + 1) pieces sizes h.1)
 
--- so the sizes of each round are
+-- the sizes of each round are forms
 pub round_forms : (text : ℕ) (pieces : List Piece) (r : ℕ) → AreForms pieces (round text pieces r)
 round_forms text pieces zero = shortest_forms pieces
 round_forms text pieces (suc r) = grown_forms _ 0 pieces (round text pieces r) (round_forms text pieces r)
@@ -55,19 +55,19 @@ slack_kept : (a : List ℕ) (k : ℕ) (pieces : List Piece) (sizes : List ℕ) �
 slack_kept a k [] sizes h = omega arith
 slack_kept a k (p ∷ pieces) [] h = omega arith
 slack_kept a k (p ∷ pieces) (size ∷ sizes) h =
-    kept_or_less (holds_at a k p size) p size _ _ (slack_falls p size _ _ h.0) (slack_kept a (k + 1) pieces sizes h.1)
+    kept_or_less (form_reaches_at a k p size) p size _ _ (slack_falls p size _ _ h.0) (slack_kept a (k + 1) pieces sizes h.1)
 
--- and less is left in all if this piece grows or the rest has less
+-- less is left in all if this piece grows or if less is left for the rest
 less : (b c : Bool) (p : Piece) (size r r' : ℕ) → (b ≡ false → slack p (longer p size) < slack p size) → r' ≤ r → (c ≡ false → r' < r) → (b && c) ≡ false → slack p (cond b size (longer p size)) + r' < slack p size + r
 less true c p size r r' f h g out = omega (arith, g out)
 less false c p size r r' f h g out = omega (arith, f refl)
 
--- and one that doesn't fit leaves less
+-- a round that doesn't fit leaves less
 pub slack_less : (a : List ℕ) (k : ℕ) (pieces : List Piece) (sizes : List ℕ) → AreForms pieces sizes → fit_from a k pieces sizes ≡ false → slack_of pieces (grown_from a k pieces sizes) < slack_of pieces sizes
 slack_less a k [] sizes h out = absurd (true≢false out)
 slack_less a k (p ∷ pieces) [] h out = absurd h
 slack_less a k (p ∷ pieces) (size ∷ sizes) h out =
-    less (holds_at a k p size) (fit_from a (k + 1) pieces sizes) p size _ _ (slack_falls p size _ _ h.0) (slack_kept a (k + 1) pieces sizes h.1) (slack_less a (k + 1) pieces sizes h.1) out
+    less (form_reaches_at a k p size) (fit_from a (k + 1) pieces sizes) p size _ _ (slack_falls p size _ _ h.0) (slack_kept a (k + 1) pieces sizes h.1) (slack_less a (k + 1) pieces sizes h.1) out
 
 -- ---- a round that fits
 
@@ -75,10 +75,10 @@ slack_less a k (p ∷ pieces) (size ∷ sizes) h out =
 same_head : (b : Bool) (p : Piece) (size : ℕ) (rest rest' : List ℕ) → b ≡ true → rest ≡ rest' → cond b size (longer p size) ∷ rest ≡ size ∷ rest'
 same_head b p size rest rest' e h = λ i. cond (e i) size (longer p size) ∷ h i
 
--- it makes nothing longer
+-- a round that fits makes nothing longer
 pub grown_same : (a : List ℕ) (k : ℕ) (pieces : List Piece) (sizes : List ℕ) → AreForms pieces sizes → fit_from a k pieces sizes ≡ true → grown_from a k pieces sizes ≡ sizes
 grown_same a k [] sizes h fits = refl
 grown_same a k (p ∷ pieces) [] h fits = refl
 grown_same a k (p ∷ pieces) (size ∷ sizes) h fits =
-    let parts = and_parts (holds_at a k p size) (fit_from a (k + 1) pieces sizes) fits in
-    same_head (holds_at a k p size) p size _ _ parts.0 (grown_same a (k + 1) pieces sizes h.1 parts.1)
+    let parts = and_parts (form_reaches_at a k p size) (fit_from a (k + 1) pieces sizes) fits in
+    same_head (form_reaches_at a k p size) p size _ _ parts.0 (grown_same a (k + 1) pieces sizes h.1 parts.1)

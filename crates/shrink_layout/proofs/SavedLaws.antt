@@ -215,7 +215,7 @@ module _ (inputs : Inputs) (none : gather_fault inputs ≡ None) where
             ap (λ o. option_map_or (is_site size) o false) (site_unit inputs none q jump site (slot_at given slots))
             ∙ tested site.item (slot_at given slots q) ∙ ap is_some (slot_there given slots q jump at)
 
-    -- so there are as many
+    -- there are as many such units as sites
     units_sites : units_with given slots is_site ≡ length (filter has_one (sites_of given))
     unfolding sites_of
     units_sites =
@@ -242,7 +242,7 @@ module _ (inputs : Inputs) (none : gather_fault inputs ≡ None) where
         same : (p : Place) → slotted (take 32 numbers) 0 (savings_of given) p ≡ has_low slots p
         same p = sym (ap (list_any (is_slot_of p)) (take_map place 32 numbers) ∙ any_slotted (savings_of given) place are p (take 32 numbers))
 
-    -- and the calls of each with a slot from 32 on
+    -- the calls to targets with a slot from 32 on save two bytes each
     calls_saved : saved_in Calls (savings_of given) (drop 32 numbers) ≡ 2 * length (filter (λ s. eqb s.0 1 && has_high slots s.1) (sites_of given))
     calls_saved =
         saved_same (saved_by Calls) (at_sites 1 (drop 32 numbers) (sites_of given)) (drop 32 numbers) 0 (savings_of given) (each (savings_of given) savings_counted)
@@ -272,7 +272,7 @@ module _ (inputs : Inputs) (none : gather_fault inputs ≡ None) where
     pub net_paid : (net : ℕ) → Saves (savings_of given) numbers net → TablePays given slots → settled_end given slots + net ≤ settled_end given []
     net_paid net saves pays = omega (arith, saves, pays, saved_twice, cost_front)
 
-    -- and the slots lead where code may lead
+    -- the slots lead where code may lead
     target_slot : (n : ℕ) → IsTargetSlot given.objects (place n)
     target_slot zero = subst (IsTargetSlot given.objects) (sym are.hole) tt
     target_slot (suc k) = subst (IsTargetSlot given.objects) (sym (are.target k)) (by (slice_get (savings_of given) k) refl)

@@ -53,7 +53,7 @@ map_same : {X Y : Type 0} (f g : X → Y) (xs : List X) → ((j : ℕ) (x : X) �
 map_same f g [] same = refl
 map_same f g (x ∷ xs) same = λ i. sym (same 0 x refl) i ∷ map_same f g xs (λ j y at. same (suc j) y at) i
 
--- and on all but one
+-- two functions that agree on all elements but one
 set_map : {X Y : Type 0} (f g : X → Y) (xs : List X) (k : ℕ) (x : X) (y : Y) → slice_get xs k ≡ Some x → g x ≡ y → ((j : ℕ) (z : X) → j ≢ k → slice_get xs j ≡ Some z → g z ≡ f z)
     → set (map f xs) k y ≡ map g xs
 set_map f g [] k x y got is others = absurd (none-some x got)
@@ -65,7 +65,7 @@ set_map f g (z ∷ zs) (suc k) x y got is others =
 -- ---- sites
 
 module _ (inputs : ParsedInputs) where
-  -- those of one place more
+  -- the sites of one place more
   sites_more : (qs : List Place) (q : Place) → sites_in inputs (qs ++ q ∷ []) ≡ sites_in inputs qs ++ option_to_list (site_at inputs q)
   sites_more qs q =
       flat_map-append (λ q. option_to_list (site_at inputs q)) qs (q ∷ []) ∙ ap (λ l. sites_in inputs qs ++ l) (append-nil (option_to_list (site_at inputs q)))
@@ -77,7 +77,7 @@ module _ (inputs : ParsedInputs) where
       ∙ ap (λ sites. map (saving_of sites) (all_targets inputs.objects))
       (sym (sites_more qs q ∙ ap (λ o. sites_in inputs qs ++ option_to_list o) is ∙ append-nil (sites_in inputs qs)))
 
-  -- there are no more than places
+  -- there are no more sites than places
   sites_few : (qs : List Place) → length (sites_in inputs qs) ≤ length qs
   sites_few [] = omega arith
   sites_few (q ∷ qs) = by (site_at inputs q) (sites_few qs)
@@ -86,7 +86,7 @@ module _ (inputs : ParsedInputs) where
       by None few = omega (arith, few)
       by (Some s) few = omega (arith, few)
 
--- those that link a register and lead to a place
+-- the sites that link a register and lead to a place, with one site more
 to_more : (sites : List (ℕ × Place)) (s : ℕ × Place) (rd : ℕ) (q : Place) → sites_to (sites ++ s ∷ []) rd q ≡ sites_to sites rd q + cond (eqb s.0 rd && same_place s.1 q) 1 0
 to_more sites s rd q =
     ap length (filter-append (λ (x : ℕ × Place). eqb x.0 rd && same_place x.1 q) sites (s ∷ []))
@@ -143,7 +143,7 @@ module _ (inputs : Inputs) (none : gather_fault inputs ≡ None) where
         same : (rd : ℕ) → sites_to (sites ++ jump ∷ []) rd z ≡ sites_to sites rd z
         same rd = omega (arith, to_more sites jump rd z, ap (λ b. cond {A = ℕ} (eqb jump.0 rd && b) 1 0) other, no_more (eqb jump.0 rd))
 
-    -- its own has one more
+    -- the target of the site has one site more
     own_more : (rd : ℕ) → sites_to (sites ++ jump ∷ []) rd jump.1 ≡ sites_to sites rd jump.1 + cond (eqb jump.0 rd) 1 0
     own_more rd =
         to_more sites jump rd jump.1
@@ -159,7 +159,7 @@ module _ (inputs : Inputs) (none : gather_fault inputs ≡ None) where
     or_call (suc zero) lt = refl
     or_call (suc (suc rd)) lt = absurd (omega (arith, lt))
 
-    -- so with one more of its kind all are counted
+    -- with one site more of its kind all are counted
     pub site_counted : (y : Saving) → y.target ≡ jump.1 → y.jump_sites ≡ sites_to sites 0 jump.1 + cond (eqb jump.0 0) 1 0 → y.call_sites ≡ sites_to sites 1 jump.1 + cond (eqb jump.0 0) 0 1
         → AreSavings given (qs ++ q ∷ []) (set savings k y)
     site_counted y at jumps calls =
@@ -175,7 +175,7 @@ module _ (inputs : Inputs) (none : gather_fault inputs ≡ None) where
         ∙ set_map (saving_of sites) (saving_of (sites ++ jump ∷ [])) (all_targets objects) k jump.1 y (target_got inputs none jump.1 target) now others
         ∙ ap (λ s. map (saving_of s) (all_targets objects)) (sym more)
 
-  -- one more can be counted, if the places are few
+  -- one site more can be counted, if the places are few
   pub count_low : (qs : List Place) (rd : ℕ) (q : Place) → length qs ≤ 0x1_0000 → sites_to (sites_in given qs) rd q ≤ 0x1_0000
   count_low qs rd q few = omega (arith, few, sites_few given qs, passed_few (λ (s : ℕ × Place). eqb s.0 rd && same_place s.1 q) (sites_in given qs))
 
@@ -200,7 +200,7 @@ module _ (inputs : Inputs) (none : gather_fault inputs ≡ None) where
       by true = map-map (λ (p : CodePlace). place_of l p.offset) (code_place given l) (targets_in l.section)
       by false = refl
 
-  -- one section more
+  -- the places of one section more
   pub places_next : (i : ℕ) (l : IndexedSection) → slice_get (all_sections objects) i ≡ Some l → places_before objects (i + 1) ≡ places_before objects i ++ places_of l
   places_next i l at = flat_next places_of (all_sections objects) i l at
 
@@ -223,7 +223,7 @@ module _ (inputs : Inputs) (none : gather_fault inputs ≡ None) where
   pub places_few : (i : ℕ) → length (places_before objects i) ≤ 0x1_0000
   places_few i = omega (arith, flat_few (take i (all_sections objects)), count_few inputs none i)
 
-  -- with some of the next section's there are few too
+  -- with some of the next section's places there are few too
   held_few : (l : IndexedSection) (ps : List CodePlace) (n : ℕ) → length (places_held l (take n ps)) ≤ length ps
   held_few l ps n = omega (arith, length-map (take n ps) (λ (p : CodePlace). place_of l p.offset), take_most n ps)
 

@@ -123,7 +123,7 @@ module _ (inputs : Inputs) (none : gather_fault inputs ≡ None) where
         by true code = absurd (omega (arith, eqb-true (length (code_places given l)) 0 none, places_count, ap (λ b. cond b (1 + length (starts_in l.section)) 0) code))
         by false other = other
 
-    -- it adds no pieces
+    -- a section that isn't code adds no pieces
     pub none_next : (slot : Place → Option ℕ) → is_code_section l.section ≡ false → pieces_in given slot (take k all) ≡ pieces_in given slot (take (k + 1) all)
     none_next slot other =
         let own : section_pieces given slot l ≡ [] = ap (λ b. cond b (Align (section_alignment l.section) ∷ map (piece_at given slot) (places_of l)) []) other in
@@ -143,7 +143,7 @@ module _ (inputs : Inputs) (none : gather_fault inputs ≡ None) where
         by true code = code
         by false other = absurd (omega (arith, not_none (length (code_places given l)) some, places_count, ap (λ b. cond b (1 + length (starts_in l.section)) 0) other))
 
-    -- it adds its padding and the pieces of its places
+    -- a section of code adds its padding and the pieces of its places
     pub some_next : (slot : Place → Option ℕ) → is_code_section l.section ≡ true
         → (pieces_in given slot (take k all) ++ Align (section_alignment l.section) ∷ []) ++ map (piece_at given slot) (places_of l)
         ≡ pieces_in given slot (take (k + 1) all)

@@ -1,4 +1,4 @@
--- Jumps and calls through the table are as many as halfwords of such (`sites_counted`).
+-- There are as many jumps and calls through the table as halfwords of such (`sites_counted`).
 use Rattle.std.proofs.Common.{◌≡◌, ◌∙◌, ◌+◌, ◌<◌, ℕ, suc, drop, get_or, List, [], ◌∷◌, length, filter, map, Bool, true, false, cond, Option, Some, None, slice_index, refl, sym, ap, arith, eqb}
 use Rattle.std.specs.List.{flat_map}
 use Rattle.std.specs.Option.{option_and_then, option_map, option_map_or}

@@ -23,7 +23,7 @@ use Rattle.shrink_layout.specs.Invariants.Sites.{is_four}
 use Rattle.shrink_layout.specs.Pieces.{first_sizes, is_short_jump, jump_piece, piece_number_at, piece_of, pieces_by, pieces_of, site_at, site_only, slot_at, unit_at, unit_piece}
 use Rattle.shrink_layout.specs.Settled.{settled_addresses, settled_size, settled_sizes}
 use Rattle.shrink_layout.specs.Units.{CodeUnit, OneGroup, OneItem, OneSite, item_unit, jump_of, slot_for, unit_by}
-use Rattle.shrink_layout.specs.declared.piece.Piece.TheVariants.{Joined}
+use Rattle.shrink_layout.specs.declared.piece.Piece.TheVariants.{WithOthers}
 use Rattle.shrink_layout.proofs.GroupAddresses.{piece_form, unit_ends}
 use Rattle.shrink_layout.proofs.NumberLaws.{behind, place_piece, starts_cut}
 use Rattle.shrink_layout.proofs.PlaceAddressLaws.{size_nowhere, size_there}
@@ -90,7 +90,7 @@ slot_found inputs (slot ∷ slots) q n h = by (site_at inputs q) refl h
     by None at h = absurd (none-some n h)
     by (Some jump) at h = record { jump = jump; site = at; slot = h }
 
--- and the other way round
+-- a site whose target has a slot has that slot
 pub slot_there : (inputs : ParsedInputs) (slots : List (Option Place)) (q : Place) (jump : ℕ × Place) → site_at inputs q ≡ Some jump → slot_at inputs slots q ≡ slot_for slots jump
 unfolding slot_at
 slot_there inputs [] q jump is = by (eqb jump.0 0)
@@ -137,12 +137,12 @@ module _ (inputs : Inputs) (none : gather_fault inputs ≡ None) (q : Place) (ju
       by (item.RawShort half) h = refl
       by (item.RawPair first second) h = refl
 
-  -- it isn't inside a group, where pieces have no bytes
+  -- a site isn't inside a group, where pieces have no bytes
   not_inside : role_at given q ≡ Some Inside → ⊥
   not_inside inside =
-      let piece : slice_get (pieces_of given []) (piece_number_at given.objects q) ≡ Some (Joined 0) =
+      let piece : slice_get (pieces_of given []) (piece_number_at given.objects q) ≡ Some (WithOthers 0) =
       place_piece inputs none [] q is.item is.is ∙ ap (λ o. Some (unit_piece given.objects o)) (unit-inside given (slot_at given []) q inside) in
-      let size : IsForm (Joined 0) (slice_index (settled_sizes given []) (piece_number_at given.objects q)) = piece_form given [] (piece_number_at given.objects q) (Joined 0) piece in
+      let size : IsForm (WithOthers 0) (slice_index (settled_sizes given []) (piece_number_at given.objects q)) = piece_form given [] (piece_number_at given.objects q) (WithOthers 0) piece in
       omega (arith, size, is.size, ap (λ sizes. slice_index sizes (piece_number_at given.objects q)) (first_settled given))
 
   -- nor the first of one, whose first item is an instruction without relocation
@@ -161,7 +161,7 @@ module _ (inputs : Inputs) (none : gather_fault inputs ≡ None) (q : Place) (ju
       let op : starts.spot.op ≡ None = ap (λ (x : Spot). x.op) (sym same) ∙ ap (option_and_then op_of) is.is ∙ no_op in
       omega (arith, starts.sized.least, starts.sized.within, ap (λ o. length (op_then o (ops_behind starts.rest))) op)
 
-  -- so it is written by itself, or through the table if it has a slot
+  -- a site is written by itself, or through the table if it has a slot
   pub site_alone : role_at given q ≡ Some Alone
   site_alone = let r = role_there given q is.item is.is in by r.0 r.1
     where
@@ -254,9 +254,9 @@ module _ (inputs : Inputs) (none : gather_fault inputs ≡ None) (q : Place) (i 
       by Alone at = absurd (none-some _ (sym nothing ∙ unit-alone own_inputs (slot_at own_inputs []) q at ∙ ap (option_map (item_unit (slot_at own_inputs [] q))) is))
       by (First g) at = absurd (none-some _ (sym nothing ∙ unit-first own_inputs (slot_at own_inputs []) q g at))
       by Inside at =
-          let piece : slice_get (pieces_of own_inputs []) number ≡ Some (Joined 0) =
+          let piece : slice_get (pieces_of own_inputs []) number ≡ Some (WithOthers 0) =
           place_piece inputs none [] q i is ∙ ap (λ o. Some (unit_piece own_inputs.objects o)) (unit-inside own_inputs (slot_at own_inputs []) q at) in
-          piece_form own_inputs [] number (Joined 0) piece
+          piece_form own_inputs [] number (WithOthers 0) piece
 
   -- the jump takes four bytes without a table just where the layout says so
   jump_four : eqb (slice_index (first_sizes own_inputs) number) 4 ≡ is_four (settled_size own_inputs [] q)
@@ -270,6 +270,6 @@ module _ (inputs : Inputs) (none : gather_fault inputs ≡ None) (q : Place) (i 
           let size : slice_index (settled_sizes own_inputs []) number ≡ slice_index (settled_addresses own_inputs []) (number + 1) - slice_index (settled_addresses own_inputs []) number = omega (arith, ends, w) in
           ap (λ n. eqb n 4) size ∙ sym (ap is_four (size_there own_inputs [] q u at))
 
-  -- so there is a site by its size and its register
+  -- there is a site by the jump's size and register
   pub site_by_size : site_at own_inputs q ≡ cond (is_four (settled_size own_inputs [] q) && ltb jump.0 2) (Some jump) None
   site_by_size = site-jump own_inputs q i jump is leads ∙ ap (λ b. cond (b && ltb jump.0 2) (Some jump) None) jump_four

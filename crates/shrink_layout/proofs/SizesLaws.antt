@@ -58,7 +58,7 @@ first_from text pieces (suc left) r few none = elim (cases_Bool (all_fit text pi
       record { number = rest.number; within = omega (arith, rest.within); fits = rest.fits; first = rest.first }
 ]
 
--- so it is among the first ones
+-- the first round that fits is among the first ones
 first_of_all : (text : ℕ) (pieces : List Piece) → IsFirst text pieces (2 * length pieces)
 first_of_all text pieces =
     let found = first_from text pieces (2 * length pieces) 0 (slack_of_most pieces (round text pieces 0)) (λ j lt fits. absurd (omega arith)) in
@@ -71,7 +71,7 @@ same_next : (text : ℕ) (pieces : List Piece) (r : ℕ) → Fits text pieces (r
 same_next text pieces r fits =
     grown_same (addresses_of text pieces (round text pieces r)) 0 pieces (round text pieces r) (round_forms text pieces r) fits
 
--- and so are all after it
+-- all rounds after one that fits are like it
 same_after : (text : ℕ) (pieces : List Piece) (r d : ℕ) → Fits text pieces (round text pieces r) → round text pieces (r + d) ≡ round text pieces r
 same_after text pieces r zero fits = let e : r + 0 ≡ r = omega arith in ap (round text pieces) e
 same_after text pieces r (suc d) fits =
@@ -81,7 +81,7 @@ same_after text pieces r (suc d) fits =
 same_from : (text : ℕ) (pieces : List Piece) (r j : ℕ) → r ≤ j → Fits text pieces (round text pieces r) → round text pieces j ≡ round text pieces r
 same_from text pieces r j le fits = let e : j ≡ r + (j - r) = omega arith in ap (round text pieces) e ∙ same_after text pieces r (j - r) fits
 
--- so all rounds that fit are the same
+-- all rounds that fit are the same
 same_rounds : (text : ℕ) (pieces : List Piece) (r j : ℕ) → Fits text pieces (round text pieces r) → Fits text pieces (round text pieces j)
     → round text pieces r ≡ round text pieces j
 same_rounds text pieces r j fits fits' = elim (cases_lt r j) [
@@ -91,7 +91,7 @@ same_rounds text pieces r j fits fits' = elim (cases_lt r j) [
 
 -- ---- the sizes of the layout
 
--- they are those of the first round that fits
+-- the layout's sizes are those of the first round that fits
 pub sizes_layout : (text : ℕ) (pieces : List Piece) → IsLayout text pieces (sizes_of text pieces)
 unfolding sizes_of
 sizes_layout text pieces =
@@ -104,17 +104,17 @@ sizes_layout text pieces =
       first = found.first;
     }
 
--- and of any round that fits
+-- the layout's sizes are those of any round that fits
 pub fitting_sizes : (text : ℕ) (pieces : List Piece) (r : ℕ) → Fits text pieces (round text pieces r) → round text pieces r ≡ sizes_of text pieces
 fitting_sizes text pieces r fits =
     let is = sizes_layout text pieces in
     same_rounds text pieces r is.rounds fits (ap (all_fit text pieces) (sym is.is) ∙ is.fits) ∙ sym is.is
 
--- so any layout has them
+-- any layout has these sizes
 pub layout_sizes : (text : ℕ) (pieces : List Piece) (sizes : List ℕ) → IsLayout text pieces sizes → sizes ≡ sizes_of text pieces
 layout_sizes text pieces sizes is = is.is ∙ fitting_sizes text pieces is.rounds (ap (all_fit text pieces) (sym is.is) ∙ is.fits)
 
--- they are a choice of forms
+-- the layout's sizes are a choice of forms
 pub sizes_forms : (text : ℕ) (pieces : List Piece) → AreForms pieces (sizes_of text pieces)
 sizes_forms text pieces = layout_forms text pieces (sizes_of text pieces) (sizes_layout text pieces)
 
@@ -133,7 +133,7 @@ AreOfRound l = (r : ℕ) × (l.sizes ≡ round l.text l.pieces r)
 pub shortest_of_round : (text : ℕ) (pieces : List Piece) → AreOfRound (shortest_pieces text pieces)
 shortest_of_round text pieces = (0, refl)
 
--- and so are the next
+-- the next sizes are those of a round too
 pub next_of_round : (l : LaidPieces) → AreOfRound l → AreOfRound (next_pieces l)
 next_of_round l now = (suc now.0, ap (next_sizes l.text l.pieces) now.1)
 
@@ -142,7 +142,7 @@ pub next_less : (l : LaidPieces) → AreOfRound l → all_fit l.text l.pieces l.
 next_less l now out =
     slack_less (addresses_of l.text l.pieces l.sizes) 0 l.pieces l.sizes (subst (AreForms l.pieces) (sym now.1) (round_forms l.text l.pieces now.0)) out
 
--- and one after one that fits has the sizes of the layout
+-- the round after one that fits has the sizes of the layout
 pub next_fits : (l : LaidPieces) → AreOfRound l → all_fit l.text l.pieces l.sizes ≡ true → (next_pieces l).sizes ≡ sizes_of l.text l.pieces
 next_fits l now fits =
     let it_fits : Fits l.text l.pieces (round l.text l.pieces now.0) = ap (all_fit l.text l.pieces) (sym now.1) ∙ fits in

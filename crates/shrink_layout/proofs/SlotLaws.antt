@@ -35,7 +35,7 @@ use Rattle.shrink_layout.proofs.UnitLaws.{unit_item}
 same_self : (p : Place) → same_place p p ≡ true
 same_self p = λ j. eq-eqb p.object p.object refl j && (eq-eqb p.section p.section refl j && eq-eqb p.offset p.offset refl j)
 
--- one slot more in front is the first of its place, and of no other
+-- one slot more at the front is the first slot of its place, and of no other
 pub slot_noted : (inputs : Inputs) → gather_fault inputs ≡ None → (firsts : List (Option ℕ)) (n : ℕ) (part : List (Option Place)) (p : Place)
     → is_target_at (parsed inputs).objects p ≡ true → piece_number_at (parsed inputs).objects p < length firsts → AreFirstSlots (parsed inputs).objects (n + 1) part firsts
     → AreFirstSlots (parsed inputs).objects n (Some p ∷ part) (set firsts (piece_number_at (parsed inputs).objects p) (Some n))
@@ -74,7 +74,7 @@ module _ (inputs : Inputs) (none : gather_fault inputs ≡ None) (firsts : List 
   before : AreFirstSlots all (n + k + 1) (drop (k + 1) part) firsts
   before = let e : n + (k + 1) ≡ n + k + 1 = omega arith in subst (λ m. AreFirstSlots all m (drop (k + 1) part) firsts) e are
 
-  -- with one more of a part
+  -- the first slots with one slot more of a part
   pub firsts_more : (p : Place) → get_or part k None ≡ Some p → is_target_at all p ≡ true → piece_number_at all p < length firsts
       → AreFirstSlots all (n + k) (drop k part) (set firsts (piece_number_at all p) (Some (n + k)))
   firsts_more p is target there =
@@ -97,7 +97,7 @@ no_slot_for (Some jump) = by (eqb jump.0 0)
     by true = refl
     by false = refl
 
--- so the slot of one is that of its target in any table
+-- the slot of a jump or call is that of its target in any table
 pub slot_is : (inputs : ParsedInputs) (slots : List (Option Place)) (q : Place) → slot_at inputs slots q ≡ option_and_then (slot_for slots) (site_at inputs q)
 unfolding slot_at
 slot_is inputs [] q = sym (no_slot_for (site_at inputs q))
@@ -153,7 +153,7 @@ module _ (inputs : Inputs) (none : gather_fault inputs ≡ None) (q : Place) whe
           let site = site_found given q slot.jump slot.site in
           site_unit inputs none q slot.jump site (slot_at given slots) ∙ ap (λ m. Some (item_unit m site.item)) at
 
-  -- its piece without the table is that of a jump to its target
+  -- the piece of a site without the table is that of a jump to its target
   site_piece : (jump : ℕ × Place) → site_at given q ≡ Some jump → first_piece given q ≡ Jump (piece_number_at given.objects jump.1)
   unfolding slot_at
   site_piece jump at =
@@ -162,7 +162,7 @@ module _ (inputs : Inputs) (none : gather_fault inputs ≡ None) (q : Place) whe
       ∙ piece_of_jump given.objects site.item jump site.leads
       ∙ ap (jump_piece given.objects jump.1) (short_jump jump.0 ∙ lt-ltb jump.0 2 site.links)
 
-  -- so where another piece is, there is no slot
+  -- where the piece is another one, there is no slot
   pub slot_elsewhere : (slots : List (Option Place)) → ((n : ℕ) → first_piece given q ≡ Jump n → ⊥) → slot_at given slots q ≡ None
   slot_elsewhere slots other = by (site_at given q) refl
     where
@@ -194,7 +194,7 @@ module _ (inputs : Inputs) (none : gather_fault inputs ≡ None) (q : Place) whe
         by (Some (OneGroup g)) at same = absurd cc
         by (Some (OneSite m)) at same = absurd cc
 
-    -- it has a slot if it takes four bytes and its target has one
+    -- a site has a slot if it takes four bytes and its target has one
     pub slot_by_width : (slots : List (Option Place)) (width : ℕ) → width ≡ slice_index (settled_widths given []) (piece_number_at given.objects q)
         → slot_at given slots q ≡ option_and_then (slot_for slots) (cond (eqb width 4) (Some jump) None)
     slot_by_width slots width read =

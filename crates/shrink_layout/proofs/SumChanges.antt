@@ -15,7 +15,7 @@ pub record IsHalfway (sizes nodes : List ℕ) (i v k : ℕ) : Type 0 where
   pub left : (j : ℕ) → k ≤ j → j ≤ length sizes → IsNode sizes nodes j
   pub covers : (b : ℕ) → IsLowPower k b → k - b ≤ i
 
--- it begins at the node that ends with the size
+-- the change begins at the node that ends with the size
 pub change_begins : (sizes nodes : List ℕ) (i v : ℕ) → IsTree sizes nodes → i < length sizes → IsHalfway sizes nodes i v (i + 1)
 change_begins sizes nodes i v tree within = record {
   same = tree.same;
@@ -44,7 +44,7 @@ new_node-le sizes nodes i v k b half is le =
     let high = front_set_high sizes i k v half.behind (omega (arith, half.behind)) in
     omega (arith, held.0, held.1, high, front_most (set sizes i v) k)
 
--- one more node has changed
+-- one node more has changed
 pub change_goes_on : (sizes nodes nodes' : List ℕ) (i v k b : ℕ) → IsHalfway sizes nodes i v k → IsLowPower k b → k ≤ length sizes
     → nodes' ≡ set nodes (k - 1) (get_or nodes (k - 1) 0 - get_or sizes i 0 + v) → IsHalfway sizes nodes' i v (k + b)
 change_goes_on sizes nodes nodes' i v k b half is le written =

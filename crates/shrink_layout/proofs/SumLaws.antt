@@ -8,15 +8,15 @@ use Rattle.std.proofs.lemmas.List.Sums.{sum_by-cons, sum_by-take-le, sum_by_more
 abbrev pub front : List ℕ → ℕ → ℕ
 front sizes j = sum (take j sizes)
 
--- it rises
+-- the sum of the first sizes doesn't fall as there are more
 pub front_rises : (sizes : List ℕ) (i j : ℕ) → i ≤ j → front sizes i ≤ front sizes j
 front_rises sizes i j le = let e : front sizes i ≡ sum (take i (take j sizes)) = ap sum (sym (take-take i j sizes le)) in omega (arith, e, sum_by-take-le (λ x. x) (take j sizes) i)
 
--- it is no more than the sum of all
+-- the sum of the first sizes is no more than the sum of all
 pub front_most : (sizes : List ℕ) (i : ℕ) → front sizes i ≤ sum sizes
 front_most sizes i = sum_by-take-le (λ x. x) sizes i
 
--- one more size
+-- the sum of the first sizes, with one size more
 pub front_one : (sizes : List ℕ) (i : ℕ) → i < length sizes → front sizes (i + 1) ≡ front sizes i + get_or sizes i 0
 front_one sizes i lt = sum_by_more (λ x. x) sizes i 0 lt
 

@@ -51,7 +51,7 @@ ends_before sizes nodes i j b begun e is = elim (cases_lt begun.until i) [
   | inr more ↦ omega (arith, begun.before)
 ]
 
--- so it is complete
+-- the node is complete
 complete : (sizes nodes : List ℕ) (i j : ℕ) → AreBegun sizes nodes i → j ≡ i + 1 → j ≤ length sizes → IsNode sizes nodes j
 complete sizes nodes i j are e le b is =
     let begun = are.begun j b (omega arith) le is in
@@ -67,7 +67,7 @@ all_complete sizes nodes i are j some le within = elim (cases_lt j (i + 1)) [
 
 -- ---- the node to which it is added
 
--- what it holds so far ends where the added one begins
+-- what the node holds so far ends where the added one begins
 not_after : (sizes nodes : List ℕ) (i b j c : ℕ) (begun : IsBegun sizes nodes i j c) → IsLowPower (i + 1) b → j ≡ i + 1 + b → IsLowPower j c → begun.until ≤ i + 1 - b
 not_after sizes nodes i b j c begun is e is_j = elim begun.added [
   | inl first ↦ omega (arith, low_next (i + 1) b c is (subst (λ n. IsLowPower n c) e is_j), low_within (i + 1) b is)
@@ -88,7 +88,7 @@ not_sooner sizes nodes i b j c begun is e is_j = elim (low_beside (i + 1) b is) 
   ]
 ]
 
--- both together are its size, and what comes before that
+-- both nodes together are the node's size, and what comes before that
 both_hold : (sizes nodes : List ℕ) (i b j c : ℕ) → AreBegun sizes nodes i → IsLowPower (i + 1) b → j ≡ i + 1 + b → j ≤ length sizes → IsLowPower j c
     → get_or nodes (j - 1) 0 + get_or nodes i 0 + front sizes (j - c) ≡ get_or sizes (j - 1) 0 + front sizes (i + 1)
 both_hold sizes nodes i b j c are is e le is_j =
@@ -97,7 +97,7 @@ both_hold sizes nodes i b j c are is e le is_j =
     let at : i + 1 - 1 ≡ i = omega arith in
     omega (arith, begun.holds, ap (front sizes) until, complete sizes nodes i (i + 1) are refl (omega arith) b is, ap (λ n. get_or nodes n 0) at)
 
--- so they are no more than the sum of all sizes
+-- both nodes together are no more than the sum of all sizes
 pub both_most : (sizes nodes : List ℕ) (i b : ℕ) → AreBegun sizes nodes i → IsLowPower (i + 1) b → i + b < length sizes → length sizes < 2 ^ 64
     → get_or nodes (i + b) 0 + get_or nodes i 0 ≤ sum sizes
 both_most sizes nodes i b are is lt few =
@@ -154,7 +154,7 @@ none_added sizes nodes nodes' i b are is past same = subst (λ n. AreBegun sizes
   begun = λ j c lt le is_j. begun_still sizes nodes nodes i b j c (are.begun j c (omega arith) le is_j) is (λ e. omega arith) refl;
 })
 
--- it is added to one
+-- a node is added to the next one that covers it
 pub one_added : (sizes nodes nodes' : List ℕ) (i b : ℕ) → AreBegun sizes nodes i → IsLowPower (i + 1) b → i + b < length sizes
     → nodes' ≡ set nodes (i + b) (get_or nodes (i + b) 0 + get_or nodes i 0) → AreBegun sizes nodes' (i + 1)
 one_added sizes nodes nodes' i b are is lt written =

@@ -1,4 +1,4 @@
--- A halfword of a jump or call through the table is known by its bits 15 to 10 and 1 to 0: the other rows of the tables spell
+-- A halfword of a jump or call through the table is known by its bits 15 to 10 and 1 to 0: the other rows of the tables encode
 -- something else, row by row.
 use Rattle.std.proofs.Common.{◌≡◌, ℕ, ◌+◌, ◌*◌, ◌/◌, ◌%◌, ◌^◌, ◌<◌, List, [], ◌∷◌, Option, Some, None, Bool, true, false, cond, refl, sym, ap, subst, ◌∙◌, arith, eqb}
 use Rattle.std.specs.Prelude.{◌&&◌, nat_lt}
@@ -6,8 +6,9 @@ use Rattle.std.specs.Option.{option_flatten, option_map}
 use Rattle.std.proofs.lemmas.Bool.{eq-eqb, eqb-true}
 use Rattle.rv_decode.specs.Bits.{field}
 use Rattle.rv_decode.specs.Decode.{row_of}
+use Rattle.rv_decode.specs.Formats.{rd_of}
 use Rattle.rv_decode.proofs.RowLaws.{EachRow}
-use Rattle.zc_decode.specs.Fields.{addi4spn_of, c_rd_of, c_rs2_of, group_of, index_of, list_of, lui_of}
+use Rattle.zc_decode.specs.Fields.{addi4spn_of, c_rs2_of, group_of, index_of, list_of, lui_of}
 use Rattle.zc_decode.specs.Halfwords.{decoded16, spelled}
 use Rattle.zc_decode.specs.Rows.{form_of, groups, jump_row, operations, register_rows, unless, zcb_memory, zcb_unary, zcmp_lists, zcmp_moves, zcmp_rows}
 use Rattle.zc_decode.specs.declared.form.Form.{Form}
@@ -74,7 +75,7 @@ module _ (half : ℕ) where
   jump_no : says half (jump_row half) ≡ false
   jump_no =
       if_no (eqb (c_rs2_of half) 0) _ _
-      (if_no (eqb (field half 12 1) 0) _ _ (unless_no (eqb (c_rd_of half) 0) CJr refl) (if_no (eqb (c_rd_of half) 0) (Some CEbreak) (Some CJalr) refl refl))
+      (if_no (eqb (field half 12 1) 0) _ _ (unless_no (eqb (rd_of half) 0) CJr refl) (if_no (eqb (rd_of half) 0) (Some CEbreak) (Some CJalr) refl refl))
       (if_no (eqb (field half 12 1) 0) (Some CMv) (Some CAdd) refl refl)
 
   lists_no : says half (cond (nat_lt (list_of half) 4) None (row_of zcmp_lists (field half 8 5))) ≡ false
@@ -90,16 +91,16 @@ module _ (half : ℕ) where
   zcb_no : says half (row_of zcb_memory (field half 10 3 * 2 + field half 6 1)) ≡ false
   zcb_no = forms_no zcb_memory (field half 10 3 * 2 + field half 6 1) (refl, (refl, (refl, (refl, (refl, (refl, (refl, tt)))))))
 
-  lui_no : says half (unless (eqb (lui_of half) 0) (cond (eqb (c_rd_of half) 2) CAddi16sp CLui)) ≡ false
-  lui_no = if_no (eqb (lui_of half) 0) None (Some (cond (eqb (c_rd_of half) 2) CAddi16sp CLui)) refl (one_no (eqb (c_rd_of half) 2) CAddi16sp CLui refl refl)
+  lui_no : says half (unless (eqb (lui_of half) 0) (cond (eqb (rd_of half) 2) CAddi16sp CLui)) ≡ false
+  lui_no = if_no (eqb (lui_of half) 0) None (Some (cond (eqb (rd_of half) 2) CAddi16sp CLui)) refl (one_no (eqb (rd_of half) 2) CAddi16sp CLui refl refl)
 
   -- the groups in the table's order
   group_others : eqb (group_of half) 0b101_10 ≡ false → says half (option_flatten (row_of (groups half) (group_of half))) ≡ false
   group_others other =
       let sp = unless_no (eqb (addi4spn_of half) 0) CAddi4spn refl in
-      let addi = one_no (eqb (c_rd_of half) 0) CNop CAddi refl refl in
+      let addi = one_no (eqb (rd_of half) 0) CNop CAddi refl refl in
       let slli = unless_no (eqb (field half 12 1) 1) CSlli refl in
-      let lwsp = unless_no (eqb (c_rd_of half) 0) CLwsp refl in
+      let lwsp = unless_no (eqb (rd_of half) 0) CLwsp refl in
       others_no 0b101_10 (groups half) (group_of half) other
       ((λ _. sp), ((λ _. refl), ((λ _. refl), ((λ _. zcb_no), ((λ _. addi), ((λ _. refl), ((λ _. refl), ((λ _. lui_no), ((λ _. operations_no), ((λ _. refl), ((λ _. refl), ((λ _. refl), ((λ _. slli), ((λ _. lwsp), ((λ _. jump_no), ((λ same. absurd cc), ((λ _. refl), tt)))))))))))))))))
 

@@ -28,7 +28,7 @@ use Rattle.shrink_layout.specs.Settled.{is_site, settled_addresses, settled_end,
 use Rattle.shrink_layout.specs.Table.{TablePays}
 use Rattle.shrink_layout.specs.Units.{CodeUnit, OneGroup, OneItem, OneSite, front_size, role_unit}
 use Rattle.shrink_layout.specs.declared.piece.Piece.{Piece}
-use Rattle.shrink_layout.specs.declared.piece.Piece.TheVariants.{Fixed, Joined, Align}
+use Rattle.shrink_layout.specs.declared.piece.Piece.TheVariants.{Fixed, WithOthers, Align}
 use Rattle.shrink_layout.proofs.HeldLaws.{got_of}
 use Rattle.shrink_layout.proofs.NumberLaws.{laid_in, length-laid_in, length-section_laid, section_laid}
 use Rattle.shrink_layout.proofs.PremiseLaws.{Each, all_even, all_of, all_tight, each-append, targets}
@@ -118,12 +118,12 @@ module _ (inputs : ParsedInputs) (slots : List (Option Place)) where
   pieces_by_slots others ls = pieces_in inputs (slot_at inputs others) ls
 
   -- the piece at a place is the one without slots, but for a jump through the table
-  tabled_piece : (q : Place) → cond (mark_at q) (Joined 2) (piece_at inputs (slot_at inputs []) q) ≡ piece_at inputs (slot_at inputs slots) q
+  tabled_piece : (q : Place) → cond (mark_at q) (WithOthers 2) (piece_at inputs (slot_at inputs []) q) ≡ piece_at inputs (slot_at inputs slots) q
   unfolding slot_at
   tabled_piece q = by (slot_at inputs slots q) (item_at inputs q) (role_at inputs q)
     where
       by : (n : Option ℕ) (i : Option Item) (r : Option Role)
-          → cond (is_marked (option_and_then (role_unit n i) r)) (Joined 2) (unit_piece inputs.objects (option_and_then (role_unit None i) r)) ≡ unit_piece inputs.objects (option_and_then (role_unit n i) r)
+          → cond (is_marked (option_and_then (role_unit n i) r)) (WithOthers 2) (unit_piece inputs.objects (option_and_then (role_unit None i) r)) ≡ unit_piece inputs.objects (option_and_then (role_unit n i) r)
       by n i None = refl
       by n i (Some (First g)) = refl
       by n i (Some Inside) = refl
@@ -135,7 +135,7 @@ module _ (inputs : ParsedInputs) (slots : List (Option Place)) where
   tabled_append [] ns [] qs same = refl
   tabled_append [] ns (p ∷ ps) qs same = absurd (omega (arith, same))
   tabled_append (m ∷ ms) ns [] qs same = absurd (omega (arith, same))
-  tabled_append (m ∷ ms) ns (p ∷ ps) qs same = ap (λ rest. cond m (Joined 2) p ∷ rest) (tabled_append ms ns ps qs (omega (arith, same)))
+  tabled_append (m ∷ ms) ns (p ∷ ps) qs same = ap (λ rest. cond m (WithOthers 2) p ∷ rest) (tabled_append ms ns ps qs (omega (arith, same)))
 
   tabled_places : (qs : List Place) → tabled (map mark_at qs) (map (piece_at inputs (slot_at inputs [])) qs) ≡ map (piece_at inputs (slot_at inputs slots)) qs
   tabled_places [] = refl
@@ -149,7 +149,7 @@ module _ (inputs : ParsedInputs) (slots : List (Option Place)) where
       by true = ap (λ ps. Align (section_alignment l.section) ∷ ps) (tabled_places (places_of l))
       by false = refl
 
-  -- so are those of sections one after another
+  -- the pieces of sections one after another, with the table's jumps put in
   tabled_sections : (ls : List IndexedSection) → tabled (marks_in ls) (pieces_by_slots [] ls) ≡ pieces_by_slots slots ls
   tabled_sections [] = refl
   tabled_sections (l ∷ ls) =

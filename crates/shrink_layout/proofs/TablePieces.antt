@@ -5,9 +5,9 @@ use Rattle.std.specs.Prelude.{slice_index}
 use Rattle.std.proofs.lemmas.Bool.{and_from, and_parts}
 use Rattle.std.proofs.lemmas.List.Elements.{All-cons, All-head, All-tail, All-weaker}
 use Rattle.shrink_layout.specs.declared.piece.Piece.{Piece}
-use Rattle.shrink_layout.specs.declared.piece.Piece.TheVariants.{Fixed, Joined, Align, Branch, Jump}
-use Rattle.shrink_layout.specs.Forms.{IsEvenPiece, holds, target, width}
-use Rattle.shrink_layout.specs.Layout.{Fits, IsLayout, addresses_of, fit_from, holds_at}
+use Rattle.shrink_layout.specs.declared.piece.Piece.TheVariants.{Fixed, WithOthers, Align, Branch, Jump}
+use Rattle.shrink_layout.specs.Forms.{IsEvenPiece, form_reaches, target, width}
+use Rattle.shrink_layout.specs.Layout.{Fits, IsLayout, addresses_of, fit_from, form_reaches_at}
 use Rattle.shrink_layout.specs.Least.{AreForms, IsTight}
 use Rattle.shrink_layout.proofs.AddressLaws.{even_address, first_address, layout_forms}
 use Rattle.shrink_layout.proofs.Distances.{Nearer, holds_nearer}
@@ -20,9 +20,9 @@ use Rattle.shrink_layout.proofs.LeastLaws.{Below, closer, nearer, round_below}
 abbrev pub tabled : List Bool → List Piece → List Piece
 tabled [] pieces = pieces
 tabled (mark ∷ marks) [] = []
-tabled (mark ∷ marks) (p ∷ pieces) = cond mark (Joined 2) p ∷ tabled marks pieces
+tabled (mark ∷ marks) (p ∷ pieces) = cond mark (WithOthers 2) p ∷ tabled marks pieces
 
--- how many are marked
+-- the number of marks
 abbrev pub marked : List Bool → ℕ
 marked [] = 0
 marked (mark ∷ marks) = cond mark 1 0 + marked marks
@@ -38,7 +38,7 @@ AreSites (mark ∷ marks) (p ∷ pieces) (size ∷ sizes) = (mark ≡ true → s
 -- what a branch or a jump leads to doesn't stand in front of all code
 abbrev pub IsPastFront : Piece → Type 0
 IsPastFront (Fixed size) = Unit {0}
-IsPastFront (Joined size) = Unit {0}
+IsPastFront (WithOthers size) = Unit {0}
 IsPastFront (Align alignment) = Unit {0}
 IsPastFront (Branch to short) = 0 < to
 IsPastFront (Jump to) = 0 < to
@@ -55,19 +55,19 @@ length-tabled (mark ∷ marks) [] = refl
 length-tabled (mark ∷ marks) (p ∷ pieces) = ap suc (length-tabled marks pieces)
 
 -- what holds of each piece and of a jump through the table
-tabled_all : (P : Piece → Type 0) (marks : List Bool) (pieces : List Piece) → P (Joined 2) → All P pieces → All P (tabled marks pieces)
+tabled_all : (P : Piece → Type 0) (marks : List Bool) (pieces : List Piece) → P (WithOthers 2) → All P pieces → All P (tabled marks pieces)
 tabled_all P [] pieces one all = all
 tabled_all P (mark ∷ marks) [] one all = all
 tabled_all P (mark ∷ marks) (p ∷ pieces) one all =
-    All-cons P (cond mark (Joined 2) p) (tabled marks pieces) (by mark (All-head P p pieces all)) (tabled_all P marks pieces one (All-tail P p pieces all))
+    All-cons P (cond mark (WithOthers 2) p) (tabled marks pieces) (by mark (All-head P p pieces all)) (tabled_all P marks pieces one (All-tail P p pieces all))
   where
-    by : (b : Bool) → P p → P (cond b (Joined 2) p)
+    by : (b : Bool) → P p → P (cond b (WithOthers 2) p)
     by true own = one
     by false own = own
 
 -- ---- sizes
 
--- they are forms
+-- the sizes with the table's jumps are forms
 tabled_forms : (marks : List Bool) (pieces : List Piece) (sizes : List ℕ) → AreSites marks pieces sizes → AreForms pieces sizes → AreForms (tabled marks pieces) (tabled_sizes marks sizes)
 tabled_forms [] pieces sizes sites h = h
 tabled_forms (mark ∷ marks) [] sizes sites h = absurd sites
@@ -89,15 +89,15 @@ tabled_below (false ∷ marks) (p ∷ pieces) (size ∷ sizes) sites = (omega ar
 
 -- ---- what fits
 
--- one piece fits if it did and its way became no longer; a piece without target fits anywhere
-holds_still : (p : Piece) (size f' t' f t : ℕ) → f' % 2 ≡ 0 → t' % 2 ≡ 0 → (0 < target p → Nearer f' t' f t) → IsPastFront p → holds p size f t ≡ true → holds p size f' t' ≡ true
+-- a piece fits if it did and its distance became no longer; a piece without target fits anywhere
+holds_still : (p : Piece) (size f' t' f t : ℕ) → f' % 2 ≡ 0 → t' % 2 ≡ 0 → (0 < target p → Nearer f' t' f t) → IsPastFront p → form_reaches p size f t ≡ true → form_reaches p size f' t' ≡ true
 holds_still (Fixed n) size f' t' f t e e' near past fits = refl
-holds_still (Joined n) size f' t' f t e e' near past fits = refl
+holds_still (WithOthers n) size f' t' f t e e' near past fits = refl
 holds_still (Align alignment) size f' t' f t e e' near past fits = refl
 holds_still (Branch to short) size f' t' f t e e' near past fits = holds_nearer (Branch to short) size f' t' f t e e' (near past) fits
 holds_still (Jump to) size f' t' f t e e' near past fits = holds_nearer (Jump to) size f' t' f t e e' (near past) fits
 
--- so all fit that are counted from k on; a' and a are the addresses with the table and without, and n counts all pieces
+-- all pieces that are counted from k on fit; a' and a are the addresses with the table and without, and n counts all pieces
 tabled_fit :
     (a' a : List ℕ) (n k : ℕ) (marks : List Bool) (pieces : List Piece) (sizes : List ℕ) → ((j : ℕ) → slice_index a' j % 2 ≡ 0)
     → ((i t : ℕ) → 0 < i → 0 < t → i ≤ n → t ≤ n → Nearer (slice_index a' i) (slice_index a' t) (slice_index a i) (slice_index a t))
@@ -108,12 +108,12 @@ tabled_fit a' a n k [] (p ∷ pieces) sizes even near some within targets past s
 tabled_fit a' a n k (mark ∷ marks) [] sizes even near some within targets past sites fits = absurd sites
 tabled_fit a' a n k (mark ∷ marks) (p ∷ pieces) [] even near some within targets past sites fits = absurd sites
 tabled_fit a' a n k (true ∷ marks) (p ∷ pieces) (size ∷ sizes) even near some within targets past sites fits =
-    let parts = and_parts (holds_at a k p size) (fit_from a (k + 1) pieces sizes) fits in
+    let parts = and_parts (form_reaches_at a k p size) (fit_from a (k + 1) pieces sizes) fits in
     tabled_fit a' a n (k + 1) marks pieces sizes even near (omega arith) (omega arith) (All-tail (λ q. target q ≤ n) p pieces targets) (All-tail IsPastFront p pieces past) sites.1 parts.1
 tabled_fit a' a n k (false ∷ marks) (p ∷ pieces) (size ∷ sizes) even near some within targets past sites fits =
-    let parts = and_parts (holds_at a k p size) (fit_from a (k + 1) pieces sizes) fits in
+    let parts = and_parts (form_reaches_at a k p size) (fit_from a (k + 1) pieces sizes) fits in
     let in_target : target p ≤ n = All-head (λ q. target q ≤ n) p pieces targets in
-    let here : holds_at a' k p size ≡ true = holds_still p size _ _ _ _ (even k) (even (target p)) (λ has. near k (target p) some has (omega arith) in_target) (All-head IsPastFront p pieces past) parts.0 in
+    let here : form_reaches_at a' k p size ≡ true = holds_still p size _ _ _ _ (even k) (even (target p)) (λ has. near k (target p) some has (omega arith) in_target) (All-head IsPastFront p pieces past) parts.0 in
     and_from _ _ here (tabled_fit a' a n (k + 1) marks pieces sizes even near (omega arith) (omega arith) (All-tail (λ q. target q ≤ n) p pieces targets) (All-tail IsPastFront p pieces past) sites.1 parts.1)
 
 -- each jump through the table saves two bytes

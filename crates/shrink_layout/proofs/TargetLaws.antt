@@ -1,7 +1,7 @@
 -- Where items lead: in inputs without a fault, a branch, a jump or a call leads to a place where an item starts or a section of code ends
 -- (`item_leads`). Such a place has a number behind that of the front (`number_some`).
 use Rattle.std.proofs.Common.{◌≡◌, ℕ, ◌+◌, ◌≤◌, List, map, Bool, true, false, cond, Option, Some, None, refl, sym, ap, ◌∙◌, subst, arith}
-use Rattle.std.specs.Prelude.{ℤ, ◌==◌, ◌&&◌, ◌||◌, not}
+use Rattle.std.specs.Prelude.{ℤ, pos, ◌+ℤ◌, ◌==◌, ◌&&◌, ◌||◌, not}
 use Rattle.std.specs.List.{position_or_len}
 use Rattle.std.specs.Option.{option_and_then, option_map, option_map_or}
 use Rattle.std.proofs.lemmas.Bool.{not-false}
@@ -23,7 +23,7 @@ use Rattle.psabi_sym.proofs.FaultLaws.{neither}
 use Rattle.rv_decode.specs.declared.instr.Instr.{Instr}
 use Rattle.rv_decode.specs.declared.instr.Instr.TheVariants as instr
 use Rattle.block_cut.specs.Faults.{first_fault, has_bad_target, if_so, is_bad_target, is_stray, lacks_pcrel_hi, reloc_fault, relocs_fault, section_fault}
-use Rattle.block_cut.specs.Items.{call_item, code_at, is_target_at, item_at, item_under, known_item, of_instr, place_away, raw_in, raw_pair, size_on, spelled_item, target_away, target_of, target_only, to_place, transfer_item}
+use Rattle.block_cut.specs.Items.{call_item, code_at, is_target_at, item_at, item_under, known_item, place_on, raw_in, raw_pair, size_on, spelled_item, target_away, target_of, to_place, transfer_item}
 use Rattle.block_cut.specs.Relocs.{instr_in, is_bad_kind, is_bad_place, is_ignored, is_sound, is_transfer, reloc_on}
 use Rattle.block_cut.specs.declared.item.Item.{Item}
 use Rattle.block_cut.specs.declared.item.Item.TheVariants as item
@@ -53,15 +53,15 @@ LeadsWell objects (item.Jump rd to) = is_target_at objects to ≡ true
 LeadsWell objects (item.Call rd temp to) = is_target_at objects to ≡ true
 LeadsWell objects _ = Unit {0}
 
--- what is so far away from a place, if anything, is where code may lead
+-- a place at a distance from another, if there is one, is where code may lead
 pub away_target : (objects : List ObjectParts) (q to : Place) (distance : ℤ) → target_away objects q distance ≡ Some to → is_target_at objects to ≡ true
-away_target objects q to distance = from (place_away q distance)
+away_target objects q to distance = from (place_on q (pos q.offset +ℤ distance))
   where
     only : (r : Place) (b : Bool) → is_target_at objects r ≡ b → cond b (Some r) None ≡ Some to → is_target_at objects to ≡ true
     only r true is h = let same : r ≡ to = cc in ap (is_target_at objects) (sym same) ∙ is
     only r false is h = absurd cc
 
-    from : (o : Option Place) → option_and_then (target_only objects) o ≡ Some to → is_target_at objects to ≡ true
+    from : (o : Option Place) → option_and_then (λ r. cond (is_target_at objects r) (Some r) None) o ≡ Some to → is_target_at objects to ≡ true
     from None h = absurd cc
     from (Some r) h = only r (is_target_at objects r) refl h
 
@@ -86,12 +86,12 @@ module _ (inputs : Inputs) (none : first_fault inputs ≡ None) where
   unfolding first_fault
   no_reloc_fault = (neither (relocs_fault given) _ (neither (gather_fault inputs) _ none).1).0
 
-  -- there is none between objects either
+  -- there is no fault between objects either
   pub no_gather_fault : gather_fault inputs ≡ None
   unfolding first_fault
   no_gather_fault = (neither (gather_fault inputs) _ none).0
 
-  -- one that asks for something at an offset of a section leads where it may
+  -- a relocation that asks for something at an offset of a section leads where it may
   reloc_leads : (o i n : ℕ) (s : SectionParts) (r : Reloc) → section_at objects o i ≡ Some s → reloc_on s n ≡ Some r → is_ignored (kind_of r.kind) ≡ false
       → is_bad_target objects (is_transfer (kind_of r.kind)) (target_of given o r) ≡ false
   unfolding reloc_on relocs_fault
@@ -148,7 +148,7 @@ module _ (inputs : Inputs) (none : first_fault inputs ≡ None) where
     raw_leads m = raw_by (LeadsWell objects) (λ half. tt) (λ word. tt) m bytes q.offset
 
     -- an instruction with a part of an address
-    parted : (m : ℕ) (f : Instr → Item) (d : Option Instr) → ((i : Instr) → LeadsWell objects (f i)) → LeadsWell objects (of_instr d (raw m) f)
+    parted : (m : ℕ) (f : Instr → Item) (d : Option Instr) → ((i : Instr) → LeadsWell objects (f i)) → LeadsWell objects (option_map_or f d (raw m))
     parted m f None each = raw_leads m
     parted m f (Some i) each = each i
 
@@ -172,7 +172,7 @@ module _ (inputs : Inputs) (none : first_fault inputs ≡ None) where
     called (Some (instr.Upper op temp upper)) (Some (instr.Jalr rd base lower)) (Code to) well = not-false (is_target_at objects to) well
     called d d2 (Code to) well = tt
 
-    -- the lower part of a way
+    -- an instruction with the lower part of a distance
     lowered : (t : Target) (i : Instr) → LeadsWell objects (to_place t (item.PcLo i) (raw 4))
     lowered (Code from) i = tt
     lowered (Number n) i = tt
@@ -212,12 +212,12 @@ module _ (inputs : Inputs) (none : first_fault inputs ≡ None) where
           known q (size_on s q.offset) s.bytes (kind_of r.kind) r.addend (target_of given q.object r)
           (reloc_leads q.object q.section q.offset s r section.0 on sound.asks)
 
-  -- so the piece of a jump has its target past the front
+  -- the piece of a jump has its target after the front
   jump_past : (to : Place) (b : Bool) → is_target_at objects to ≡ true → IsPastFront (jump_piece objects to b)
   jump_past to true well = omega (arith, number_some objects to well)
   jump_past to false well = tt
 
-  -- as the piece of each item has, if it has one
+  -- the piece of each item has its target after the front, if it has one
   pub item_past : (i : Item) → LeadsWell objects i → IsPastFront (piece_of objects i)
   item_past (item.Op i) well = tt
   item_past (item.Hi i t) well = tt

@@ -15,12 +15,12 @@ use Rattle.psabi_sym.specs.Faults.{gather_fault}
 use Rattle.psabi_sym.specs.Inputs.{Inputs, ParsedInputs, parsed}
 use Rattle.psabi_sym.specs.Indexed.{IndexedSection, all_sections, section_at, sections_before}
 use Rattle.psabi_sym.proofs.SectionNumbers.{before_number, listed_at}
-use Rattle.block_cut.specs.Items.{all_targets, code_at, code_only, index_on, is_target_at, place_of, starts_in, starts_on, targets_in, targets_of}
+use Rattle.block_cut.specs.Items.{all_targets, code_at, index_on, is_target_at, place_of, starts_in, starts_on, targets_in, targets_of}
 use Rattle.block_cut.specs.Whole.{IsWhole}
 use Rattle.block_cut.proofs.ListedLaws.{cut_at, listed}
 use Rattle.block_cut.proofs.PlainLaws.{target_on}
 use Rattle.block_cut.proofs.StartLaws.{before_end_all}
-use Rattle.block_cut.proofs.WholeLaws.{code_is_section, code_whole, inputs_whole}
+use Rattle.block_cut.proofs.WholeLaws.{code_at_is, code_is_section, code_whole, inputs_whole}
 use Rattle.block_cut.proofs.WordLaws as words
 use Rattle.shrink_layout.specs.Pieces.{piece_count, piece_number_at}
 use Rattle.shrink_layout.proofs.HeldLaws.{among, got_of, start_index}
@@ -48,7 +48,7 @@ in_second : {X : Type 0} (xs ys : List X) (i : ℕ) (x : X) → slice_get ys i �
 in_second [] ys i x got = let e : 0 + i ≡ i = omega arith in ap (slice_get ys) e ∙ got
 in_second (z ∷ zs) ys i x got = let e : suc (length zs) + i ≡ suc (length zs + i) = omega arith in ap (slice_get (z ∷ zs ++ ys)) e ∙ in_second zs ys i x got
 
--- and so is one of the first
+-- an element of the first list is one of both
 in_first : {X : Type 0} (xs ys : List X) (i : ℕ) (x : X) → slice_get xs i ≡ Some x → slice_get (xs ++ ys) i ≡ Some x
 in_first [] ys i x got = absurd (none-some x got)
 in_first (z ∷ zs) ys zero x got = got
@@ -93,7 +93,7 @@ module _ (inputs : Inputs) (none : gather_fault inputs ≡ None) where
     whole = inputs_whole inputs l.object l.index s none here code
 
     at : (n : ℕ) → code_at objects (place_of l n) ≡ Some s
-    at n = ap (option_and_then code_only) here ∙ ap (λ b. cond b (Some s) None) code
+    at n = code_at_is objects (place_of l n) s here code
 
     -- an offset that code may lead to, with its index among these
     offset_there : (j n : ℕ) → slice_get (targets_in s) j ≡ Some n → (is_target_at objects (place_of l n) ≡ true) × (index_on s n ≡ j)
@@ -115,7 +115,7 @@ module _ (inputs : Inputs) (none : gather_fault inputs ≡ None) where
             (target (or_left (starts_on s n) (eqb n (length s.bytes)) (among (starts_in s) j n start)), start_index s code whole j n start)
         by (InSecond i same end) = last i same end
 
-    -- so has each of the section's
+    -- each place of the section is found by its number
     target_there : (j : ℕ) (q : Place) → slice_get (map (place_of l) (targets_in s)) j ≡ Some q
         → IsNumbered objects q (2 + sum_by piece_count (sections_before objects l.object l.index) + j)
     target_there j q got =
@@ -128,7 +128,7 @@ module _ (inputs : Inputs) (none : gather_fault inputs ≡ None) where
           number = ap (piece_number_at objects) (sym found.2) ∙ number;
         }
 
-    -- and each start of an item in it
+    -- each start of an item in the section has the number of its place in the list
     pub start_there : (j n : ℕ) → slice_get (starts_in s) j ≡ Some n
         → piece_number_at objects (place_of l n) ≡ 2 + sum_by piece_count (sections_before objects l.object l.index) + j
     start_there j n got =
@@ -145,7 +145,7 @@ module _ (inputs : Inputs) (none : gather_fault inputs ≡ None) where
       by true code h = target_there l here code j q h
       by false other h = absurd (none-some q h)
 
-  -- those of sections one after another, before which so many pieces stand
+  -- the places of sections one after another, before which come `base` pieces
   sections_there : (base : ℕ) (ls : List IndexedSection)
       → ((i : ℕ) (l : IndexedSection) → slice_get ls i ≡ Some l → (j : ℕ) (q : Place) → slice_get (targets_of l) j ≡ Some q → IsNumbered objects q (2 + (base + sum_by piece_count (take i ls)) + j))
       → (j : ℕ) (q : Place) → slice_get (flat_map targets_of ls) j ≡ Some q → IsNumbered objects q (2 + base + j)
@@ -169,7 +169,7 @@ module _ (inputs : Inputs) (none : gather_fault inputs ≡ None) where
       record { target = one.target; number = omega (arith, one.number, ap (sum_by piece_count) (before_number objects i l at)) }) j q got in
       record { target = is.target; number = omega (arith, is.number) }
 
-  -- and each is found by its number
+  -- each place is found by its number
   pub target_got : (q : Place) → is_target_at objects q ≡ true → slice_get (all_targets objects) (piece_number_at objects q - 2) ≡ Some q
   target_got q target =
       let there = target_code objects q target in
@@ -190,7 +190,7 @@ module _ (inputs : Inputs) (none : gather_fault inputs ≡ None) where
       ∙ in_second (flat_map targets_of before) (targets_of l ++ flat_map targets_of cut.rest) (index_on s q.offset) q
       (in_first (targets_of l) (flat_map targets_of cut.rest) (index_on s q.offset) q own)
 
-  -- so what has the same number is the same place
+  -- two places with one number are one place
   pub same_number : (q r : Place) → is_target_at objects q ≡ true → is_target_at objects r ≡ true → piece_number_at objects q ≡ piece_number_at objects r → q ≡ r
   same_number q r from_target to_target same =
       same_Some q r (sym (target_got q from_target) ∙ ap (λ n. slice_get (all_targets objects) (n - 2)) same ∙ target_got r to_target)

@@ -5,8 +5,8 @@ use Rattle.std.proofs.lemmas.Bool.{cases_lt, cases_Bool, cond-true, cond-false, 
 use Rattle.std.proofs.lemmas.List.Elements.{All-set}
 use Rattle.shrink_layout.specs.declared.piece.Piece.{Piece}
 use Rattle.shrink_layout.specs.Invariants.Blocks.{HaveGrownIn, IsNear, IsNearAt, IsSpanned, IsStill, IsUnchanged, block_fits, block_size, grown_size, nth_piece}
-use Rattle.shrink_layout.specs.Forms.{holds, longer, target}
-use Rattle.shrink_layout.specs.Layout.{fit_from, grown_from, holds_at}
+use Rattle.shrink_layout.specs.Forms.{form_reaches, longer, target}
+use Rattle.shrink_layout.specs.Layout.{fit_from, grown_from, form_reaches_at}
 use Rattle.shrink_layout.proofs.GrownLaws.{fit_is, fit_is_not, grown_is}
 
 -- after a test, the pieces of blocks of which none grew fit
@@ -34,9 +34,9 @@ pub record AreGrown (a : List ℕ) (pieces : List Piece) (old sizes old_lows low
   pub rest_lows : (b : ℕ) → block ≤ b → slice_index lows b ≡ slice_index old_lows b
   pub rest_highs : (b : ℕ) → block ≤ b → slice_index highs b ≡ slice_index old_highs b
   pub done : (k : ℕ) → k < n → slice_index sizes k ≡ grown_size a k (nth_piece pieces k) (slice_index old k)
-  pub fit : fitted ≡ true → (k : ℕ) → k < n → holds_at a k (nth_piece pieces k) (slice_index old k) ≡ true
-  pub unfit : fitted ≡ false → (k : ℕ) × (k < length pieces) × (holds_at a k (nth_piece pieces k) (slice_index old k) ≡ false)
-  pub tested : (k : ℕ) → k < n → (IsUnchanged grown (k / block_size) → holds_at a k (nth_piece pieces k) (slice_index old k) ≡ true)
+  pub fit : fitted ≡ true → (k : ℕ) → k < n → form_reaches_at a k (nth_piece pieces k) (slice_index old k) ≡ true
+  pub unfit : fitted ≡ false → (k : ℕ) × (k < length pieces) × (form_reaches_at a k (nth_piece pieces k) (slice_index old k) ≡ false)
+  pub tested : (k : ℕ) → k < n → (IsUnchanged grown (k / block_size) → form_reaches_at a k (nth_piece pieces k) (slice_index old k) ≡ true)
       × IsNear (nth_piece pieces k) (slice_index sizes k) (k / block_size) (slice_index lows (k / block_size)) (slice_index highs (k / block_size))
 
 -- ---- one piece
@@ -46,14 +46,14 @@ pub record IsTested (a : List ℕ) (pieces : List Piece) (old sizes sizes' : Lis
   pub same : length sizes' ≡ length sizes
   pub other : (j : ℕ) → (j ≡ k → ⊥) → slice_index sizes' j ≡ slice_index sizes j
   pub here : slice_index sizes' k ≡ grown_size a k (nth_piece pieces k) (slice_index old k)
-  pub fit : fitted' ≡ true → (fitted ≡ true) × (holds_at a k (nth_piece pieces k) (slice_index old k) ≡ true)
-  pub unfit : fitted' ≡ false → (fitted ≡ false) ⊎ (holds_at a k (nth_piece pieces k) (slice_index old k) ≡ false)
+  pub fit : fitted' ≡ true → (fitted ≡ true) × (form_reaches_at a k (nth_piece pieces k) (slice_index old k) ≡ true)
+  pub unfit : fitted' ≡ false → (fitted ≡ false) ⊎ (form_reaches_at a k (nth_piece pieces k) (slice_index old k) ≡ false)
 
--- it fits
+-- the tested piece fits
 pub test_fits : (a : List ℕ) (pieces : List Piece) (old sizes sizes' : List ℕ) (k : ℕ) (fitted fitted' : Bool) → slice_index sizes k ≡ slice_index old k
-    → holds_at a k (nth_piece pieces k) (slice_index sizes k) ≡ true → sizes' ≡ sizes → fitted' ≡ fitted → IsTested a pieces old sizes sizes' k fitted fitted'
-test_fits a pieces old sizes sizes' k fitted fitted' kept holds same_sizes same_fitted =
-    let held : holds_at a k (nth_piece pieces k) (slice_index old k) ≡ true = ap (holds_at a k (nth_piece pieces k)) (sym kept) ∙ holds in
+    → form_reaches_at a k (nth_piece pieces k) (slice_index sizes k) ≡ true → sizes' ≡ sizes → fitted' ≡ fitted → IsTested a pieces old sizes sizes' k fitted fitted'
+test_fits a pieces old sizes sizes' k fitted fitted' kept reached same_sizes same_fitted =
+    let held : form_reaches_at a k (nth_piece pieces k) (slice_index old k) ≡ true = ap (form_reaches_at a k (nth_piece pieces k)) (sym kept) ∙ reached in
     record {
       same = ap length same_sizes;
       other = λ j ne. ap (λ l. slice_index l j) same_sizes;
@@ -62,11 +62,11 @@ test_fits a pieces old sizes sizes' k fitted fitted' kept holds same_sizes same_
       unfit = λ y. inl (sym same_fitted ∙ y);
     }
 
--- it doesn't, and grows
+-- the tested piece doesn't fit, and grows
 pub test_grows : (a : List ℕ) (pieces : List Piece) (old sizes sizes' : List ℕ) (k : ℕ) (fitted fitted' : Bool) → k < length sizes → slice_index sizes k ≡ slice_index old k
-    → holds_at a k (nth_piece pieces k) (slice_index sizes k) ≡ false → sizes' ≡ set sizes k (longer (nth_piece pieces k) (slice_index sizes k)) → fitted' ≡ false → IsTested a pieces old sizes sizes' k fitted fitted'
+    → form_reaches_at a k (nth_piece pieces k) (slice_index sizes k) ≡ false → sizes' ≡ set sizes k (longer (nth_piece pieces k) (slice_index sizes k)) → fitted' ≡ false → IsTested a pieces old sizes sizes' k fitted fitted'
 test_grows a pieces old sizes sizes' k fitted fitted' within kept misses written unfit =
-    let missed : holds_at a k (nth_piece pieces k) (slice_index old k) ≡ false = ap (holds_at a k (nth_piece pieces k)) (sym kept) ∙ misses in
+    let missed : form_reaches_at a k (nth_piece pieces k) (slice_index old k) ≡ false = ap (form_reaches_at a k (nth_piece pieces k)) (sym kept) ∙ misses in
     record {
       same = ap length written ∙ length-set sizes k _;
       other = λ j ne. ap (λ l. slice_index l j) written ∙ get_or-set_other sizes k j _ 0 ne;
@@ -77,10 +77,10 @@ test_grows a pieces old sizes sizes' k fitted fitted' within kept misses written
 
 -- between numbers that lie farther apart it lies all the more
 wider : (p : Piece) (size size' low high low' high' : ℕ) → size' ≡ size → low' ≤ low → high ≤ high' → IsSpanned p size low high → IsSpanned p size' low' high'
-wider p size size' low high low' high' same le ge (inl all) = inl (λ from to. ap (λ s. holds p s from to) same ∙ all from to)
+wider p size size' low high low' high' same le ge (inl all) = inl (λ from to. ap (λ s. form_reaches p s from to) same ∙ all from to)
 wider p size size' low high low' high' same le ge (inr between) = inr (omega (arith, between.0), omega (arith, between.1))
 
--- one more piece was tested
+-- one piece more was tested
 pub tested_more : (a : List ℕ) (pieces : List Piece) (old sizes sizes' : List ℕ) (first k : ℕ) (fitted fitted' : Bool) (low high low' high' : ℕ) → first ≤ k
     → HaveGrownIn a pieces old sizes first k fitted low high → IsTested a pieces old sizes sizes' k fitted fitted'
     → IsSpanned (nth_piece pieces k) (slice_index sizes' k) low' high' → low' ≤ low → high ≤ high' → high' ≤ length pieces
@@ -95,7 +95,7 @@ tested_more a pieces old sizes sizes' first k fitted fitted' low high low' high'
   ];
   fit = λ y j ge' lt. elim (cases_lt j k) [
     | inl done ↦ now.fit (test.fit y).0 j ge' done
-    | inr new ↦ let e : k ≡ j = omega (arith, new, lt) in subst (λ m. holds_at a m (nth_piece pieces m) (slice_index old m) ≡ true) e (test.fit y).1
+    | inr new ↦ let e : k ≡ j = omega (arith, new, lt) in subst (λ m. form_reaches_at a m (nth_piece pieces m) (slice_index old m) ≡ true) e (test.fit y).1
   ];
   unfit = λ y. elim (test.unfit y) [
     | inl before ↦ let found = now.unfit before in (found.0, found.1, omega (arith, found.2), found.3)
@@ -201,13 +201,13 @@ block_grows a pieces old sizes sizes' old_lows lows lows' old_highs highs highs'
       ];
       fit = λ y k lt. elim (cases_lt k n) [
         | inl before ↦ now.fit (both y).0 k before
-        | inr new ↦ ap (holds_at a k (nth_piece pieces k)) (sym (now.rest k new)) ∙ part.fit (both y).1 k new lt
+        | inr new ↦ ap (form_reaches_at a k (nth_piece pieces k)) (sym (now.rest k new)) ∙ part.fit (both y).1 k new lt
       ];
       unfit = λ y. elim (either y) [
         | inl earlier ↦ now.unfit earlier
         | inr here ↦
             let found = part.unfit here in
-            (found.0, omega (arith, found.2, within), ap (holds_at a found.0 (nth_piece pieces found.0)) (sym (now.rest found.0 found.1)) ∙ found.3)
+            (found.0, omega (arith, found.2, within), ap (form_reaches_at a found.0 (nth_piece pieces found.0)) (sym (now.rest found.0 found.1)) ∙ found.3)
       ];
       tested = λ k lt. elim (cases_lt k n) [
         | inl before ↦
@@ -216,7 +216,7 @@ block_grows a pieces old sizes sizes' old_lows lows lows' old_highs highs highs'
         | inr new ↦
             let at : block ≡ k / block_size = omega (arith, start, new, lt, le) in
             let at' : k / block_size ≡ block = sym at in (
-              λ kept. ap (holds_at a k (nth_piece pieces k)) (sym (now.rest k new)) ∙ part.fit (kept_here (subst (IsUnchanged grown') at' kept)) k new lt,
+              λ kept. ap (form_reaches_at a k (nth_piece pieces k)) (sym (now.rest k new)) ∙ part.fit (kept_here (subst (IsUnchanged grown') at' kept)) k new lt,
               near_spanned (nth_piece pieces k) (slice_index sizes' k) (k / block_size) low high _ _ (ap (slice_index lows') at' ∙ low_here) (ap (slice_index highs') at' ∙ high_here) (omega (arith, part.low_most, start, at)) (omega (arith, part.high_least, start, at)) (part.spanned k new lt),
             )
       ];
@@ -226,18 +226,18 @@ block_grows a pieces old sizes sizes' old_lows lows lows' old_highs highs highs'
 
 -- where the pieces of a block were kept, they still have their sizes, and fit
 pub kept_fits : (a : List ℕ) (pieces : List Piece) (old sizes : List ℕ) (k : ℕ) → slice_index sizes k ≡ grown_size a k (nth_piece pieces k) (slice_index old k)
-    → holds_at a k (nth_piece pieces k) (slice_index old k) ≡ true → slice_index sizes k ≡ slice_index old k
+    → form_reaches_at a k (nth_piece pieces k) (slice_index old k) ≡ true → slice_index sizes k ≡ slice_index old k
 kept_fits a pieces old sizes k is held = is ∙ cond-true _ _ _ held
 
--- so all were tested
+-- all pieces were tested
 pub all_tested : (a : List ℕ) (pieces : List Piece) (old sizes old_lows lows old_highs highs : List ℕ) (grown : List Bool) (block n : ℕ) (fitted : Bool) → n ≡ length pieces
     → AreGrown a pieces old sizes old_lows lows old_highs highs grown block n fitted → AreTested a pieces sizes grown lows highs
 all_tested a pieces old sizes old_lows lows old_highs highs grown block n fitted all now k lt =
     let here = now.tested k (omega (arith, all, lt)) in
     let is = now.done k (omega (arith, all, lt)) in
-    (λ kept. ap (holds_at a k (nth_piece pieces k)) (kept_fits a pieces old sizes k is (here.0 kept)) ∙ here.0 kept, here.1)
+    (λ kept. ap (form_reaches_at a k (nth_piece pieces k)) (kept_fits a pieces old sizes k is (here.0 kept)) ∙ here.0 kept, here.1)
 
--- those of kept blocks are as before
+-- the sizes in blocks that didn't grow are as before
 pub kept_sizes : (a : List ℕ) (pieces : List Piece) (old sizes old_lows lows old_highs highs : List ℕ) (grown : List Bool) (block n : ℕ) (fitted : Bool) → n ≡ length pieces
     → AreGrown a pieces old sizes old_lows lows old_highs highs grown block n fitted → (k : ℕ) → k < length pieces → IsUnchanged grown (k / block_size) → slice_index sizes k ≡ slice_index old k
 kept_sizes a pieces old sizes old_lows lows old_highs highs grown block n fitted all now k lt kept =
@@ -249,7 +249,7 @@ pub grown_all : (a : List ℕ) (pieces : List Piece) (old sizes old_lows lows ol
 grown_all a pieces old sizes old_lows lows old_highs highs grown block n fitted all long now =
     grown_is a pieces old sizes long now.same (λ k lt. now.done k (omega (arith, all, lt)))
 
--- and so is whether all fitted
+-- the answer says whether all pieces fitted
 pub fitted_all : (a : List ℕ) (pieces : List Piece) (old sizes old_lows lows old_highs highs : List ℕ) (grown : List Bool) (block n : ℕ) (fitted : Bool) → n ≡ length pieces → length old ≡ length pieces
     → AreGrown a pieces old sizes old_lows lows old_highs highs grown block n fitted → fitted ≡ fit_from a 0 pieces old
 fitted_all a pieces old sizes old_lows lows old_highs highs grown block n fitted all long now = elim (cases_Bool fitted) [

@@ -59,7 +59,7 @@ module _ (pieces : List Piece) (sizes : List ℕ) (old w : Widths) (blocks : Blo
   pub order : here ≤ next
   order = omega (arith, here_at, next_at, ascending text pieces grown.old grown.placed.forms first end (omega (arith, in_blocks)) (omega arith))
 
-  -- one more block is laid
+  -- one block more is laid
   laid_block : (w' : Widths) → IsLaid text pieces sizes w w' block first end → IsMovedOn pieces sizes old w' (block + 1) (min (length pieces) ((block + 1) * block_size)) next
   laid_block w' laid =
       let e : end ≡ min (length pieces) ((block + 1) * block_size) = omega arith in
@@ -70,7 +70,7 @@ module _ (pieces : List Piece) (sizes : List ℕ) (old w : Widths) (blocks : Blo
       → IsMovedOn pieces sizes old w' (block + 1) (min (length pieces) ((block + 1) * block_size)) next
   anew w' laid = laid_block w' (subst (λ t. IsLaid t pieces sizes w w' block first end) first_same laid)
 
-  -- as a whole
+  -- one block more is moved as a whole
   module _ (multiple : ℕ) (kept : IsUnchanged blocks.grown.items block) (multiple_is : multiple ≡ slice_index blocks.multiples.items block) (some : 0 < multiple)
       (alike : here % multiple ≡ slice_index w.starts.items block % multiple) where
     same_sizes : (k : ℕ) → first ≤ k → k < end → slice_index sizes k ≡ slice_index grown.old k

@@ -7,9 +7,10 @@ use Rattle.zc_base.specs.declared.place.Place.{Place}
 use Rattle.elf32_read.specs.Parts.{SectionParts, is_code_section}
 use Rattle.psabi_sym.specs.Inputs.{ParsedInputs}
 use Rattle.psabi_sym.specs.Indexed.{IndexedSection, section_at}
-use Rattle.block_cut.specs.Items.{code_at, code_only, index_on, is_start_at, item_at, item_in, place_of, starts_on}
+use Rattle.block_cut.specs.Items.{code_at, index_on, is_start_at, item_at, item_in, place_of, starts_on}
 use Rattle.block_cut.specs.declared.item.Item.{Item}
 use Rattle.block_cut.proofs.ItemLaws.{item_at-code, item_found, item_there}
+use Rattle.block_cut.proofs.WholeLaws.{code_at_is}
 use Rattle.frame_match.specs.Groups.{role_at, role_on, roles_in}
 use Rattle.frame_match.specs.declared.group.Group.{Group}
 use Rattle.frame_match.specs.declared.role.Role.{Role}
@@ -17,7 +18,7 @@ use Rattle.frame_match.specs.declared.role.Role.TheVariants.{Alone, First, Insid
 use Rattle.shrink_layout.specs.Pieces.{group_size, piece_at, piece_of, unit_piece}
 use Rattle.shrink_layout.specs.Units.{CodeUnit, OneGroup, OneItem, OneSite, item_unit, role_unit, unit_by}
 use Rattle.shrink_layout.specs.declared.piece.Piece.{Piece}
-use Rattle.shrink_layout.specs.declared.piece.Piece.TheVariants.{Joined}
+use Rattle.shrink_layout.specs.declared.piece.Piece.TheVariants.{WithOthers}
 
 module _ (inputs : ParsedInputs) (slot : Place → Option ℕ) (q : Place) where
   -- ---- by the role of the item there
@@ -81,8 +82,8 @@ module _ (inputs : ParsedInputs) (slot : Place → Option ℕ) (q : Place) where
   -- ---- its piece
 
   -- P holds of a place's piece if it holds of no bytes, of the piece of an item there, of those of groups, and of that of a jump through the table
-  pub piece_case : (P : Piece → Type 0) → P (Joined 0) → ((i : Item) → item_at inputs q ≡ Some i → P (piece_of inputs.objects i))
-      → ((g : Group) → P (Joined (group_size g))) → P (Joined 2) → P (piece_at inputs slot q)
+  pub piece_case : (P : Piece → Type 0) → P (WithOthers 0) → ((i : Item) → item_at inputs q ≡ Some i → P (piece_of inputs.objects i))
+      → ((g : Group) → P (WithOthers (group_size g))) → P (WithOthers 2) → P (piece_at inputs slot q)
   piece_case P nothing item group site = by (unit_by inputs slot q) refl
     where
       by : (o : Option CodeUnit) → unit_by inputs slot q ≡ o → P (unit_piece inputs.objects o)
@@ -126,13 +127,13 @@ role_found inputs q r is = by (code_at inputs.objects q) refl is
     by (Some s) at h =
         tested s at (slice_get (roles_in inputs (record { object = q.object; index = q.section; section = s })) (index_on s q.offset)) (starts_on s q.offset) refl h
 
--- so something is written only where an item starts
+-- something is written only where an item starts
 pub unit_found : (inputs : ParsedInputs) (slot : Place → Option ℕ) (q : Place) (u : CodeUnit) → unit_by inputs slot q ≡ Some u → IsStartIn inputs q
 unit_found inputs slot q (OneItem i) is = role_found inputs q Alone (unit_item inputs slot q i is).0
 unit_found inputs slot q (OneGroup g) is = role_found inputs q (First g) (unit_group inputs slot q g is)
 unit_found inputs slot q (OneSite n) is = role_found inputs q Alone (unit_site inputs slot q n is).0
 
--- there is an item then
+-- where something is written there is an item
 pub found_item : (inputs : ParsedInputs) (q : Place) → IsStartIn inputs q → (i : Item) × (item_at inputs q ≡ Some i)
 found_item inputs q at = (item_in inputs at.section q, item_there inputs q at.section at.code at.start)
 
@@ -150,9 +151,9 @@ start_item inputs q start = by (code_at inputs.objects q) refl start
 -- ---- places of a section
 
 module _ (inputs : ParsedInputs) (l : IndexedSection) (here : section_at inputs.objects l.object l.index ≡ Some l.section) (code : is_code_section l.section ≡ true) where
-  -- they are in code
+  -- places of the section are in code
   pub there : (n : ℕ) → code_at inputs.objects (place_of l n) ≡ Some l.section
-  there n = ap (option_and_then code_only) here ∙ ap (λ b. cond b (Some l.section) None) code
+  there n = code_at_is inputs.objects (place_of l n) l.section here code
 
   -- an item starts where the section says
   pub held_start : (n : ℕ) → starts_on l.section n ≡ true → item_at inputs (place_of l n) ≡ Some (item_in inputs l.section (place_of l n))

@@ -11,7 +11,7 @@ use Rattle.shrink_layout.specs.Layout.{addresses_of, widths_of}
 use Rattle.shrink_layout.specs.Least.{AreForms}
 use Rattle.shrink_layout.proofs.FormLaws.{width_most}
 
--- there is one number for each piece
+-- there is one number of bytes for each piece
 pub widths_count : (at : ℕ) (pieces : List Piece) (sizes : List ℕ) → length sizes ≡ length pieces → length (widths_of at pieces sizes) ≡ length pieces
 widths_count at [] sizes same = refl
 widths_count at (p ∷ pieces) [] same = absurd (omega arith)

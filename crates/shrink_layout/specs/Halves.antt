@@ -13,7 +13,7 @@ use Rattle.block_cut.specs.declared.item.Item.TheVariants as item
 use Rattle.shrink_layout.specs.Pieces.{is_short}
 use Rattle.shrink_layout.specs.Units.{CodeUnit, OneGroup, OneItem, OneSite}
 
--- an instruction with a part of a target's address, if that is no address of code
+-- an instruction with a part of a target's address, if the target isn't in code
 abbrev pub fixed_part : Target → (ℕ → Instr) → Option Instr
 fixed_part (Code q) patched = None
 fixed_part (Number n) patched = Some (patched n)
@@ -27,8 +27,8 @@ fixed_instr (item.Hi i t) = fixed_part t (λ x. with_upper i (hi20_of x))
 fixed_instr (item.Lo i t) = fixed_part t (λ x. with_imm i (lo12_of x))
 fixed_instr other = None
 
--- the first halfword that does what the item's instruction does, if that is known before the layout; of other items
--- nothing is said
+-- the short form of an item's instruction, if that instruction is known before the layout and has one; of other items nothing is
+-- said
 abbrev pub IsHalfOf : Item → ℕ → Type 0
 IsHalfOf i half =
     (instr : Instr) → fixed_instr i ≡ Some instr → IsTrue (is_short instr)

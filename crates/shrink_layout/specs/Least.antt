@@ -1,7 +1,7 @@
 -- The least sizes.
 use Rattle.std.specs.Prelude.{◌≡◌, ℕ, ◌≤◌, List, [], ◌∷◌, slice_index}
 use Rattle.shrink_layout.specs.declared.piece.Piece.{Piece}
-use Rattle.shrink_layout.specs.declared.piece.Piece.TheVariants.{Fixed, Joined, Align, Branch, Jump}
+use Rattle.shrink_layout.specs.declared.piece.Piece.TheVariants.{Fixed, WithOthers, Align, Branch, Jump}
 use Rattle.shrink_layout.specs.Forms.{IsForm}
 use Rattle.shrink_layout.specs.Layout.{Fits}
 
@@ -21,7 +21,7 @@ pub record IsLeast (text : ℕ) (pieces : List Piece) (sizes : List ℕ) : Type 
 -- no piece is aligned above 2 bytes
 abbrev pub IsTight : Piece → Type 0
 IsTight (Fixed size) = Unit {0}
-IsTight (Joined size) = Unit {0}
+IsTight (WithOthers size) = Unit {0}
 IsTight (Align alignment) = alignment ≡ 2
 IsTight (Branch to short) = Unit {0}
 IsTight (Jump to) = Unit {0}

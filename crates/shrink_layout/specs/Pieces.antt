@@ -25,7 +25,7 @@ use Rattle.frame_match.specs.declared.group.Group.{Group}
 use Rattle.shrink_layout.specs.Layout.{sizes_of}
 use Rattle.shrink_layout.specs.Units.{CodeUnit, OneGroup, OneItem, OneSite, front_size, jump_of, no_slot, rest_instr, slot_for, unit_by}
 use Rattle.shrink_layout.specs.declared.piece.Piece.{Piece}
-use Rattle.shrink_layout.specs.declared.piece.Piece.TheVariants.{Fixed, Joined, Align, Branch, Jump}
+use Rattle.shrink_layout.specs.declared.piece.Piece.TheVariants.{Fixed, WithOthers, Align, Branch, Jump}
 
 -- ---- where places stand in the list
 
@@ -33,12 +33,12 @@ use Rattle.shrink_layout.specs.declared.piece.Piece.TheVariants.{Fixed, Joined, 
 abbrev pub piece_count : IndexedSection → ℕ
 piece_count l = if is_code_section l.section then 1 + length (starts_in l.section) else 0
 
--- how many pieces stand before an offset of a section, by its object's index and its own: what is in front of all
--- code, the sections before it, its padding, and the items before the offset
+-- the number of pieces before an offset of a section, which is given by its object's index and its own: the table with its stub,
+-- the sections before it, its padding, and the items before the offset
 abbrev pub pieces_before : List ObjectParts → ℕ → ℕ → SectionParts → ℕ → ℕ
 pieces_before objects o i s n = 1 + sum_by piece_count (sections_before objects o i) + 1 + index_on s n
 
--- how many stand before a place where an item starts or a section of code ends; 0 of any other
+-- the number of pieces before a place where an item starts or a section of code ends; 0 for any other place
 abbrev pub piece_number_at : List ObjectParts → Place → ℕ
 piece_number_at objects q =
     if is_target_at objects q
@@ -47,11 +47,11 @@ piece_number_at objects q =
 
 -- ---- forms
 
--- a halfword does what an instruction does
+-- an instruction has a short form
 abbrev pub is_short : Instr → Bool
 is_short i = is_some (encoded16 (Base i))
 
--- so it is with a branch on two registers, and with a `jal`, if it doesn't lead too far
+-- a branch on two registers, and a `jal`, has a short form if its target isn't too far
 abbrev pub is_short_branch : BranchOp → ℕ → ℕ → Bool
 is_short_branch op first second = is_short (instr.Branch op first second (pos 0))
 
@@ -62,7 +62,7 @@ is_short_jump rd = is_short (instr.Jal rd (pos 0))
 abbrev pub instr_size : Instr → ℕ
 instr_size i = if is_short i then 2 else 4
 
--- that of one with a part of an address: the addresses of code aren't known before it
+-- the size of an instruction with a part of an address; the addresses of code aren't known before the layout
 abbrev pub part_size : Target → (ℕ → Instr) → ℕ
 part_size (Code q) patched = 4
 part_size (Number n) patched = instr_size (patched n)
@@ -94,12 +94,12 @@ piece_of objects (item.RawPair first second) = Fixed 8
 abbrev pub group_size : Group → ℕ
 group_size g = if g.rest == 0 then 2 else 2 + instr_size (rest_instr g)
 
--- the piece of what is written at a place; where an item starts inside a group that is nothing
+-- the piece of what is written at a place; inside a group nothing is, and the piece takes no bytes
 abbrev pub unit_piece : List ObjectParts → Option CodeUnit → Piece
-unit_piece objects None = Joined 0
+unit_piece objects None = WithOthers 0
 unit_piece objects (Some (OneItem i)) = piece_of objects i
-unit_piece objects (Some (OneGroup g)) = Joined (group_size g)
-unit_piece objects (Some (OneSite slot)) = Joined 2
+unit_piece objects (Some (OneGroup g)) = WithOthers (group_size g)
+unit_piece objects (Some (OneSite slot)) = WithOthers 2
 
 -- the piece at a place, if jumps and calls have these slots
 abbrev pub piece_at : ParsedInputs → (Place → Option ℕ) → Place → Piece
@@ -119,11 +119,11 @@ section_pieces inputs slot l =
     then Align (section_alignment l.section) ∷ map (piece_at inputs slot) (places_of l)
     else []
 
--- those of sections one after another
+-- the pieces of sections, one after another
 abbrev pub pieces_in : ParsedInputs → (Place → Option ℕ) → List IndexedSection → List Piece
 pieces_in inputs slot sections = flat_map (section_pieces inputs slot) sections
 
--- those of all code, by object, section and offset, behind so many bytes in front
+-- the pieces of all code, by object, section and offset, after `front` bytes for the table and its stub
 unfoldable pub pieces_by : ParsedInputs → ℕ → (Place → Option ℕ) → List Piece
 pieces_by inputs front slot = Fixed front ∷ pieces_in inputs slot (all_sections inputs.objects)
 
@@ -133,11 +133,11 @@ pieces_by inputs front slot = Fixed front ∷ pieces_in inputs slot (all_section
 unfoldable pub first_sizes : ParsedInputs → List ℕ
 first_sizes inputs = sizes_of inputs.map.text (pieces_by inputs 0 no_slot)
 
--- a jump or call that the table could serve: it takes so many bytes without one, and links no register or ra
+-- a jump or call that the table could serve: it takes four bytes without one, and links no register or ra
 abbrev pub site_only : ℕ → ℕ × Place → Option (ℕ × Place)
 site_only size jump = if size == 4 && nat_lt jump.0 2 then Some jump else None
 
--- the one at a place
+-- the jump or call at a place that a table could serve
 unfoldable pub site_at : ParsedInputs → Place → Option (ℕ × Place)
 site_at inputs q =
     option_and_then (site_only (slice_index (first_sizes inputs) (piece_number_at inputs.objects q)))
@@ -154,13 +154,13 @@ slot_at inputs (slot ∷ slots) q = option_and_then (slot_for (slot ∷ slots)) 
 abbrev pub unit_at : ParsedInputs → List (Option Place) → Place → Option CodeUnit
 unit_at inputs slots q = unit_by inputs (slot_at inputs slots) q
 
--- all pieces with it: in front stand the table and its stub
+-- all pieces with a table of these slots: first the table and its stub
 unfoldable pub pieces_of : ParsedInputs → List (Option Place) → List Piece
 pieces_of inputs slots = pieces_by inputs (front_size slots) (slot_at inputs slots)
 
 -- ---- alignments
 
--- padding that an item asks for
+-- an item is padding
 abbrev pub is_align : Item → Bool
 is_align (item.Op i) = false
 is_align (item.Hi i t) = false
@@ -176,7 +176,7 @@ is_align (item.Raw word) = false
 is_align (item.RawShort half) = false
 is_align (item.RawPair first second) = false
 
--- code that is aligned above 4 bytes
+-- a section is code that is aligned above 4 bytes
 abbrev pub is_aligned_code : IndexedSection → Bool
 is_aligned_code l = is_code_section l.section && nat_lt 4 l.section.align
 

@@ -13,23 +13,23 @@ use Rattle.shrink_layout.specs.Pieces.{site_at}
 unfoldable pub sites_of : ParsedInputs → List (ℕ × Place)
 sites_of inputs = flat_map (λ q. option_to_list (site_at inputs q)) (all_places inputs.objects)
 
--- how many of them link a register and lead to a place
+-- the number of these jumps and calls that link a register and lead to a place
 abbrev pub sites_to : List (ℕ × Place) → ℕ → Place → ℕ
 sites_to sites rd q = length (filter (λ s. s.0 == rd && same_place s.1 q) sites)
 
--- the jumps and the calls that lead to a place
+-- the jumps and the calls that lead to a place, counted
 abbrev pub saving_of : List (ℕ × Place) → Place → Saving
 saving_of sites q = record { target = q; jump_sites = sites_to sites 0 q; call_sites = sites_to sites 1 q }
 
--- one leads to its target
+-- some jump or call leads to the target
 abbrev pub has_sites : Saving → Bool
 has_sites s = not (s.jump_sites + s.call_sites == 0)
 
--- of each place that one leads to, by object, section and offset
+-- the savings of each place that some jump or call leads to, by object, section and offset
 unfoldable pub savings_of : ParsedInputs → List Saving
 savings_of inputs = filter has_sites (map (saving_of (sites_of inputs)) (all_targets inputs.objects))
 
--- no more than there is room for in code
+-- there are no more jumps and calls than there is room for in code
 pub record HasFewSites (s : Saving) : Type 0 where
   pub jumps : s.jump_sites ≤ 0x1_0000
   pub calls : s.call_sites ≤ 0x1_0000

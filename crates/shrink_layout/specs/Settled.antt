@@ -22,8 +22,8 @@ pub record SettledLayout : Type 0 where
 unfoldable pub settled_sizes : ParsedInputs → List (Option Place) → List ℕ
 settled_sizes inputs slots = sizes_of inputs.map.text (pieces_of inputs slots)
 
--- the bytes that each piece takes: first what stands in front, the table with its stub, then for each section of code its
--- padding and what is written for its items; a group's first item has the bytes of all of it, and its others have none
+-- the bytes that each piece takes: first the table with its stub, then for each section of code its padding and what is written
+-- for its items; a group's first item has the bytes of all of it, and its others have none
 unfoldable pub settled_widths : ParsedInputs → List (Option Place) → List ℕ
 settled_widths inputs slots = widths_of inputs.map.text (pieces_of inputs slots) (settled_sizes inputs slots)
 
@@ -33,14 +33,14 @@ settled_widths inputs slots = widths_of inputs.map.text (pieces_of inputs slots)
 unfoldable pub settled_addresses : ParsedInputs → List (Option Place) → List ℕ
 settled_addresses inputs slots = addresses_of inputs.map.text (pieces_of inputs slots) (settled_sizes inputs slots)
 
--- the address of a place that images list; none of another
+-- the address of a place that images list; other places have none
 unfoldable pub settled_address : ParsedInputs → List (Option Place) → Place → Option ℕ
 settled_address inputs slots q =
     if is_listed_at inputs q
     then Some (slice_index (settled_addresses inputs slots) (piece_number_at inputs.objects q))
     else None
 
--- the bytes of what is written at a place
+-- the number of bytes that are written at a place
 abbrev pub settled_size : ParsedInputs → List (Option Place) → Place → Option ℕ
 settled_size inputs slots q =
     option_map (λ u. slice_index (settled_addresses inputs slots) (piece_number_at inputs.objects q + 1)
@@ -52,14 +52,14 @@ settled_end inputs slots = slice_index (settled_addresses inputs slots) (length 
 
 -- ---- counts
 
--- an item by itself that takes so many bytes; padding never counts
+-- an item by itself that takes n bytes; padding never counts
 abbrev pub is_sized : ℕ → ℕ → CodeUnit → Bool
 is_sized n size (OneItem (item.Align bytes)) = false
 is_sized n size (OneItem i) = size == n
 is_sized n size (OneGroup g) = false
 is_sized n size (OneSite slot) = false
 
--- a branch that takes 8
+-- a branch that takes 8 bytes
 abbrev pub is_long : ℕ → CodeUnit → Bool
 is_long size (OneItem (item.Branch op first second to)) = size == 8
 is_long size _ = false
@@ -70,7 +70,7 @@ is_site size (OneItem i) = false
 is_site size (OneGroup g) = false
 is_site size (OneSite slot) = true
 
--- how many places have a unit that meets a test, by its bytes
+-- the number of places whose unit, with its size, meets a test
 abbrev pub units_with : ParsedInputs → List (Option Place) → (ℕ → CodeUnit → Bool) → ℕ
 units_with inputs slots test =
     length (filter
@@ -78,25 +78,25 @@ units_with inputs slots test =
     (unit_at inputs slots q) false)
     (all_places inputs.objects))
 
--- one of the three pops
+-- a pop of one of the three kinds
 abbrev pub is_pop : Short → Bool
 is_pop (Pop list adjust) = true
 is_pop (PopRet list adjust) = true
 is_pop (PopRetz list adjust) = true
 is_pop _ = false
 
--- one of the two moves
+-- moves of one of the two kinds
 abbrev pub is_move : Short → Bool
 is_move (MoveSa first second) = true
 is_move (MoveAs first second) = true
 is_move _ = false
 
--- how many groups are of a kind
+-- the number of groups whose kind meets a test
 abbrev pub groups_with : ParsedInputs → (Short → Bool) → ℕ
 groups_with inputs test = length (filter (λ g. test g.kind) (groups_of inputs))
 
--- the text's bytes, all items, those by themselves that take 2 bytes, the branches that take 8, the groups, and the jumps
--- and calls through the table
+-- the counts of the layout: the text's bytes, all items, those by themselves that take 2 bytes, the branches that take 8, the
+-- groups, and the jumps and calls through the table
 abbrev pub settled_counts : ParsedInputs → List (Option Place) → Counts
 settled_counts inputs slots = record {
   text = settled_end inputs slots - inputs.map.text;

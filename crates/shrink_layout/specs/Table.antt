@@ -1,4 +1,4 @@
--- What is promised of the layout behind a table, and what the table is worth.
+-- What is promised of the layout after a table, and what the table is worth.
 use Rattle.std.specs.Prelude.{◌+◌, ◌*◌, ◌≤◌, IsTrue, List, [], Option}
 use Rattle.zc_base.specs.declared.place.Place.{Place}
 use Rattle.psabi_sym.specs.Inputs.{ParsedInputs}
@@ -8,14 +8,14 @@ use Rattle.shrink_layout.specs.Pieces.{is_unaligned, pieces_of}
 use Rattle.shrink_layout.specs.Settled.{is_site, settled_end, settled_sizes, units_with}
 use Rattle.shrink_layout.specs.Units.{front_size}
 
--- the text with the table is no longer than that without it, but for the table and its stub, and less 2 bytes for each
+-- the text with the table is no longer than the text without it, apart from the table and its stub, and less 2 bytes for each
 -- jump or call through the table
 abbrev pub TablePays : ParsedInputs → List (Option Place) → Type 0
 TablePays inputs slots =
     settled_end inputs slots + 2 * units_with inputs slots is_site ≤ settled_end inputs [] + front_size slots
 
--- behind a table of these slots, sizes are those of the first round that fits; if there is no ALIGN, and no code aligned
--- above 4 bytes, they are the least that fit, and the table pays
+-- after a table of these slots, the sizes are those of the first round that fits; if there is no ALIGN, and no code aligned above
+-- 4 bytes, they are the least that fit, and the table pays
 pub record IsLaidBehind (inputs : ParsedInputs) (slots : List (Option Place)) : Type 0 where
   pub layout : IsLayout inputs.map.text (pieces_of inputs slots) (settled_sizes inputs slots)
   pub least : IsTrue (is_unaligned inputs)

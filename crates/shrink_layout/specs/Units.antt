@@ -27,31 +27,31 @@ pub data CodeUnit : Type 0 where
   OneGroup : (group : Group) → CodeUnit
   OneSite : (slot : ℕ) → CodeUnit
 
--- how many items it is
+-- the number of items that a unit stands for
 abbrev pub unit_items : CodeUnit → ℕ
 unit_items (OneItem i) = 1
 unit_items (OneGroup g) = g.items
 unit_items (OneSite slot) = 1
 
--- what is written for an item by itself, by the slot that it has
+-- what is written for an item by itself: a jump or call through its slot, if it has one
 abbrev pub item_unit : Option ℕ → Item → CodeUnit
 item_unit None i = OneItem i
 item_unit (Some slot) i = OneSite slot
 
--- what is written for an item, by the slot that it has and by what it is to groups
+-- what is written for an item, by its slot and by its role in groups
 abbrev pub role_unit : Option ℕ → Option Item → Role → Option CodeUnit
 role_unit slot i Alone = option_map (item_unit slot) i
 role_unit slot i (First g) = Some (OneGroup g)
 role_unit slot i Inside = None
 
--- an item inside a group
+-- a role is that of an item inside a group
 abbrev pub is_within : Option Role → Bool
 is_within None = false
 is_within (Some Alone) = false
 is_within (Some (First g)) = false
 is_within (Some Inside) = true
 
--- an item starts at a place, but inside a group
+-- an item starts at a place inside a group
 abbrev pub is_inside : ParsedInputs → Place → Bool
 is_inside inputs q = is_within (role_at inputs q)
 
@@ -81,23 +81,23 @@ abbrev pub is_slot_of : Place → Option Place → Bool
 is_slot_of q None = false
 is_slot_of q (Some p) = same_place p q
 
--- the first slot of a place, from one with this number on
+-- the first slot that leads to a place; the first of these slots has number n
 abbrev pub slot_from : ℕ → Place → List (Option Place) → Option ℕ
 slot_from n q [] = None
 slot_from n q (slot ∷ slots) = if is_slot_of q slot then Some n else slot_from (n + 1) q slots
 
--- that of a jump, which links no register, is below 32; that of a call is 32 or more (RISC-V Zc specification 1.0,
--- "cm.jt" and "cm.jalt")
+-- the slot of a jump or call: that of a jump, which links no register, is below 32; that of a call is 32 or more (RISC-V Zc
+-- specification 1.0, "cm.jt" and "cm.jalt")
 abbrev pub slot_for : List (Option Place) → ℕ × Place → Option ℕ
 slot_for slots jump =
     if jump.0 == 0 then slot_from 0 jump.1 (take 32 slots) else slot_from 32 jump.1 (drop 32 slots)
 
--- a hole, or a place that code may lead to
+-- a slot is a hole, or leads to a place that code may lead to
 abbrev pub IsTargetSlot : List ObjectParts → Option Place → Type 0
 IsTargetSlot objects None = ⊤
 IsTargetSlot objects (Some q) = is_target_at objects q ≡ true
 
--- a table of at most 256 slots, each of which is one of these
+-- a table has at most 256 slots, each of which is a hole or leads to a place that code may lead to
 pub record AreTargetSlots (objects : List ObjectParts) (slots : List (Option Place)) : Type 0 where
   pub few : length slots ≤ 256
   pub each : All (IsTargetSlot objects) slots
@@ -108,13 +108,14 @@ abbrev pub is_push : Short → Bool
 is_push (Push list adjust) = true
 is_push _ = false
 
--- what moves sp by what a group's halfword doesn't: `addi sp,sp,-rest` behind a push, `addi sp,sp,rest` before a pop
+-- the instruction that moves sp by what a group's halfword doesn't: `addi sp,sp,-rest` after a push, `addi sp,sp,rest` before a
+-- pop
 abbrev pub rest_instr : Group → Instr
 rest_instr g = WithImm Addi 2 2 (if is_push g.kind then negsuc (g.rest - 1) else pos g.rest)
 
 -- ---- in front of all code
 
--- the bytes of the table of these slots and of the stub behind it; without slots there is neither
+-- the number of bytes of the table of these slots and of the stub after it; without slots there is neither
 abbrev pub front_size : List (Option Place) → ℕ
 front_size [] = 0
 front_size (slot ∷ slots) = 4 * length (slot ∷ slots) + 12

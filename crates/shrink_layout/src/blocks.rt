@@ -9,7 +9,7 @@ ghost use Rattle.shrink_layout.specs.declared.piece.Piece.TheVariants.{Align};
 use crate::piece::Piece;
 use std::alloc::{AllocError, Global};
 
-/// How many pieces a block has; the last one may have fewer.
+/// The number of pieces in a block; the last block may have fewer.
 pub const BLOCK: usize = 64;
 
 /// The pieces from one number up to another.
@@ -37,18 +37,20 @@ impl PieceSpan {
 /// What is kept of each block from round to round, by its number.
 #[derive(Drop)]
 pub struct Blocks {
-    /// By a multiple of this number a block can be moved with the same paddings; 0 if none was found.
+    /// A multiple of this number is a distance by which the block can be moved with the same paddings; 0 if none was
+    /// found.
     pub multiples: Vec<u32>,
     /// Whether a piece of the block grew in the last round.
     pub grown: Vec<bool>,
-    /// The first of the blocks on which it depends whether its pieces fit: it, those with the targets of pieces that
-    /// can still grow, and those between.
+    /// The first of the blocks on which it depends whether this one's pieces fit: it, those with the targets of pieces
+    /// that can still grow, and those between.
     pub lows: Vec<usize>,
-    /// The last of these.
+    /// The last of the blocks on which it depends whether this one's pieces fit.
     pub highs: Vec<usize>,
 }
 
-/// A multiple of this number and of an alignment; 0 if neither is one of the other.
+/// A multiple of this number and of an alignment: the larger of the two, if it is a multiple of the other one, or else
+/// 0.
 pub fn multiple_with(multiple: u32, alignment: u32) -> u32
     requires alignment { 0 < alignment }
     ensures some { 0 < result → 0 < multiple }
@@ -65,8 +67,8 @@ pub fn multiple_with(multiple: u32, alignment: u32) -> u32
 }
 
 impl Blocks {
-    /// The blocks before the first round, by the multiples of each. The first block is named for each, in which pieces
-    /// changed, so that each block is tested.
+    /// The blocks before the first round, by the multiples of each. Pieces of the first block count as changed, and
+    /// every block depends on it, so each block is tested.
     pub fn new(alloc: Global, multiples: Vec<u32>) -> Result<Blocks, AllocError>
         ensures blocks { (pieces : List Piece) → length multiples.items ≡ block_count pieces
             → AreMultiples pieces multiples.items → IfOk result (AreBlocks pieces) }

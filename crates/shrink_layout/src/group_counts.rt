@@ -1,4 +1,4 @@
-// How many groups there are of each kind.
+// The number of groups of each kind.
 
 ghost use Rattle.std.specs.Prelude.{◌≡◌, ◌≤◌, if◌then◌else◌};
 ghost use Rattle.psabi_sym.specs.Inputs.{parsed};
@@ -8,7 +8,7 @@ ghost use Rattle.shrink_layout.specs.Units.{is_push};
 use frame_match::planned::Planned;
 use zc_decode::short::Short;
 
-/// How many pushes, pops and moves there are.
+/// The number of pushes, pops and moves.
 #[derive(Clone, Copy)]
 pub struct GroupCounts {
     pub pushes: u32,
@@ -16,7 +16,7 @@ pub struct GroupCounts {
     pub moves: u32,
 }
 
-// What one group counts.
+// The counts of one group.
 fn counts_of(kind: Short) -> GroupCounts
     ensures pushes { result.pushes ≡ (if is_push kind then 1 else 0) }
     ensures pops { result.pops ≡ (if is_pop kind then 1 else 0) }
@@ -40,7 +40,7 @@ fn counts_of(kind: Short) -> GroupCounts
     }
 }
 
-/// How many groups of each kind were found.
+/// The number of groups of each kind that were found.
 pub fn count_groups(planned: &Planned) -> GroupCounts
     ensures pushes { result.pushes ≡ groups_with (parsed planned.now) is_push }
     ensures pops { result.pops ≡ groups_with (parsed planned.now) is_pop }

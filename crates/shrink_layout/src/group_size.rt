@@ -10,7 +10,7 @@ use zc_base::reg::Reg;
 use zc_decode::short::Short;
 use zca_zcb_pass::short::short_of;
 
-/// Whether a group is a push, whose second instruction stands behind its halfword.
+/// Whether a group is a push, whose second instruction comes after its halfword.
 pub fn is_push(kind: Short) -> bool
     ensures { result ≡ units.is_push kind }
 {
@@ -33,7 +33,7 @@ pub fn rest_instr(group: Group) -> Instr
     }
 }
 
-/// How many bytes a group takes.
+/// The number of bytes of a group.
 pub fn group_size(group: Group) -> u16
     ensures { result ≡ pieces.group_size group }
 {

@@ -16,14 +16,14 @@ use rv_decode::instr::Instr;
 use zca_zcb_pass::patched::{with_imm, with_upper};
 use zca_zcb_pass::short::short_of;
 
-/// The piece of an item, and the halfword that does what the item does if that is known before the layout, else 0.
+/// The piece of an item, and the short form of its instruction if that is known before the layout, or else 0.
 #[derive(Clone, Copy)]
 pub struct ItemPiece {
     pub piece: Piece,
     pub half: u16,
 }
 
-/// A piece of which no halfword is known.
+/// A piece of an item whose halfword isn't known before the layout.
 pub fn without_half(piece: Piece) -> ItemPiece
     ensures piece { result ≡ record { piece = piece; half = 0 } }
     ensures half { is_table_half result.half ≡ false }
@@ -54,7 +54,7 @@ pub fn instr_piece(i: Instr) -> ItemPiece
     }
 }
 
-/// The piece of an instruction with the upper part of a target: addresses of code aren't known yet.
+/// The piece of an instruction with the upper part of a target; the addresses of code aren't known yet.
 pub fn upper_piece(i: Instr, t: Target) -> ItemPiece
     ensures piece { result.piece ≡ Fixed (part_size t (λ x. with_upper i (hi20_of x))) }
     ensures half { IsHalfAt (Some (OneItem (item.Hi i t))) result.half }
@@ -65,7 +65,7 @@ pub fn upper_piece(i: Instr, t: Target) -> ItemPiece
     }
 }
 
-/// That of one with the lower part.
+/// The piece of an instruction with the lower part of a target.
 pub fn lower_piece(i: Instr, t: Target) -> ItemPiece
     ensures piece { result.piece ≡ Fixed (part_size t (λ x. with_imm i (lo12_of x))) }
     ensures half { IsHalfAt (Some (OneItem (item.Lo i t))) result.half }

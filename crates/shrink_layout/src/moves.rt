@@ -11,7 +11,7 @@ use crate::piece::Piece;
 use crate::sums::Sums;
 use crate::widths::Widths;
 
-// Writes that none of a block's pieces changed, of which the first has this number.
+// Records that no piece of a block changed; the block's first piece has this number.
 fn clear(within: &mut [u8], first: usize)
     requires first { first < length within.old }
     requires ascend { IsAscending within.old first }
@@ -25,7 +25,7 @@ fn clear(within: &mut [u8], first: usize)
     }
 }
 
-// Changes the bytes that a piece takes, and says whether it took others before.
+// Changes the bytes that a piece takes, and returns whether it took a different number before.
 fn change(sums: &mut Sums, k: usize, width: u32) -> bool
     requires within { k < length sums.old }
     requires room { sum (slice_set sums.old k width) < 2 ^ 32 }
@@ -64,7 +64,7 @@ fn lay_anew(pieces: &[Piece], sizes: &[u16], widths: &mut Widths, block: usize)
     widths.changes[block + 1] = widths.changes[block] + usize::from(changed);
 }
 
-// Moves a block as a whole: its pieces take as many bytes as before, this many in all.
+// Moves a block as a whole: its pieces take as many bytes as before, `taken` in all.
 fn move_block(widths: &mut Widths, block: usize, taken: u32)
     requires within { (block + 1 < length widths.old.starts.items) × (block + 1 < length widths.old.changes.items) }
     requires first { block * block_size < length widths.old.within.items }

@@ -1,4 +1,4 @@
-// The numbers of places: how many pieces stand before them.
+// The numbers of places: how many pieces come before them.
 
 ghost use Rattle.std.specs.Prelude.{◌≡◌, ◌<◌, ◌+◌, ◌^◌, None, IfOk, length, slice_index};
 ghost use Rattle.psabi_sym.specs.Faults.{gather_fault};
@@ -35,7 +35,7 @@ pub fn piece_number(starts: &[u32], number: PlaceNumber) -> u32
     starts[number.section as usize] + number.index
 }
 
-/// The number of a place where an item starts or a section of code ends; 0 of any other.
+/// The number of a place where an item starts or a section of code ends; 0 for any other place.
 pub fn piece_number_at(cut: &Cut, starts: &[u32], p: Place) -> u32
     requires faultless { gather_fault cut.now ≡ None }
     requires starts { AreFirstNumbers (parsed cut.now).objects starts.now }

@@ -1,16 +1,16 @@
 // What the layout knows of an item.
 
 ghost use Rattle.std.specs.Prelude.{◌≡◌, ◌<◌, ◌≤◌, ◌+◌};
-ghost use Rattle.shrink_layout.specs.Forms.{HasAlignment, IsForm, holds, longer, longest, near_limit, shortest, target, width};
+ghost use Rattle.shrink_layout.specs.Forms.{HasAlignment, IsForm, form_reaches, longer, longest, near_limit, shortest, target, width};
 
 use psabi_reloc::reaches::{branch_reaches, short_branch_reaches, short_jump_reaches};
 
-/// What the layout knows of an item, of the padding before a section, or of what stands in front of all code.
+/// What the layout knows of an item, of the padding before a section, or of the table with its stub before all code.
 ///
 /// | Piece | Stands for |
 /// |---|---|
 /// | `Fixed` | an item that has one size wherever it lies, as most have; or what stands in front |
-/// | `Joined` | an item of a group: the first has the bytes of all, the others none; a jump or call through the table |
+/// | `WithOthers` | a group's first item (the bytes of all) or another one (none); a jump or call through the table |
 /// | `Align` | padding up to a multiple of the alignment |
 /// | `Branch` | a branch; `short` says whether it has a form of two bytes |
 /// | `Jump` | a jump or a call that has a form of two bytes |
@@ -19,7 +19,7 @@ use psabi_reloc::reaches::{branch_reaches, short_branch_reaches, short_jump_reac
 #[derive(Clone, Copy)]
 pub enum Piece {
     Fixed { size: u16 },
-    Joined { size: u16 },
+    WithOthers { size: u16 },
     Align { alignment: u32 },
     Branch { to: u32, short: bool },
     Jump { to: u32 },
@@ -31,41 +31,41 @@ impl Piece {
         ensures { result ≡ shortest self }
     {
         match self {
-            Piece::Fixed { size } | Piece::Joined { size } => size,
+            Piece::Fixed { size } | Piece::WithOthers { size } => size,
             Piece::Align { .. } => 0,
             Piece::Branch { short: true, .. } | Piece::Jump { .. } => 2,
             Piece::Branch { short: false, .. } => 4,
         }
     }
 
-    /// The next longer form, if there is one, or else the same.
+    /// The next longer form, if there is one, or else this one.
     pub fn longer(self, size: u16) -> u16
         ensures { result ≡ longer self size }
     {
         match self {
-            Piece::Fixed { .. } | Piece::Joined { .. } | Piece::Align { .. } => size,
+            Piece::Fixed { .. } | Piece::WithOthers { .. } | Piece::Align { .. } => size,
             Piece::Branch { .. } => { if size == 2 { 4 } else { 8 } }
             Piece::Jump { .. } => 4,
         }
     }
 
-    /// How many pieces stand before the target; 0 if there is none.
+    /// The number of pieces before the target; 0 if there is no target.
     pub fn target(self) -> u32
         ensures { result ≡ target self }
     {
         match self {
-            Piece::Fixed { .. } | Piece::Joined { .. } | Piece::Align { .. } => 0,
+            Piece::Fixed { .. } | Piece::WithOthers { .. } | Piece::Align { .. } => 0,
             Piece::Branch { to, .. } | Piece::Jump { to } => to,
         }
     }
 
-    /// Whether this form reaches from one address to another, which is less than 2 GiB away.
-    pub fn holds(self, size: u16, from: u32, to: u32) -> bool
-        ensures { from < to + near_limit → to < from + near_limit → result ≡ holds self size from to }
+    /// Whether an address is in range of this form at another address, which is less than 2 GiB away.
+    pub fn reaches(self, size: u16, from: u32, to: u32) -> bool
+        ensures { from < to + near_limit → to < from + near_limit → result ≡ form_reaches self size from to }
     {
         let distance = to.wrapping_sub(from).cast_signed();
         match self {
-            Piece::Fixed { .. } | Piece::Joined { .. } | Piece::Align { .. } => true,
+            Piece::Fixed { .. } | Piece::WithOthers { .. } | Piece::Align { .. } => true,
             Piece::Branch { .. } if size == 2 => short_branch_reaches(distance),
             Piece::Branch { .. } if size == 4 => branch_reaches(distance),
             Piece::Branch { .. } => true,
@@ -83,7 +83,7 @@ impl Piece {
         match self {
             Piece::Align { alignment } => (alignment - at % alignment) % alignment,
             Piece::Fixed { .. }
-            | Piece::Joined { .. }
+            | Piece::WithOthers { .. }
             | Piece::Branch { .. }
             | Piece::Jump { .. } => u32::from(size),
         }

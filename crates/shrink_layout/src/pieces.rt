@@ -14,14 +14,15 @@ use crate::instr_piece::{ItemPiece, without_half};
 use crate::piece::Piece;
 use crate::place_piece::{ItemPlace, place_piece};
 use crate::slots::Numbered;
-use block_cut::code_place::CodePlace;
+use block_cut::code_place::{CodePlace, item_places};
 use block_cut::cut::Cut;
 use block_cut::place_number::PlaceNumber;
 use psabi_sym::section_ref::SectionRef;
 use std::alloc::{AllocError, Global};
 use zc_base::place::Place;
 
-/// The pieces of all code, each with the halfword of its item if that is known before the layout, else 0.
+/// The pieces of all code, each with the short form of its item's instruction if that is known before the layout, or
+/// else 0.
 #[derive(Drop)]
 pub struct Pieces {
     pub pieces: Vec<Piece>,
@@ -40,7 +41,7 @@ impl Pieces {
     }
 }
 
-/// Places of a section, which has this number among all.
+/// Places of a section, with its number among all.
 #[derive(Drop)]
 pub struct SectionPlaces<'a> {
     pub number: u32,
@@ -64,18 +65,19 @@ impl<'a> SectionPlaces<'a> {
         Some(SectionPlaces {
             number,
             section: cut.objects().section(number),
-            places: starts_of(places),
+            places: item_places(places),
         })
     }
 
-    /// One of them.
+    /// The place with an index in this list.
     pub fn item_place(&self, i: usize) -> ItemPlace<'a>
         requires within { i < length self.now.places.now }
         requires few { length self.now.places.now < 2 ^ 32 }
         ensures at { (p : CodePlace) → slice_get self.now.places.now i ≡ Some p
             → result.at ≡ place_of self.now.section p.offset }
         ensures number { result.number ≡ record { section = self.now.number; index = i } }
-        ensures held { (inputs : ParsedInputs) → AreItemPlaces inputs self.now.number self.now.section self.now.places.now
+        ensures held { (inputs : ParsedInputs)
+            → AreItemPlaces inputs self.now.number self.now.section self.now.places.now
             → IsItemPlace inputs result.at result.number result.item.now }
     {
         let place = &self.places[i];
@@ -102,17 +104,11 @@ fn padding(align: u32) -> u32
     if align <= 4 { 2 } else { align }
 }
 
-/// The places of a section where items start: all but the last, where the section ends.
-pub fn starts_of(places: &[CodePlace]) -> &[CodePlace]
-    ensures { result.now ≡ take (length places.now - 1) places.now }
-{
-    &places[..places.len().saturating_sub(1)]
-}
-
-// Adds the pieces of places of a section.
+// Adds the pieces of these places of a section.
 fn add_places(of: &Numbered, section: &SectionPlaces, made: &mut Pieces) -> Result<(), AllocError>
     requires numbered { AreNumbered of.now }
-    requires held { AreItemPlaces (parsed of.now.planned.now) section.now.number section.now.section section.now.places.now }
+    requires held { AreItemPlaces (parsed of.now.planned.now) section.now.number section.now.section
+        section.now.places.now }
     requires few { length section.now.places.now < 2 ^ 32 }
     ensures pieces { IfOk result (λ _. made.new.pieces.items ≡ made.old.pieces.items
         ++ map (first_piece (parsed of.now.planned.now)) (places_held section.now.section section.now.places.now)) }
@@ -142,8 +138,7 @@ fn add_section(of: &Numbered, section: u32, made: &mut Pieces) -> Result<(), All
     add_places(of, &starts, made)
 }
 
-// How many pieces objects that are cut have at most: what stands in front of all code, the padding before each section,
-// and the items.
+// The most pieces that objects can have: the table with its stub, the padding before each section, and the items.
 fn most_pieces(cut: &Cut) -> usize
     ensures { result < 2 ^ 34 }
 {

@@ -8,7 +8,7 @@ ghost use Rattle.block_cut.specs.Items.{item_at};
 ghost use Rattle.shrink_layout.specs.Invariants.Made.{IsItemPlace};
 ghost use Rattle.shrink_layout.specs.Invariants.Numbers.{IsHalfAt, is_table_half};
 ghost use Rattle.shrink_layout.specs.Invariants.Slots.{AreNumbered, first_piece, first_unit};
-ghost use Rattle.shrink_layout.specs.declared.piece.Piece.TheVariants.{Joined};
+ghost use Rattle.shrink_layout.specs.declared.piece.Piece.TheVariants.{WithOthers};
 
 use crate::group_size::group_size;
 use crate::instr_piece::{ItemPiece, without_half};
@@ -23,10 +23,10 @@ use zc_base::place::Place;
 
 // The piece of items that are written together.
 fn joined(size: u16) -> ItemPiece
-    ensures piece { result ≡ record { piece = Joined size; half = 0 } }
+    ensures piece { result ≡ record { piece = WithOthers size; half = 0 } }
     ensures half { is_table_half result.half ≡ false }
 {
-    without_half(Piece::Joined { size })
+    without_half(Piece::WithOthers { size })
 }
 
 /// A place where an item starts, where that stands among all, and the item.
@@ -37,7 +37,7 @@ pub struct ItemPlace<'a> {
     pub item: &'a Option<Item>,
 }
 
-// What the item is to groups.
+// The item's role in groups.
 fn role_of(planned: &Planned, place: &ItemPlace) -> Role
     requires { IsItemPlace (parsed planned.now) place.now.at place.now.number place.now.item.now }
     ensures { role_at (parsed planned.now) place.now.at ≡ Some result }
@@ -60,8 +60,8 @@ fn alone(of: &Numbered, place: &ItemPlace) -> ItemPiece
     }
 }
 
-/// The piece of what is written where an item starts without a table, with its halfword if that is known before the
-/// layout.
+/// The piece of what is written, without a table, at a place where an item starts, with its short form if that is known
+/// before the layout.
 pub fn place_piece(of: &Numbered, place: &ItemPlace) -> ItemPiece
     requires numbered { AreNumbered of.now }
     requires place { IsItemPlace (parsed of.now.planned.now) place.now.at place.now.number place.now.item.now }

@@ -2,7 +2,7 @@
 
 ghost use Rattle.std.specs.Prelude.{◌≡◌, ◌+◌, ◌*◌, ◌<◌, ◌≤◌, ◌^◌, false, length, min, slice_index};
 ghost use Rattle.std.specs.List.{sum};
-ghost use Rattle.shrink_layout.specs.Forms.{holds, near_limit, target};
+ghost use Rattle.shrink_layout.specs.Forms.{form_reaches, near_limit, target};
 ghost use Rattle.shrink_layout.specs.Invariants.Blocks.{HaveGrownIn, ReachesAll, block_count, block_size};
 ghost use Rattle.shrink_layout.specs.Invariants.Rounds.{AreLaid, HaveGrown};
 ghost use Rattle.shrink_layout.specs.Invariants.Widths.{AreStarts, CanBeTested, OthersFitFrom, addresses_in};
@@ -12,31 +12,31 @@ use crate::blocks::{BLOCK, Blocks, PieceSpan};
 use crate::piece::Piece;
 use crate::widths::Widths;
 
-// Whether a form reaches from an address to the target.
+// Whether the target is in range of a form at an address.
 fn reaches(widths: &Widths, at: u32, piece: Piece, size: u16) -> bool
     requires starts { AreStarts (addresses_in widths.now) (length widths.now.sums) widths.now.starts.items }
     requires within { target piece ≤ length widths.now.sums }
     requires room { slice_index widths.now.starts.items 0 + sum widths.now.sums < 2 ^ 32 }
     requires near { at < slice_index (addresses_in widths.now) (target piece) + near_limit }
     requires near_back { slice_index (addresses_in widths.now) (target piece) < at + near_limit }
-    ensures { result ≡ holds piece size at (slice_index (addresses_in widths.now) (target piece)) }
+    ensures { result ≡ form_reaches piece size at (slice_index (addresses_in widths.now) (target piece)) }
 {
-    piece.holds(size, at, widths.address(piece.target() as usize))
+    piece.reaches(size, at, widths.address(piece.target() as usize))
 }
 
-// Whether there is a longer form. If not, this one reaches everywhere.
+// Whether there is a longer form. If not, this one has every target in range.
 fn can_grow(piece: Piece, size: u16) -> bool
     ensures { result ≡ false → ReachesAll piece size }
 {
     match piece {
-        Piece::Fixed { .. } | Piece::Joined { .. } | Piece::Align { .. } => false,
+        Piece::Fixed { .. } | Piece::WithOthers { .. } | Piece::Align { .. } => false,
         Piece::Branch { .. } => size == 2 || size == 4,
         Piece::Jump { .. } => size == 2,
     }
 }
 
-// What a round found of a block: whether all of its pieces fitted, and from which number to which they are, and the
-// targets of those that could still grow.
+// What a round found of a block: whether all of its pieces fitted, and the lowest and the highest number among its own
+// first piece and the targets of pieces that could still grow.
 #[derive(Clone, Copy)]
 struct Tested {
     fitted: bool,
@@ -75,8 +75,8 @@ fn grow_block(pieces: &[Piece], sizes: &mut [u16], widths: &Widths, block: usize
     Tested { fitted, low, high }
 }
 
-/// One round: gives the next longer form to just those pieces that don't fit, and says whether all fitted. A block is
-/// passed over if no piece changed in the last round of those on which it depends whether its pieces fit.
+/// One round: gives the next longer form to just those pieces that don't fit, and returns whether all fitted. A block
+/// is passed over if no piece changed in the last round in the blocks on which it depends whether its pieces fit.
 pub fn grow(pieces: &[Piece], sizes: &mut [u16], widths: &Widths, blocks: &mut Blocks) -> bool
     requires laid { AreLaid pieces.now sizes.old widths.now blocks.old }
     ensures fitted { result ≡ all_fit (slice_index widths.now.starts.items 0) pieces.now sizes.old }

@@ -50,7 +50,7 @@ impl<'a> Model for Rounds<'a> {
 }
 
 impl<'a> Rounds<'a> {
-    // The shortest forms.
+    // The pieces at their shortest forms.
     fn new(alloc: Global, text: u32, pieces: &'a [Piece]) -> Result<Rounds<'a>, AllocError>
         requires { CanBeLaid text pieces.now }
         ensures { IfOk result (λ r. r ≡ shortest_pieces text pieces.now) }

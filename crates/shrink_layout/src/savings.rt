@@ -8,9 +8,9 @@ ghost use Rattle.shrink_layout.specs.Invariants.Sites.{AreOfPlaces, AreSavings, 
 ghost use Rattle.shrink_layout.specs.Savings.{HasFewSites, has_sites, saving_of, savings_of};
 ghost use Rattle.zc_base.specs.declared.place.Place.{Place};
 
-use crate::pieces::starts_of;
 use crate::settled::Settled;
 use crate::site::{Site, site_at};
+use block_cut::code_place::item_places;
 use block_cut::cut::Cut;
 use pick_check::saving::Saving;
 use std::alloc::{AllocError, Global};
@@ -39,7 +39,7 @@ fn add_targets(cut: &Cut, section: u32, savings: &mut Vec<Saving>) -> Result<(),
     Ok(())
 }
 
-// All targets, so far without sites.
+// All targets, with no sites yet.
 fn bare_targets(alloc: Global, cut: &Cut) -> Result<Vec<Saving>, AllocError>
     ensures { IfOk result (λ savings. savings.items ≡ map (saving_of []) (all_targets (parsed cut.now).objects)) }
 {
@@ -52,7 +52,7 @@ fn bare_targets(alloc: Global, cut: &Cut) -> Result<Vec<Saving>, AllocError>
     Ok(savings)
 }
 
-// One site more.
+// One more site for this target.
 fn count_site(saving: &mut Saving, site: Site)
     requires jumps { saving.old.jump_sites < 0xFFFF_FFFF }
     requires calls { saving.old.call_sites < 0xFFFF_FFFF }
@@ -68,8 +68,8 @@ fn count_site(saving: &mut Saving, site: Site)
 }
 
 // Counts the site at a place, if there is one, at its target. Targets have numbers from 2 on, in their order: before
-// the first stand what is in front of all code and a padding, and the end of a section has the number of the next
-// one's padding.
+// the first come the table with its stub and a padding, and the end of a section has the number of the next one's
+// padding.
 fn count_place(settled: &Settled, p: Place, savings: &mut [Saving])
     requires unset { settled.now.slots ≡ [] }
     requires few { AreOfPlaces (parsed settled.now.inputs) savings.old }
@@ -77,9 +77,8 @@ fn count_place(settled: &Settled, p: Place, savings: &mut [Saving])
         → AreSavings (parsed settled.now.inputs) (qs ++ p ∷ []) savings.new }
 {
     if let Some(site) = site_at(settled, p) {
-        let cut = settled.planned().cut();
-        // This call says that no fault stands in the objects.
-        let _objects = cut.objects();
+        // No fault stands in the objects, so the target has a number.
+        settled.planned().cut().recall_invariant();
         let number = settled.piece_number_at(site.to);
         count_site(&mut savings[(number - 2) as usize], site);
     }
@@ -96,7 +95,7 @@ fn count_section(settled: &Settled, section: u32, savings: &mut [Saving])
 {
     let cut = settled.planned().cut();
     let own = cut.objects().section(section);
-    let places = starts_of(cut.places(section));
+    let places = item_places(cut.places(section));
     for place in places {
         let at = Place {
             object: own.object(),
@@ -115,7 +114,7 @@ fn has_sites(saving: &Saving) -> bool
 }
 
 impl Settled {
-    /// The targets of jumps and calls that a table could serve, each with how many there are to it, by object, section
+    /// The targets of jumps and calls that a table could serve, each with the number of its sites, by object, section
     /// and offset. It takes time linear in the items.
     pub fn savings(&self, alloc: Global) -> Result<Vec<Saving>, AllocError>
         requires { self.now.slots ≡ [] }

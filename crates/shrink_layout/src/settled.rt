@@ -40,8 +40,8 @@ use zc_base::counts::Counts;
 use zc_base::place::Place;
 
 /// The layout of objects' code that is made smaller: the slots of its table, the number of each section's first place,
-/// the pieces, each with its halfword if that is known before the layout, the bytes of each, whose sums give addresses,
-/// and the address of each block of pieces.
+/// the pieces, each with its short form if that is known before the layout, the bytes of each, whose sums give
+/// addresses, and the address of each block of pieces.
 #[derive(Drop)]
 pub struct Settled {
     planned: Planned,
@@ -53,7 +53,7 @@ pub struct Settled {
     counts: Counts,
 }
 
-// What is kept of a layout beside the objects, the slots and the numbers.
+// The layout's own tables.
 #[derive(Drop)]
 struct KeptLayout {
     made: Pieces,
@@ -62,7 +62,7 @@ struct KeptLayout {
     counts: Counts,
 }
 
-// What a layout behind a table is made from: one without it.
+// The layout without a table, from which one with a table is made.
 #[derive(Drop)]
 struct FirstLayout {
     planned: Planned,
@@ -83,21 +83,21 @@ impl Model for Settled {
         settled.starts.items settled.made settled.sums settled.block_starts.items settled.counts };
 }
 
-// One for a piece of one item that isn't padding and takes two bytes, and else none.
-fn short_of(piece: Piece, size: u16) -> u32
+// 1 if a piece is one item that isn't padding and takes two bytes, otherwise 0.
+fn count_if_short(piece: Piece, size: u16) -> u32
     ensures value { result ≡ (if is_short_piece piece size then 1 else 0) }
     ensures most { result ≤ 1 }
 {
     match piece {
-        Piece::Align { .. } | Piece::Joined { .. } => 0,
+        Piece::Align { .. } | Piece::WithOthers { .. } => 0,
         Piece::Fixed { .. } | Piece::Branch { .. } | Piece::Jump { .. } => {
             if size == 2 { 1 } else { 0 }
         }
     }
 }
 
-// One for a branch that takes eight bytes, and else none.
-fn long_of(piece: Piece, size: u16) -> u32
+// 1 if a piece is a branch that takes eight bytes, otherwise 0.
+fn count_if_long(piece: Piece, size: u16) -> u32
     ensures value { result ≡ (if is_long_piece piece size then 1 else 0) }
     ensures most { result ≤ 1 }
 {
@@ -105,20 +105,20 @@ fn long_of(piece: Piece, size: u16) -> u32
         Piece::Branch { .. } if size == 8 => 1,
         Piece::Branch { .. }
         | Piece::Fixed { .. }
-        | Piece::Joined { .. }
+        | Piece::WithOthers { .. }
         | Piece::Align { .. }
         | Piece::Jump { .. } => 0,
     }
 }
 
-// How many pieces take two bytes, and how many branches eight.
+// The number of pieces that take two bytes, and of branches that take eight.
 #[derive(Clone, Copy)]
 struct SizeCounts {
     short: u32,
     long: u32,
 }
 
-// What pieces count at their sizes. The first isn't counted, since it stands in front of all code.
+// The counts of pieces at their sizes. The first piece, the table with its stub, isn't counted.
 fn count_sizes(pieces: &[Piece], sizes: &[u16]) -> SizeCounts
     requires same { length sizes.now ≡ length pieces.now }
     requires few { length pieces.now < 2 ^ 32 }
@@ -128,13 +128,13 @@ fn count_sizes(pieces: &[Piece], sizes: &[u16]) -> SizeCounts
     let mut short = 0;
     let mut long = 0;
     for k in 1..pieces.len() {
-        short += short_of(pieces[k], sizes[k]);
-        long += long_of(pieces[k], sizes[k]);
+        short += count_if_short(pieces[k], sizes[k]);
+        long += count_if_long(pieces[k], sizes[k]);
     }
     SizeCounts { short, long }
 }
 
-// How many jumps and calls go through the table of some slots, by the halfwords of all pieces.
+// The number of jumps and calls through the table of some slots, by the halfwords of all pieces.
 fn count_sites(slots: &[Option<Place>], halves: &[u16]) -> u32
     requires { length halves.now < 2 ^ 32 }
     ensures { (inputs : ParsedInputs) → AreHalvesOf (all_owners inputs slots.now) halves.now
@@ -230,8 +230,8 @@ fn first_layout(settled: Settled) -> FirstLayout
     }
 }
 
-/// Settles the layout anew with a table in front, whose slots lead to these places, or are holes. Without slots there is
-/// no table.
+/// Settles the layout anew with a table before the sections, whose slots lead to these places, or are holes. Without
+/// slots there is no table.
 pub fn settle_with(
     alloc: Global,
     settled: Settled,
@@ -275,7 +275,7 @@ impl Settled {
         matches!(self.planned.role(p), Some(Role::Inside))
     }
 
-    // The same, by where the place stands among all.
+    // Whether an item starts inside a group at a place, by where the place stands among all.
     fn is_inside_by(&self, number: PlaceNumber) -> bool
         requires { HasPlace (parsed self.now.inputs).objects number }
         ensures { (q : Place) → is_target_at (parsed self.now.inputs).objects q ≡ true
@@ -289,8 +289,8 @@ impl Settled {
         requires { k ≤ length (pieces_of (parsed self.now.inputs) self.now.slots) }
         ensures { result ≡ slice_index (settled_addresses (parsed self.now.inputs) self.now.slots) k }
     {
-        // This call says that the map has room for the text.
-        let _map = self.planned.cut().objects().map();
+        // The map has room for the text.
+        self.planned.cut().recall_invariant();
         self.block_starts[k / BLOCK] + self.sums.in_block(k)
     }
 
@@ -321,7 +321,7 @@ impl Settled {
         self.piece_address(self.piece_at(number))
     }
 
-    // The number of the piece at a place where an item starts or a section of code ends; 0 of any other.
+    // The number of the piece at a place where an item starts or a section of code ends; 0 for any other place.
     pub(crate) fn piece_number_at(&self, p: Place) -> u32
         ensures { result ≡ piece_number_at (parsed self.now.inputs).objects p }
     {
@@ -342,14 +342,14 @@ impl Settled {
     }
 
     /// The halfword of the item that is written by itself at a place, by where the place stands among all, if that is
-    /// known before the layout: some halfword does what its instruction does, which doesn't depend on addresses.
+    /// known before the layout: a halfword has the effect of its instruction, which doesn't depend on addresses.
     pub fn half_at(&self, number: PlaceNumber) -> u16
         requires { HasPlace (parsed self.now.inputs).objects number }
         ensures { (q : Place) (item : Item) → unit_at (parsed self.now.inputs) self.now.slots q ≡ Some (OneItem item)
             → IsPlaceNumber (parsed self.now.inputs).objects q number → IsHalfOf item result }
     {
         let k = self.piece_at(number);
-        // No piece stands at the end of all code.
+        // The end of all code has no piece.
         if k < self.made.halves.len() {
             self.made.halves[k]
         } else {
@@ -357,8 +357,8 @@ impl Settled {
         }
     }
 
-    /// The halfword of the jump or call through the table at a place where an item starts, if that is what is written
-    /// there, by where the place stands among all.
+    /// The halfword of the jump or call through the table that is written at a place where an item starts, if one is,
+    /// by where the place stands among all.
     pub fn site_half(&self, number: PlaceNumber) -> Option<u16>
         requires { HasItem (parsed self.now.inputs).objects number }
         ensures { (q : Place) → is_start_at (parsed self.now.inputs).objects q ≡ true
@@ -373,8 +373,8 @@ impl Settled {
         }
     }
 
-    /// The bytes of what is written at a place: of an item by itself, of a group, or of a jump or call through the
-    /// table.
+    /// The number of bytes that are written at a place: for an item by itself, for a group, or for a jump or call
+    /// through the table.
     pub fn size(&self, p: Place) -> Option<u32>
         ensures { result ≡ settled_size (parsed self.now.inputs) self.now.slots p }
     {
@@ -385,7 +385,7 @@ impl Settled {
         Some(self.sums.size(k))
     }
 
-    /// The bytes of what is written at a place where an item starts, by where the place stands among all.
+    /// The number of bytes that are written at a place where an item starts, by where the place stands among all.
     pub fn size_at(&self, number: PlaceNumber) -> u32
         requires { HasItem (parsed self.now.inputs).objects number }
         ensures { (q : Place) (size : ℕ) → settled_size (parsed self.now.inputs) self.now.slots q ≡ Some size
@@ -394,8 +394,8 @@ impl Settled {
         self.sums.size(self.piece_at(number))
     }
 
-    /// The tree of the bytes that pieces take: first what stands in front, the table with its stub, then for each
-    /// section of code its padding and what is written for its items.
+    /// The tree of the bytes that pieces take: first the table with its stub, then for each section of code its padding
+    /// and what is written for its items.
     pub fn sums(&self) -> &Sums
         ensures { result.now ≡ settled_widths (parsed self.now.inputs) self.now.slots }
     {
@@ -409,7 +409,7 @@ impl Settled {
         self.piece_address(self.sums.count())
     }
 
-    /// What the layout counts.
+    /// The layout's counts.
     pub fn counts(&self) -> Counts
         ensures { result ≡ settled_counts (parsed self.now.inputs) self.now.slots }
     {
@@ -421,6 +421,15 @@ impl Settled {
         ensures same { result.now ≡ self.now.inputs }
     {
         &self.planned
+    }
+
+    /// Says what holds of the slots of every layout, for the proof of a caller that needs no value of them. Nothing
+    /// runs.
+    #[inline]
+    pub fn recall_invariant(&self)
+        ensures targets { AreTargetSlots (parsed self.now.inputs).objects self.now.slots }
+    {
+        let _slots = &self.slots;
     }
 
     /// The slots of the table: the place that each leads to, or a hole. Without a table there are none.

@@ -12,7 +12,8 @@ use crate::piece::Piece;
 use crate::sums::Sums;
 use std::alloc::{AllocError, Global};
 
-/// The shortest form of each piece, the bytes that each takes at these, and the address of each block and of the end.
+/// The shortest form of each piece, the bytes that each takes at that form, and the address of each block and of the
+/// end.
 #[derive(Drop)]
 pub struct Shortest {
     pub sizes: Vec<u16>,
@@ -33,7 +34,7 @@ pub fn find_multiples(alloc: Global, pieces: &[Piece]) -> Result<Vec<u32>, Alloc
                 multiples[k / BLOCK] = multiple_with(multiples[k / BLOCK], alignment);
             }
             Piece::Fixed { .. }
-            | Piece::Joined { .. }
+            | Piece::WithOthers { .. }
             | Piece::Branch { .. }
             | Piece::Jump { .. } => {}
         }

@@ -56,8 +56,8 @@ pub fn site_at(settled: &Settled, p: Place) -> Option<Site>
     ensures target { IfSome result (λ site. is_target_at (parsed settled.now.inputs).objects site.to ≡ true) }
 {
     let cut = settled.planned().cut();
-    // This call says that no fault stands in the objects, so jumps and calls lead where code may lead.
-    let _objects = cut.objects();
+    // No fault stands in the objects, so jumps and calls lead where code may lead.
+    cut.recall_invariant();
     let Some(item) = cut.item(p) else {
         return None;
     };

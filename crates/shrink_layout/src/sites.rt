@@ -8,7 +8,7 @@ ghost use Rattle.shrink_layout.specs.Invariants.Slots.{AreNumbered, AreSlotsOf, 
 ghost use Rattle.shrink_layout.specs.Pieces.{piece_number_at, pieces_of, slot_at};
 ghost use Rattle.shrink_layout.specs.Units as units;
 ghost use Rattle.shrink_layout.specs.Units.{CodeUnit, slot_for};
-ghost use Rattle.shrink_layout.specs.declared.piece.Piece.TheVariants.{Joined};
+ghost use Rattle.shrink_layout.specs.declared.piece.Piece.TheVariants.{WithOthers};
 ghost use Rattle.zc_decode.specs.declared.short.Short.TheVariants.{TableJump};
 ghost use Rattle.zc_encode.specs.Halves.{encoded16};
 
@@ -22,7 +22,7 @@ use block_cut::item::Item;
 use zc_base::place::Place;
 use zc_base::reg::Reg;
 
-// The bytes of the table of some slots and of the stub behind it.
+// The number of bytes of the table of some slots and of the stub after it.
 fn front_size(slots: &[Option<Place>]) -> u16
     requires { length slots.now ≤ 256 }
     ensures { result ≡ units.front_size slots.now }
@@ -71,19 +71,19 @@ fn slot_of(of: &PieceSource, place: &ItemPlace, k: usize, piece: Piece) -> Optio
     }
 }
 
-// Puts a jump or call through a slot in the place of a piece.
+// Replaces a piece by that of a jump or call through a slot.
 fn put_site(made: &mut Pieces, k: usize, slot: u8)
     requires pieces { k < length made.old.pieces.items }
     requires halves { k < length made.old.halves.items }
-    ensures pieces { made.new.pieces.items ≡ slice_set made.old.pieces.items k (Joined 2) }
+    ensures pieces { made.new.pieces.items ≡ slice_set made.old.pieces.items k (WithOthers 2) }
     ensures halves { (half : ℕ) × (encoded16 (TableJump slot) ≡ Some half)
         × (made.new.halves.items ≡ slice_set made.old.halves.items k half) }
 {
-    made.pieces[k] = Piece::Joined { size: 2 };
+    made.pieces[k] = Piece::WithOthers { size: 2 };
     made.halves[k] = table_half(slot);
 }
 
-// Puts what is written at a place with the table in the place of what is written without it.
+// Replaces the piece at a place of the layout without a table by the piece there with the table.
 fn put_place(of: &PieceSource, place: &ItemPlace, made: &mut Pieces)
     requires source { IsSource of.now }
     requires place { IsItemPlace (source_inputs of.now) place.now.at place.now.number place.now.item.now }
@@ -104,7 +104,7 @@ fn put_place(of: &PieceSource, place: &ItemPlace, made: &mut Pieces)
     }
 }
 
-// Puts those at places of a section of code.
+// Replaces the pieces at places of a section of code by those with the table.
 fn put_places(of: &PieceSource, section: &SectionPlaces, made: &mut Pieces)
     requires source { IsSource of.now }
     requires held { AreItemPlaces (source_inputs of.now) section.now.number section.now.section section.now.places.now }
@@ -119,7 +119,7 @@ fn put_places(of: &PieceSource, section: &SectionPlaces, made: &mut Pieces)
     }
 }
 
-// Puts those of the section with this number among all.
+// Replaces the pieces of the section with this number among all by those with the table.
 fn put_section(of: &PieceSource, section: u32, made: &mut Pieces)
     requires source { IsSource of.now }
     requires section { section < length (all_sections (source_inputs of.now).objects) }
@@ -131,8 +131,8 @@ fn put_section(of: &PieceSource, section: u32, made: &mut Pieces)
     }
 }
 
-/// Puts what is in front of all code with a table, and the jumps and calls through it, in the place of the pieces
-/// without it.
+/// Replaces the pieces of the layout without a table by those with the table: first the table and its stub, and then
+/// the jumps and calls through it.
 pub fn put_sites(of: &Numbered, slots: Slots, made: &mut Pieces)
     requires numbered { AreNumbered of.now }
     requires slots { AreSlotsOf (parsed of.now.planned.now) slots }

@@ -13,7 +13,7 @@ use frame_match::planned::Planned;
 use std::alloc::{AllocError, Global};
 use zc_base::place::Place;
 
-// How many slots there are for jumps, which come first; those behind them are for calls (RISC-V Zc specification 1.0,
+// The number of slots for jumps, which come first; the slots after them are for calls (RISC-V Zc specification 1.0,
 // "cm.jt" and "cm.jalt").
 const JUMP_SLOTS: usize = 32;
 
@@ -24,19 +24,19 @@ pub struct Numbered<'a> {
     pub starts: &'a [u32],
 }
 
-/// The slots of a table, and what tells through which of them a jump or call goes.
+/// The slots of a table, and which of them a jump or call to a place goes through.
 #[derive(Drop)]
 pub struct Slots<'a> {
     pub slots: &'a [Option<Place>],
     /// The bytes of each piece in the layout without the table.
     pub first: Sums,
-    /// The first for jumps to each place, by the number of the place's piece.
+    /// The first slot for jumps to each place, by the number of the place's piece.
     pub jumps: Vec<Option<u8>>,
-    /// The first for calls.
+    /// The first slot for calls to each place, by the number of the place's piece.
     pub calls: Vec<Option<u8>>,
 }
 
-/// What pieces behind a table are made from: the objects, and the slots.
+/// What the pieces of a layout with a table are made from: the objects, and the slots.
 #[derive(Drop)]
 pub struct PieceSource<'a> {
     pub planned: &'a Planned,
@@ -44,15 +44,15 @@ pub struct PieceSource<'a> {
     pub slots: &'a Slots<'a>,
 }
 
-// A part of a table's slots, with the number of its first.
+// A part of a table's slots, with the number of its first slot.
 #[derive(Clone, Copy)]
 struct SlotPart<'a> {
     first: u8,
     slots: &'a [Option<Place>],
 }
 
-// The first slot of each place in a part, by the number of the place's piece: of slots that lead to one place the first
-// is noted last.
+// The first slot of each place in a part, by the number of the place's piece: where several slots lead to one place,
+// the first is written last.
 fn first_slots(
     alloc: Global,
     of: &Numbered,

@@ -80,7 +80,7 @@ impl Sums {
         Ok(Sums { sizes, nodes })
     }
 
-    /// The sum of the first so many sizes.
+    /// The sum of the first `i` sizes.
     pub fn before(&self, i: usize) -> u32
         requires { i ≤ length self.now }
         ensures { result ≡ sum (take i self.now) }
@@ -119,7 +119,7 @@ impl Sums {
         self.sizes[i]
     }
 
-    /// How many sizes there are.
+    /// The number of sizes.
     pub fn count(&self) -> usize
         ensures { result ≡ length self.now }
     {
@@ -136,8 +136,8 @@ impl Sums {
         self.sizes[i] = size;
     }
 
-    /// The nodes of the tree, one a size. The node with number i, counted from 1, is the sum of the last of the first i
-    /// sizes, as many as the greatest power of two that divides i.
+    /// The nodes of the tree, one for each size. Node i, counted from 1, is the sum of the last b of the first i sizes,
+    /// where b is the greatest power of two that divides i.
     pub fn nodes(&self) -> &[u32]
         ensures { IsTree self.now result.now }
     {

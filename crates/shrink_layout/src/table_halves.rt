@@ -24,7 +24,7 @@ pub fn is_table_jump(half: u16) -> bool
     half / 1024 == 0b101_000 && half % 4 == 0b10
 }
 
-/// How many halfwords are.
+/// The number of halfwords that are jumps or calls through the table.
 #[tactic(auto, using(crate::proofs::SiteCounts::passed_step))]
 pub fn count_table_halves(halves: &[u16]) -> u32
     requires { length halves.now < 2 ^ 32 }

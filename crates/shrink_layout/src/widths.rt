@@ -10,20 +10,20 @@ use crate::sums::Sums;
 use std::alloc::{AllocError, Global};
 
 /// The bytes that each piece takes, the address at which each block starts, and how many pieces changed in the last
-/// round, that is, took other bytes than before.
+/// round, that is, took a different number of bytes than before.
 #[derive(Drop)]
 pub struct Widths {
     /// The bytes of each piece.
     pub sums: Sums,
     /// The address of the first piece of each block, and of the end.
     pub starts: Vec<u32>,
-    /// How many pieces before each block changed. One more entry counts all.
+    /// For each block, the number of changed pieces before it. One more entry counts all.
     pub changes: Vec<usize>,
-    /// How many pieces of its block before it changed, for each piece and for the end.
+    /// For each piece and for the end, the number of changed pieces of its block before it.
     pub within: Vec<u8>,
 }
 
-// How many pieces are before each of so many blocks, and before the end of the last one.
+// The number of pieces before each of `blocks` blocks, and before the end of the last one.
 fn counts_before(alloc: Global, blocks: usize) -> Result<Vec<usize>, AllocError>
     requires room { blocks * block_size < 2 ^ 63 }
     ensures count { IfOk result (λ v. length v.items ≡ blocks + 1) }
@@ -36,7 +36,7 @@ fn counts_before(alloc: Global, blocks: usize) -> Result<Vec<usize>, AllocError>
     Ok(counts)
 }
 
-// How many pieces of its block are before each of so many pieces, and before the end.
+// The number of pieces of its block before each of `pieces` pieces, and before the end.
 fn counts_within(alloc: Global, pieces: usize) -> Result<Vec<u8>, AllocError>
     requires room { pieces < 2 ^ 63 }
     ensures count { IfOk result (λ v. length v.items ≡ pieces + 1) }
@@ -78,7 +78,7 @@ impl Widths {
         self.starts[k / BLOCK] + self.sums.in_block(k)
     }
 
-    // How many pieces before this one changed, or before the end.
+    // The number of changed pieces before this one, or before the end.
     fn changed_before(&self, k: usize) -> usize
         requires counted { AreCounted self.now }
         requires within { k ≤ length self.now.sums }

@@ -60,7 +60,7 @@ module _ {p : Program} {Named : Place → Type 0} {e : Image} {s : PlainCore} {z
       known None is g = absurd cc
       known (Some m) is g = tested m (eqb (m % n) 0) (in_memory s m n) (number_is V w a m small stands is) refl refl g
 
-  -- then the machine makes it
+  -- an access that lies in memory and is aligned is made by the machine
   pub made_there : (n a : ℕ) (go : Effect) → 0 < n → a % n ≡ 0 → SpansMemory p a n → reaching n a z go ≡ go
   made_there n a go some aligned spans =
       cond-true (eqb (a % n) 0) _ _ (eq-eqb (a % n) 0 aligned)

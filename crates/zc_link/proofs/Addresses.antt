@@ -62,7 +62,7 @@ module _ (V : Value → Option ℕ) where
       let at = eqb-true i j parts.1 in
       (st.0, ap V (sym same) ∙ st.1, st.2 ∙ ap (byte_of st.0) (sym at))
 
-  -- a word that is a value stands for that value's number, of which there is one
+  -- a word that is a value stands for one number only, that value's
   pub value_is :
       (v : Value) (w : SymWord) (n : ℕ) → n < 2 ^ 32 → WordStands V w n → is_value v w ≡ true
       → (x : ℕ) × (V v ≡ Some x) × (x < 2 ^ 32 → n ≡ x)

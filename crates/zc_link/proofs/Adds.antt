@@ -1,4 +1,4 @@
--- Bytes of words, of padding and of objects: how many there are, and that they are bytes.
+-- Bytes of words, of padding and of objects: their number, and that each is a byte.
 use Rattle.std.proofs.Common.{◌≡◌, ℕ, zero, suc, ◌+◌, ◌*◌, ◌/◌, ◌%◌, ◌^◌, ◌<◌, ◌≤◌, List, [], ◌∷◌, ◌++◌, length, Bool, true, false, cond, eqb, refl, sym, ap, ◌∙◌, subst, arith, get_or, length-append, take, drop}
 use Rattle.std.specs.Prelude.{replicate}
 use Rattle.std.proofs.lemmas.Bool.{eqb-false, eqb-true}
@@ -43,7 +43,7 @@ pub length-copies : (word n : ℕ) → length (copies word n) ≡ 4 * n
 length-copies word zero = refl
 length-copies word (suc n) = omega (arith, length-append (word_bytes word) (copies word n), length-copies word n)
 
--- the bytes of padding, of which there are so many
+-- padding of n bytes is made of bytes
 pub padding_are : (n : ℕ) → AreBytes (padding n)
 padding_are n = bytes_append _ (copies nop (n / 4)) (by (eqb (n % 4) 2)) (copies_are nop (n / 4))
   where
@@ -107,6 +107,6 @@ two_bytes (x ∷ code) (suc n) two are long octets =
     let same : half_in code n ≡ half_in (x ∷ code) (suc n) = ap (λ m. get_or (x ∷ code) (suc n) 0 + 256 * get_or (x ∷ code) m 0) next in
     (subst (λ h. h < 2 ^ 16) same rest.0, rest.1 ∙ ap half_bytes same)
 
--- so are those of a list of bytes
+-- two bytes of a list of bytes are those of the halfword there
 pub own_half : (code : List ℕ) (n : ℕ) → n + 2 ≤ length code → AreBytes code → bytes_from code n 2 ≡ half_bytes (half_in code n)
 own_half code n le bytes = (two_bytes code n (bytes_from code n 2) refl (length-bytes_from code n 2 le) (take_are 2 (drop n code) (drop_are n code bytes))).1

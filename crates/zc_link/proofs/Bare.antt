@@ -1,12 +1,13 @@
 -- Commits that don't look at memory: they do the same whatever data hold, and leave memory as it is. So do those of a stretch of several
 -- instructions, from the first to the last, whatever interrupts come and whatever cells of data are written between them.
 use Rattle.std.specs.Option.{option_map_or}
-use Rattle.std.proofs.Common.{◌≡◌, ℕ, zero, suc, ◌+◌, ◌<◌, List, [], None, Ok, false, refl, sym, ap, ◌∙◌, subst, arith, pos}
+use Rattle.std.proofs.Common.{◌≡◌, ℕ, zero, suc, ◌+◌, ◌<◌, List, [], None, Ok, cond, false, refl, sym, ap, ◌∙◌, subst, arith, pos}
+use Rattle.rv_decode.specs.Bits.{add32}
 use Rattle.rv_decode.specs.declared.instr.Instr.{Instr}
 use Rattle.rv_decode.specs.declared.instr.Instr.TheVariants.{Upper, Jal, Jalr, Branch, Load, Store, WithImm, WithReg, Fence, Ecall, Ebreak, Csrrw}
 use Rattle.rv_decode.specs.declared.instr.ImmOp.TheVariants.{Addi}
-use Rattle.rv_decode.specs.Effect.{Commits, after, branch_target, effect}
-use Rattle.rv_decode.specs.Memory.{cell_at, changed, extents_of, written}
+use Rattle.rv_decode.specs.Effect.{Commits, after, effect}
+use Rattle.rv_decode.specs.Memory.{cell_at, extents_of}
 use Rattle.rv_decode.specs.Results.{is_taken}
 use Rattle.rv_decode.specs.State.{ZcCore, ZcState}
 use Rattle.rv_decode.proofs.RegisterLaws.{reads}
@@ -24,10 +25,11 @@ use Rattle.zc_link.specs.Invariants.Room.{Room}
 use Rattle.zc_link.specs.DataApart.{CommitsApart, Cuts, IsCell, OnWay, Pokes, Starts, Turns, poked}
 use Rattle.zc_link.proofs.NoAccess.{KeepsText, NoAccess, base_at, cut_kept, here_fetched, poked_kept}
 use Rattle.zc_link.proofs.Singles.{below_top}
+use Rattle.zc_link.proofs.WithByte.{with_byte}
 
 -- ---- instructions
 
--- one that neither loads nor stores nor calls
+-- an instruction that neither loads nor stores nor calls
 abbrev pub IsBare : Instr → Type 0
 IsBare (Upper op rd imm) = Unit {0}
 IsBare (Jal rd distance) = Unit {0}
@@ -42,7 +44,7 @@ IsBare Ecall = ⊥
 IsBare Ebreak = ⊥
 IsBare (Csrrw rd source) = Unit {0}
 
--- and goes on to the next one, with these registers: a branch does if it isn't taken
+-- with these registers an instruction goes on to the next one: a branch does if it isn't taken
 abbrev pub IsOn : Instr → List ℕ → Type 0
 IsOn (Upper op rd imm) regs = Unit {0}
 IsOn (Jal rd distance) regs = ⊥
@@ -57,11 +59,7 @@ IsOn Ecall regs = ⊥
 IsOn Ebreak regs = ⊥
 IsOn (Csrrw rd source) regs = Unit {0}
 
--- a byte of memory is another
-abbrev with_byte : ℕ → ℕ → ZcCore → ZcCore
-with_byte a b y = record y { memory = changed (written a 1 (λ _. b)) y.memory }
-
--- its effect: it commits, memory and the exit stay, and with another byte in memory it does the same
+-- the effect of such an instruction: it commits, memory and the exit stay, and with another byte in memory it does the same
 record BareEffect (i : Instr) (size : ℕ) (y : ZcCore) : Type 0 where
   left : ZcCore
   commits : effect i size y ≡ Commits left
@@ -74,7 +72,7 @@ bare_effect : (i : Instr) (size : ℕ) (y : ZcCore) → IsBare i → BareEffect 
 bare_effect (Upper op rd imm) size y bare = record { left = _; commits = refl; memory = refl; exit = refl; pc = λ _. refl; apart = λ a b. refl }
 bare_effect (Jal rd distance) size y bare = record { left = _; commits = refl; memory = refl; exit = refl; pc = λ on. absurd on; apart = λ a b. refl }
 bare_effect (Jalr rd base imm) size y bare = record { left = _; commits = refl; memory = refl; exit = refl; pc = λ on. absurd on; apart = λ a b. refl }
-bare_effect (Branch op first second distance) size y bare = record { left = _; commits = refl; memory = refl; exit = refl; pc = λ on. ap (λ b. branch_target b distance size y) on; apart = λ a b. refl }
+bare_effect (Branch op first second distance) size y bare = record { left = _; commits = refl; memory = refl; exit = refl; pc = λ on. ap (λ b. cond b (add32 y.pc distance) (after y size)) on; apart = λ a b. refl }
 bare_effect (Load op rd base imm) size y bare = absurd bare
 bare_effect (Store op source base imm) size y bare = absurd bare
 bare_effect (WithImm op rd first imm) size y bare = record { left = _; commits = refl; memory = refl; exit = refl; pc = λ _. refl; apart = λ a b. refl }
@@ -86,8 +84,8 @@ bare_effect (Csrrw rd source) size y bare = record { left = _; commits = refl; m
 
 -- ---- several of them
 
--- so many such instructions stand from an address on, one after another; each but the last goes on, the first with these registers
--- and those after it with any
+-- from an address on there are this many such instructions, one after another; each but the last goes on, the first with these
+-- registers and those after it with any
 abbrev pub Bares : Image → ℕ → List ℕ → ℕ → Type 0
 Bares e zero regs a = Unit {0}
 Bares e (suc k) regs a = (i : Instr) × (at : OneAt e a (Base i)) × IsBare i × (0 < k → IsOn i regs × ((later : List ℕ) → Bares e k later (a + at.size)))
@@ -102,7 +100,7 @@ one_bare e regs a i bare at = (i, at, bare, λ more. absurd (omega (arith, more)
 pub two_bare : (e : Image) (regs : List ℕ) (a : ℕ) (i j : Instr) → IsBare i → IsOn i regs → IsBare j → TwoAt e a (Base i) (Base j) → Bares e 2 regs a
 two_bare e regs a i j bare on last at = (i, at.one, bare, λ _. (on, λ later. one_bare e later (a + at.one.size) j last at.two))
 
--- a state from which so many are still to be committed
+-- a state from which k such instructions are still to be committed
 pub record OnBare (e : Image) (k : ℕ) (z : ZcState) : Type 0 where
   pub going : z.core.exit ≡ None
   pub same : SameText (loaded_core e) z.core
@@ -112,7 +110,7 @@ pub record OnBare (e : Image) (k : ℕ) (z : ZcState) : Type 0 where
 abbrev bare_here : {e : Image} {k : ℕ} {z : ZcState} → OnBare e (suc k) z → NoAccess e z.core
 bare_here on = record { text = on.same; here = base_at on.bares.1 }
 
--- if only memory outside the text changes, so many are still to be committed
+-- if only memory outside the text changes, there are still k of them to be committed
 bare_kept : {e : Image} {k : ℕ} {z : ZcState} (y : ZcCore) → OnBare e k z → KeepsText e z.core y → OnBare e k (record z { core = y })
 bare_kept {e} {k} y on kept = record {
   going = ap (λ x. x.exit) kept.rest ∙ on.going;
@@ -133,7 +131,7 @@ module _ {p : Program} {e : Image} (room : Room p e) where
       ∙ ap (λ f. committed (made f z.core) z) here
       ∙ ap (λ x. committed (effect_step x z.core) z) does
 
-  -- one of them is committed
+  -- one of the instructions is committed
   record BareTurn (k : ℕ) (z z' : ZcState) : Type 0 where
     on : OnBare e k z'
     apart : (a b : ℕ) → IsCell p a → zc_turn [] (poked a b z) ≡ Ok (poked a b z')

@@ -21,7 +21,7 @@ use Rattle.zc_link.specs.Stands.{ByteStands, IsMemory}
 use Rattle.zc_link.specs.Values.{value_in}
 use Rattle.zc_link.proofs.Writes.{Agrees, within, written_agrees}
 
--- a buffer of so many bytes that the program has at one address and the machine at another: it lies in memory, and the addresses
+-- a buffer of `len` bytes that the program has at one address and the machine at another: it lies in memory, and the addresses
 -- are the same; or it has no bytes, and then its address isn't looked at
 abbrev pub IsBuffer : Program → ℕ → ℕ → ℕ → Type 0
 IsBuffer p at to len = (len ≡ 0) ⊎ ((at ≡ to) × SpansMemory p at len)

@@ -55,7 +55,7 @@ after_cuts {p} {Named} {e} {s} {z} {i} room cuts are at al = record {
         let now : Alike p Named e s y = spoiled_below room k al in
         fetched_same (loaded_core e) y (record { extents = now.extents; text = now.text }) y.pc ∙ ap (λ x. fetched_at (loaded_core e) x.pc) k.rest ∙ at.here
 
-    -- so each interrupt only writes
+    -- interrupts, one after another, only write
     spoiled : IsSpoiled (all_interrupted cuts z.core)
     spoiled = all_cuts_kept IsSpoiled
         (λ c y is k.
@@ -69,6 +69,6 @@ after_cuts {p} {Named} {e} {s} {z} {i} room cuts are at al = record {
     pc : (all_interrupted cuts z.core).pc ≡ z.core.pc
     pc = ap (λ x. x.pc) spoiled.rest
 
--- one turn
+-- a run of one turn
 pub zc_turns-one : (cuts : ℕ → List Interrupt) (z z' : ZcState) → zc_turn (cuts 0) z ≡ Ok z' → zc_turns cuts 1 z ≡ Ok z'
 zc_turns-one cuts z z' turn = ap (λ r. r >>= zc_turns (λ k. cuts (suc k)) 0) turn

@@ -14,10 +14,10 @@ use Rattle.psabi_reloc.specs.declared.kind.RelocKind.{RelocKind}
 use Rattle.psabi_reloc.specs.declared.kind.RelocKind.TheVariants as kind
 use Rattle.rv_decode.specs.declared.instr.Instr.{Instr}
 use Rattle.rv_decode.specs.declared.instr.Instr.TheVariants as instr
-use Rattle.block_cut.specs.Items.{call_item, code_at, instr_item, item_at, item_under, known_item, of_instr, raw_in, raw_pair, size_on, spelled_item, target_away, target_of, to_place, transfer_item, transfer_under}
+use Rattle.block_cut.specs.Items.{call_item, code_at, instr_item, item_at, item_under, known_item, raw_in, raw_pair, size_on, spelled_item, target_away, target_of, to_place, transfer_item, transfer_under}
 use Rattle.block_cut.specs.Relocs.{instr_in, reloc_on}
 use Rattle.block_cut.specs.declared.item.Item.{Item}
-use Rattle.block_cut.specs.declared.item.Item.TheVariants.{PcLo, Branch, Jump, Call, Align, Word, Raw, RawShort}
+use Rattle.block_cut.specs.declared.item.Item.TheVariants.{PcLo, Branch, Jump, Raw, RawShort}
 use Rattle.block_cut.proofs.ItemLaws.{item_found}
 
 module _ (bytes : List ℕ) (n : ℕ) where
@@ -61,7 +61,7 @@ module _ (bytes : List ℕ) (n : ℕ) where
   spelled_holds objects q None raw other = other
   spelled_holds objects q (Some i) raw other = instr_holds objects q i raw other
 
-  of_holds : (o : Option Instr) (raw : Item) (item : Instr → Item) → ((i : Instr) → Holds (item i)) → Holds raw → Holds (of_instr o raw item)
+  of_holds : (o : Option Instr) (raw : Item) (item : Instr → Item) → ((i : Instr) → Holds (item i)) → Holds raw → Holds (option_map_or item o raw)
   of_holds None raw item each other = other
   of_holds (Some i) raw item each other = each i
 

@@ -58,7 +58,7 @@ all_cuts_kept K each (c ∷ cs) z are kept = all_cuts_kept K each cs (interrupte
 
 -- ---- a write
 
--- of bytes leaves bytes
+-- a write of bytes leaves memory made of bytes
 pub written_are : (at m : ℕ) (given : ℕ → ℕ) (z : ZcCore) → ((i : ℕ) → given i < 256) → ((a : ℕ) → byte_in z a < 256) → (a : ℕ) → cell_at 0 (changed (written at m given) z.memory) a < 256
 written_are at m given z are bytes = cell_kept (written at m given) z.memory 0 (λ c. c < 256) byte (omega arith) bytes
   where

@@ -22,7 +22,7 @@ module _ (objects : List ObjectParts) (P : List IndexedSection → Type 0) (firs
     (more :
     (o i : ℕ) (s : SectionParts) → section_at objects o i ≡ Some s → P (sections_before objects o i)
     → P (sections_before objects o (i + 1))) where
-  -- those of an object, one after another
+  -- the sections of an object, one after another
   in_object :
       (o : ℕ) (object : ObjectParts) → slice_get objects o ≡ Some object → P (sections_before objects o 0) → (i : ℕ)
       → i ≤ length object.sections → P (sections_before objects o i)
@@ -33,7 +33,7 @@ module _ (objects : List ObjectParts) (P : List IndexedSection → Type 0) (firs
       let next : i + 1 ≡ suc i = omega arith in
       subst (λ k. P (sections_before objects o k)) next (more o i own.0 found (in_object o object at before i (omega (arith, le))))
 
-  -- and the objects
+  -- the sections of all objects before one
   before_object : (o : ℕ) → o ≤ length objects → P (sections_before objects o 0)
   before_object zero le = subst P (sym (before_first objects 0 ∙ no_sections)) first
   before_object (suc o) le =
@@ -53,6 +53,6 @@ module _ (objects : List ObjectParts) (P : List IndexedSection → Type 0) (firs
       by (Some object) at h =
           in_object o object at (before_object o (omega (arith, slice_get_within objects o object at))) i (omega (arith, slice_get_within object.sections i s h))
 
-  -- and all
+  -- the sections of all objects
   pub of_all : P (all_sections objects)
   of_all = subst P (before_end objects (length objects) (omega arith)) (before_object (length objects) (omega arith))

@@ -22,7 +22,7 @@ abbrev pub Effects : List Instr → ZcCore → ZcCore → Type 0
 Effects [] z z' = z' ≡ z
 Effects (i ∷ is) z z' = (size : ℕ) × (y : ZcCore) × (effect i size z ≡ Commits y) × Effects is y z'
 
--- those of two lists, taken apart and put together
+-- the effects of two lists, taken apart and put together
 pub effects_apart : (is js : List Instr) (x z : ZcCore) → Effects (is ++ js) x z → (y : ZcCore) × Effects is x y × Effects js y z
 effects_apart [] js x z h = (x, refl, h)
 effects_apart (i ∷ is) js x z h = let rest = effects_apart is js h.1 z h.3 in (rest.0, (h.0, h.1, h.2, rest.1), rest.2)
@@ -59,7 +59,7 @@ pub record IsReached (es : List Extent) (a : ℕ) : Type 0 where
   pub aligned : a % 4 ≡ 0
   pub lies : lies_in is_data es a 4 ≡ true
 
--- so it is if an access of it commits
+-- an access that commits is aligned and lies in memory
 pub reached_by : (a : ℕ) (z c y : ZcCore) → reaching 4 a z (Commits c) ≡ Commits y → (y ≡ c) × IsReached (extents_of z.memory) a
 reached_by a z c y h = either (eqb (a % 4) 0) (lies_in is_data (extents_of z.memory) a 4) refl refl h
   where
@@ -70,7 +70,7 @@ reached_by a z c y h = either (eqb (a % 4) 0) (lies_in is_data (extents_of z.mem
     either true false s t g = absurd cc
     either false d s t g = absurd cc
 
--- and then each access of it is made
+-- an access that is aligned and lies in memory is made
 pub reaches : (a : ℕ) (z : ZcCore) (go : Effect) → IsReached (extents_of z.memory) a → reaching 4 a z go ≡ go
 reaches a z go is = cond-true (eqb (a % 4) 0) _ _ (eq-eqb (a % 4) 0 is.aligned) ∙ cond-true (lies_in is_data (extents_of z.memory) a 4) _ _ is.lies
 

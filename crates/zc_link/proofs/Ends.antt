@@ -44,7 +44,7 @@ ends_stands {p} {A} {s} {s'} {z} end h = subst (λ x. Stands p A x z) (sym end.s
   place = h.place;
 })
 
--- and states that are ready are alike
+-- after an end, states that are ready are alike
 pub ends_alike : {p : Program} {Named : Place → Type 0} {e : Image} {s s' : PlainCore} {z : ZcCore} → Ended p.map s s' → Ready p Named e s z → Alike p Named e s' z
 ends_alike {p} {Named} {e} {s} {s'} {z} end ready = subst (λ x. Alike p Named e x z) (sym end.state) (record {
   ready = record {

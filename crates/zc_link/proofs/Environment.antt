@@ -92,7 +92,7 @@ module _
         events = ap (λ l. l ++ Exit status ∷ []) from.same ∙ sym events;
       }
 
-  -- with 93 in a7 the machine asks for it, with the low byte of a0
+  -- with 93 in a7 the machine asks for an exit, with the low byte of a0
   wants_exit : (a0 : ℕ) → reg_in w.now 17 ≡ 93 → a0 ≡ reg_in w.now 10 → called w.now ≡ Wants (call.Exit (a0 % 256))
   wants_exit a0 a7 is = cond-true (eqb (reg_in w.now 17) 93) _ _ (eq-eqb (reg_in w.now 17) 93 a7) ∙ ap (λ n. Wants (call.Exit (n % 256))) (sym is)
 

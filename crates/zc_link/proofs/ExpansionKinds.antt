@@ -55,7 +55,7 @@ module _ (list adjust : ℕ) (size : IsFrameSize list adjust) where
         same = record { each = λ d m. m; all = λ d m. m };
       }
 
-  -- there is no rest
+  -- the frame of a halfword has no rest
   none : rest_of list adjust ≡ 0
   none = (let is = size.is in let few = size.few in omega (arith, is, few))
 
@@ -102,6 +102,6 @@ kind_of (MoveAs first second) moved is are = record { kind = MovesFromSaved A0Fi
 kind_of (Base i) any is are = absurd (none-some is are)
 kind_of (TableJump index) any is are = absurd (none-some is are)
 
--- what a halfword spells, if it expands to instructions
+-- the kind of a halfword that expands to instructions
 pub expansion_kind : (half : ℕ) (short : Short) (is : List Instr) → decoded16 half ≡ Some short → expansion short ≡ Some is → IsExpansionKind short is
 expansion_kind half short is spells are = kind_of short (spelled_operands half short spells) is are

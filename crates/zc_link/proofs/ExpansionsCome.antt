@@ -108,7 +108,7 @@ module _ {p : Program} {Named : Place → Type 0} {e : Image} (room : Room p e) 
 
   -- ---- a pop
 
-  -- its return
+  -- the return of a pop
   turn_lands : (m : PlainCore) (y : ZcCore) → Alike p Named e m y → in_turn p.map (return_to_ra ∷ []) next m ≡ Went r'.core made → Lands p Named e (record { core = m; events = r.events }) r' y
   turn_lands m y al g = by (op_does return_to_ra m next) refl one.first
     where
@@ -137,7 +137,7 @@ module _ {p : Program} {Named : Place → Type 0} {e : Image} (room : Room p e) 
       → Comes p Named e cuts 1 z r'
   pop_turns {list} {frame} {order} facts none ending half h listed = by ending half h listed
     where
-      -- one that returns
+      -- a pop that returns
       landed :
           (k : Ending) (at : OneAt e z.core.pc (pop_kind k list (frame_adjust list frame))) → return_ops k ≡ return_to_ra ∷ []
           → in_turn p.map (ops_before_return k frame order ++ return_to_ra ∷ []) next r.core ≡ Went r'.core made → Comes p Named e cuts 1 z r'
@@ -204,7 +204,7 @@ expansion_laid p {e} {a} q (Some (RawShort half)) is laid are = by (decoded16 ha
     by (Some short) spells h = record { short = short; kind = expansion_kind half short is spells h; laid = laid short spells }
 expansion_laid p q (Some (RawPair first second)) is laid are = absurd (none-some is are)
 
--- its step
+-- the step of a halfword that stands for several instructions
 pub expansion_comes :
     {p : Program} {Named : Place → Type 0} {e : Image} (room : Room p e) {r r' : PlainState} {cuts : ℕ → List Interrupt} {z : ZcState} → FromPlace p Named e r cuts z
     → (short : Short) (is : List Instr) → IsExpansionKind short is → ShortLaid p e r.core.place z.core.pc short → SteppedExpansion p is r r' → Comes p Named e cuts 1 z r'

@@ -52,7 +52,7 @@ module _ {p : Program} {Named : Place → Type 0} {e : Image} (room : Room p e) 
   left_by (MovesToSaved order first second) is none s r' made y next pc at h al = one_left room (MoveSa first second) (reg_in y 2) pc at (AMoveSa first second)
   left_by (MovesFromSaved order first second) is none s r' made y next pc at h al = one_left room (MoveAs first second) (reg_in y 2) pc at (AMoveAs first second)
 
-  -- from a sound pair, if the program isn't stuck on the way with these cells written
+  -- a halfword that expands, from a sound pair, if the program doesn't get stuck with these cells written
   pub expansion_from :
       (r after : PlainState) (z : ZcState) (cells : List (ℕ × ℕ)) → Sound p Named e r.core z → All (λ c. IsCell p c.0 × (c.1 < 256)) cells → (short : Short) (is : List Instr) → IsExpansionKind short is
       → ShortLaid p e r.core.place z.core.pc short → SteppedExpansion p is (all_poked cells r) after → OnGroup room 1 z.core

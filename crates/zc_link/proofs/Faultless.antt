@@ -137,7 +137,7 @@ address_some (Some b) h = (b, refl)
 
 -- if the places that begin basic blocks have addresses
 module _ (p : ParsedInputs) (A : Place → Option ℕ) (leaders : ListsLeaders p A) where
-  -- such a place has an address
+  -- a place that begins a basic block has an address
   pub leader_listed : (to : Place) → is_target_at p.objects to ≡ true → is_leader_at p to ≡ true → (b : ℕ) × (A to ≡ Some b)
   leader_listed to target leader = address_some (A to) (leaders to target leader)
 

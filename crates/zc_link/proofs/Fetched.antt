@@ -1,5 +1,5 @@
--- What is fetched from the text of an image: the instruction that a word spells, or one that has the effect of another, which a
--- halfword is the short form of; and padding.
+-- What is fetched from the text of an image: the instruction of a word, or one with the same effect whose short form a halfword
+-- is; and padding.
 use Rattle.std.proofs.Common.{◌≡◌, ◌≢◌, ℕ, zero, suc, pos, ◌+◌, ◌-◌, ◌*◌, ◌/◌, ◌%◌, ◌^◌, ◌<◌, ◌≤◌, inl, inr, List, [], ◌++◌, length, drop, Option, Some, None, Bool, true, false, cond, eqb, refl, sym, ap, ◌∙◌, subst, arith, get_or, length-append}
 use Rattle.std.specs.Option.{option_flatten, option_map}
 use Rattle.std.proofs.lemmas.Bool.{eqb-false, eqb-true}
@@ -36,7 +36,7 @@ use Rattle.zc_link.proofs.ImageMemory.{AreLaidOut, image_of, text_byte, text_lie
 IsShortGroup : ℕ → Option Form → Type 0
 IsShortGroup n row = eqb (n % 4) 3 ≡ false
 
--- what spells something as a halfword isn't the first half of a word
+-- a halfword that is a short instruction isn't the first half of a word
 pub short_low : (half : ℕ) (s : Short) → decoded16 half ≡ Some s → field half 0 2 ≢ 3
 unfolding decoded16 form_of IsShortGroup
 short_low half s is low = by (row_of (groups half) (group_of half)) refl is
@@ -58,7 +58,7 @@ nop_spells : decoded nop ≡ Some (instr.WithImm Addi 0 0 (pos 0))
 unfolding decoded
 nop_spells = refl
 
--- and so as a halfword
+-- the halfword that does nothing is `addi x0,x0,0`
 short_nop_spells : decoded16 short_nop ≡ Some (Base (instr.WithImm Addi 0 0 (pos 0)))
 unfolding decoded16 form_of
 short_nop_spells = refl
@@ -69,13 +69,13 @@ module _ (p : Program) (parts : Parts) (out : AreLaidOut p parts) where
   abbrev e : Image
   e = image_of p.map parts
 
-  -- these bytes stand in the text at an address
+  -- these bytes are in the text at an address
   pub record StandAt (a : ℕ) (bytes : List ℕ) : Type 0 where
     pub low : p.map.text ≤ a
     pub high : a + length bytes ≤ p.map.text + length parts.text
     pub each : (j : ℕ) → j < length bytes → byte_in (loaded_core e) (a + j) ≡ get_or bytes j 0
 
-  -- so do any bytes of the text
+  -- bytes of the text are there at their address
   pub stand_at : (a n : ℕ) → p.map.text ≤ a → a + n ≤ p.map.text + length parts.text → StandAt a (bytes_from parts.text (a - p.map.text) n)
   stand_at a n low within =
       let at = a - p.map.text in
@@ -89,7 +89,7 @@ module _ (p : Program) (parts : Parts) (out : AreLaidOut p parts) where
             text_byte p parts out (a + j) (omega arith) (omega arith) ∙ ap (λ k. get_or parts.text k 0) index ∙ sym (get_or-drop at parts.text j 0) ∙ sym (get_or-take n (drop at parts.text) j 0 inside);
       }
 
-  -- those that come first stand there
+  -- the first bytes are there at the address
   pub stand_first : (a : ℕ) (xs ys : List ℕ) → StandAt a (xs ++ ys) → StandAt a xs
   stand_first a xs ys st = record {
     low = st.low;
@@ -97,7 +97,7 @@ module _ (p : Program) (parts : Parts) (out : AreLaidOut p parts) where
     each = λ j lt. st.each j (omega (arith, lt, length-append xs ys)) ∙ get_or_append_left xs ys 0 j lt;
   }
 
-  -- and those after them
+  -- the bytes after the first ones are there, after these
   pub stand_next : (a : ℕ) (xs ys : List ℕ) → StandAt a (xs ++ ys) → StandAt (a + length xs) ys
   stand_next a xs ys st = record {
     low = omega (arith, st.low);
@@ -107,7 +107,7 @@ module _ (p : Program) (parts : Parts) (out : AreLaidOut p parts) where
         ap (byte_in (loaded_core e)) sum ∙ st.each (length xs + j) (omega (arith, lt, length-append xs ys)) ∙ get_or-append-add xs ys j 0;
   }
 
-  -- a word that spells an instruction is fetched
+  -- a word that is an instruction is fetched
   unfoldable pub one_at : (a : ℕ) (bytes : List ℕ) (i : Instr) → StandAt a bytes → SpellsWord bytes i → OneAt e a (Base i)
   one_at a bytes i st sp =
       let w = sp.word in
@@ -129,7 +129,7 @@ module _ (p : Program) (parts : Parts) (out : AreLaidOut p parts) where
         small = omega (arith, high, four, short, map.code, map.data_room, map.top);
       }
 
-  -- so is what a halfword spells
+  -- a halfword that is an instruction is fetched
   unfoldable pub half_at_address : (a half : ℕ) (bytes : List ℕ) (s : Short) → StandAt a bytes → half < 2 ^ 16 → bytes ≡ half_bytes half → decoded16 half ≡ Some s → OneAt e a s
   half_at_address a half bytes s st small are spells =
       let two : length bytes ≡ 2 = ap length are in
@@ -146,14 +146,14 @@ module _ (p : Program) (parts : Parts) (out : AreLaidOut p parts) where
         small = omega (arith, high, two, short, map.code, map.data_room, map.top);
       }
 
-  -- n bytes that spell an instruction: it is fetched, or another with its effect
+  -- n bytes that are an instruction: it is fetched, or another one with its effect
   pub record SpelledAt (a n : ℕ) (i : Instr) : Type 0 where
     pub here : Instr
     pub same : SameEffect here i
     pub at : OneAt e a (Base here)
     pub long : at.size ≡ n
 
-  -- so it is of bytes that stand there
+  -- an instruction in n bytes of the text is fetched
   pub spelled_at : (a n : ℕ) (bytes : List ℕ) (i : Instr) → StandAt a bytes → IsSpelled n bytes i → SpelledAt a n i
   unfolding one_at half_at_address
   spelled_at a n bytes i st (inl w) = record { here = i; same = λ size z. refl; at = one_at a bytes i st w.1; long = sym w.0 }
@@ -176,7 +176,7 @@ module _ (p : Program) (parts : Parts) (out : AreLaidOut p parts) where
       let end : a + 4 + 4 * count ≡ a + 4 * suc count = omega arith in
       (first, subst (Nops e (a + 4) count) end (words_at count (a + 4) (stand_next a (word_bytes nop) (copies nop count) st)))
 
-  -- and a halfword before them if they don't fill the bytes
+  -- padding is fetched as instructions that do nothing, with a halfword first if words don't fill the bytes
   pub nops_at : (a n : ℕ) (bytes : List ℕ) → n % 2 ≡ 0 → StandAt a bytes → bytes ≡ padding n → Nops e a (padding_commits n) (a + n)
   unfolding half_at_address
   nops_at a n bytes even st are = by (eqb (n % 4) 2) refl (subst (StandAt a) are st)

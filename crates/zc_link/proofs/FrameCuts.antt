@@ -161,7 +161,7 @@ module _ (low : ℕ) (ds : List Slot) (no_sp : AvoidSp ds) (y : ZcCore) (stack :
       subst (λ t. K (done_all (Push list adjust) (words_below t (registers_of list)) js z)) (sym (k.registers 2 no_sp))
       (all_done K (Push list adjust) (words_below (reg_in y 2) (registers_of list)) (push_each facts deep small) js z k)
 
-  -- and so do all of them
+  -- after all of the interrupts before a push's commit its slots are as they were
   pub push_all_kept :
       {list frame : ℕ} {order : List Slot} → FrameFacts list frame order → (adjust : ℕ) → low + frame ≤ reg_in y 2 → reg_in y 2 < 2 ^ 32
       → K y → K (all_accessed (Push list adjust) (accesses_of (Push list adjust) (reg_in y 2)) y)

@@ -28,7 +28,7 @@ abbrev access_at : ℕ → ℕ → Access
 access_at a r = record { at = a; register = r }
 
 module _ (base : ℕ) where
-  -- those that lie in memory are made
+  -- accesses to slots that lie in memory are made
   all_reached :
       (rs : List ℕ) (top : ℕ) (z : ZcCore) (go : Effect) → 4 * length rs ≤ top → base + top < 2 ^ 32 → AreReached (extents_of z.memory) base (slots_below top rs)
       → reaching_all (words_below (base + top) rs) z go ≡ go
@@ -135,7 +135,7 @@ retz_restored : (list adjust : ℕ) (xs : List Access) (z : ZcCore) → all_acce
 retz_restored list adjust [] z = refl
 retz_restored list adjust (a ∷ xs) z = retz_restored list adjust xs (restored a z)
 
--- so the effect is this, with sp as it is after
+-- the effect of a pop, with sp as it is afterwards
 pop_effect :
     (ending : Ending) (list adjust size : ℕ) (z : ZcCore)
     → short_effect (pop_kind ending list adjust) size z
@@ -172,7 +172,7 @@ pub record PopMade (ending : Ending) (list frame size : ℕ) (y z zf : ZcCore) :
   pub memory_f : zf.memory ≡ y.memory
   pub rest_f : KeepsRest y zf
 
--- both set sp
+-- two lists of registers in both of which sp is set
 set_sp :
     (xs ys : List ℕ) (v w r : ℕ) → length xs ≡ 32 → length ys ≡ 32 → v ≡ w → (r ≢ 2 → reads 0 0 xs r ≡ reads 0 0 ys r)
     → reads 0 0 (set_reg xs 2 v) r ≡ reads 0 0 (set_reg ys 2 w) r

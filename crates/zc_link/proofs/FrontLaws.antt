@@ -1,4 +1,4 @@
--- What stands in front of the first section: how many bytes that are, what a slot of the table holds and where the stub stands
+-- What comes before the first section: its number of bytes, what a slot of the table holds, and where the stub is
 -- (`slot_in_front`, `stub_in_front`). The stub's jump reaches the program's start and lands there (`stub_reaches`, `stub_lands`).
 use Rattle.std.proofs.Common.{◌≡◌, ℕ, zero, suc, ◌+◌, ◌-◌, ◌*◌, ◌^◌, ◌<◌, ◌≤◌, inl, inr, List, [], ◌∷◌, length, take, drop, true, cond, eqb, Option, Some, refl, sym, ap, ◌∙◌, subst, arith, get_or, slice_get, length-append}
 use Rattle.std.specs.Int.{w32}
@@ -76,7 +76,7 @@ module _ (L : TextLayout) (bytes : List ℕ) where
       ∙ first_bytes (table_bytes L.address L.slots) f.stub (4 * n) 4 (omega (arith, slice_get_within L.slots n slot at, length-table_bytes L.address L.slots))
       ∙ slot_there L.address L.slots n slot at
 
-  -- and the stub
+  -- the stub's words come after the table
   pub stub_in_front : IsFront L bytes → 0 < length L.slots → AreWordsOf (stub_instrs L.inputs.map.text (stub_distance L)) (drop (4 * length L.slots) bytes)
   stub_in_front (inl (none, is)) some = absurd (omega (arith, none, some))
   stub_in_front (inr (some, f)) more =
@@ -107,7 +107,7 @@ module _ (L : TextLayout) where
   pub starts_there : length L.slots ≡ 0 → image_entry L ≡ start_address L
   starts_there none = ap (λ b. cond b (start_address L) (stub_address L)) (eq-eqb (length L.slots) 0 none)
 
-  -- and with some at the stub
+  -- with slots the image starts at the stub
   pub starts_at_stub : 0 < length L.slots → image_entry L ≡ stub_address L
   starts_at_stub some =
       ap (λ b. cond b (start_address L) (stub_address L))
@@ -138,7 +138,7 @@ module _ (L : TextLayout) (is_map : IsMap L.inputs.map) (laid : IsLaidOut L) (so
         near = omega (arith, high, short);
       }
 
-  -- so it reaches
+  -- the stub's jump reaches the program's start
   pub stub_reaches : jal_reach (stub_distance L) ≡ true
   stub_reaches =
       let b = is_behind in
@@ -147,7 +147,7 @@ module _ (L : TextLayout) (is_map : IsMap L.inputs.map) (laid : IsLaidOut L) (so
       way_jumps (stub_address L + 8) (start_address L) b.small b.word b.near (omega (arith, low)) (omega (arith, page))
       (laid.even (entry_of (parsed L.inputs)) (start_address L) laid.start)
 
-  -- and lands there
+  -- the stub's jump lands at the program's start
   pub stub_lands : add32 (stub_address L + 8) (stub_distance L) ≡ start_address L
   stub_lands =
       let b = is_behind in

@@ -1,6 +1,6 @@
 -- What is written for a group: the bytes of its halfword, alone or with those of the instruction that moves sp by the rest of its frame.
-use Rattle.std.proofs.Common.{◌≡◌, ◌∙◌, ℕ, ◌+◌, ◌-◌, ◌<◌, ◌^◌, inl, inr, ◌++◌, Bool, true, false, cond, eqb, Option, Some, None, refl, sym, ap, subst, arith, pos, negsuc, List}
-use Rattle.std.specs.Option.{is_some, option_map, unwrap_or}
+use Rattle.std.proofs.Common.{◌≡◌, ◌∙◌, ℕ, ◌+◌, ◌-◌, ◌<◌, ◌^◌, inl, inr, ◌++◌, Bool, true, false, cond, eqb, Some, None, refl, sym, ap, subst, arith, pos, negsuc, List}
+use Rattle.std.specs.Option.{is_some, option_map}
 use Rattle.std.proofs.lemmas.Bool.{eqb-true, false_from_ne_true}
 use Rattle.zc_base.specs.Fields.{half_bytes, word_bytes}
 use Rattle.rv_decode.specs.Decode.{decoded}
@@ -22,7 +22,7 @@ use Rattle.zc_link.proofs.Adds.{AreBytes, bytes_append, half_are, word_are}
 
 -- ---- halfwords
 
--- what no word spells is its own normal form
+-- an instruction that has no 32-bit form is its own normal form
 normal_itself : (s : Short) → HasNoWord s → normal_short s ≡ s
 normal_itself (Base i) other = absurd other
 normal_itself (Push list adjust) other = refl
@@ -33,7 +33,7 @@ normal_itself (MoveSa first second) other = refl
 normal_itself (MoveAs first second) other = refl
 normal_itself (TableJump index) other = refl
 
--- so what has the same normal form is the same
+-- two instructions with one normal form that has no 32-bit form are the same
 same_normal : (x s : Short) → HasNoWord s → normal_short x ≡ s → x ≡ s
 same_normal (Base i) s other same = absurd (subst HasNoWord (sym same) other)
 same_normal (Push list adjust) s other same = same
@@ -44,18 +44,17 @@ same_normal (MoveSa first second) s other same = same
 same_normal (MoveAs first second) s other same = same
 same_normal (TableJump index) s other same = same
 
--- the first halfword for it spells it
-pub half_spells : (s : Short) (o : Option ℕ) (half : ℕ) → HasHalf s → o ≡ encoded16 s → IsEncoding s o → half ≡ unwrap_or o 0 → SpellsHalf (half_bytes half) s
+-- an instruction's first halfword is that instruction
+pub half_spells : (s : Short) (half : ℕ) → HasHalf s → encoded16 s ≡ Some half → IsEncoding s (Some half) → SpellsHalf (half_bytes half) s
 unfolding decoded16
-half_spells s None half has is first value = absurd (let none = ap is_some is in let some = has.1 in cc)
-half_spells s (Some h) half has is first value = subst (λ (x : ℕ). SpellsHalf (half_bytes x) s) (sym value) (record {
-  half = h;
+half_spells s half has is first = record {
+  half = half;
   small = first.spells.small;
   are = refl;
-  first = sym is;
-  spells = ap (option_map (λ form. spelled form h)) first.spells.row
-      ∙ ap Some (same_normal (spelled first.form h) s has.0 (first.spells.same ∙ normal_itself s has.0));
-})
+  first = is;
+  spells = ap (option_map (λ form. spelled form half)) first.spells.row
+      ∙ ap Some (same_normal (spelled first.form half) s has.0 (first.spells.same ∙ normal_itself s has.0));
+}
 
 -- ---- two instructions
 
@@ -87,7 +86,7 @@ module _ (g : Group) (some : 0 < g.rest) (half : ℕ) (spells : SpellsHalf (half
       rest = rest;
     }
 
-  -- it has a short form
+  -- the instruction for the rest of the frame has a short form
   module _ (short : ℕ) (small : short < 2 ^ 16) (found : encoded16 (Base (rest_instr g)) ≡ Some short) (same : HasEffectOf (rest_instr g) short) where
     four : group_size g ≡ 4
     four = size_with 2 (ap (λ o. cond (is_some o) 2 4) found)

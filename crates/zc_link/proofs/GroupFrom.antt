@@ -52,13 +52,13 @@ pub record Poked (p : Program) (Named : Place → Type 0) (e : Image) (r' : Plai
   pub alike : Alike p Named e r'.core y
   pub regs : y.regs ≡ z.regs
 
--- they stay where they are
+-- with cells of data written, places stay as they are
 pub poked_place : (cells : List (ℕ × ℕ)) (r : PlainState) → (all_poked cells r).core.place ≡ r.core.place
 poked_place [] r = refl
 poked_place (c ∷ cs) r = poked_place cs (poked_plain c r)
 
 module _ {p : Program} {Named : Place → Type 0} {e : Image} (room : Room p e) where
-  -- one cell
+  -- with one cell of data written, states are still alike
   poked_alike :
       (c : ℕ × ℕ) (s : PlainCore) (z : ZcCore) → IsCell p c.0 → c.1 < 256 → Alike p Named e s z
       → Alike p Named e (record s { memory = changed (written c.0 1 (λ _. Num c.1)) s.memory }) (with_byte c.0 c.1 z)
@@ -90,7 +90,7 @@ module _ {p : Program} {e : Image} (room : Room p e) where
   pub one_left : (s : Short) (sp pc : ℕ) → OneAt e pc s → StandsBy p sp s → Left room 1 sp pc
   one_left s sp pc at st = (s, at, st, λ more. absurd (omega (arith, more)))
 
-  -- the same instruction stands at an address that is equal
+  -- an instruction at an address is at any address that is equal
   at_same : {s : Short} {a b : ℕ} → a ≡ b → OneAt e a s → OneAt e b s
   at_same same at = record { size = at.size; here = ap (fetched_at (loaded_core e)) (sym same) ∙ at.here; small = (let small = at.small in omega (arith, small, same)) }
 
@@ -210,7 +210,7 @@ module _ {p : Program} {e : Image} (room : Room p e) where
     left_by end (MovesToSaved order first second) is r r' y pc ops at h al = one_left (MoveSa first second) (reg_in y 2) pc at.half (AMoveSa first second)
     left_by end (MovesFromSaved order first second) is r r' y pc ops at h al = one_left (MoveAs first second) (reg_in y 2) pc at.half (AMoveAs first second)
 
-    -- from a sound pair, if the program isn't stuck on the way with these cells written
+    -- a group, from a sound pair, if the program doesn't get stuck with these cells written
     pub group_from :
         {items commits : ℕ} (r after : PlainState) (z : ZcState) (cells : List (ℕ × ℕ)) → Sound p Named e r.core z → All (λ c. IsCell p c.0 × (c.1 < 256)) cells
         → GroupLaid p e r.core.place z.core.pc items commits → iterate (plain_turn p) items (all_poked cells r) ≡ Ok after → OnGroup room commits z.core

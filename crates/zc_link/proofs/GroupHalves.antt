@@ -4,8 +4,9 @@ use Rattle.std.specs.Prelude.{◌&&◌}
 use Rattle.std.proofs.lemmas.Bool.{and_from, eqb-true, false_from_ne_true, le-leb, le-ltb, lt-ltb}
 use Rattle.std.specs.Option.{is_some}
 use Rattle.zc_decode.specs.Lists.{stack_adjust_base}
+use Rattle.zc_decode.specs.Operands.{IsMoved}
 use Rattle.zc_encode.specs.Halves.{move_half, s_code}
-use Rattle.zc_link.specs.Invariants.Groups.{GoesOn, GroupKind, IsFrame, IsGroup, IsSaved, MovesFromSaved, MovesToSaved, PopOf, PushOf, Returns, Slot, ZeroBeforeRaise, ZeroBeforeReturn, ZeroFirst, frame_adjust, group_half, group_rest}
+use Rattle.zc_link.specs.Invariants.Groups.{GoesOn, GroupKind, IsFrame, IsGroup, MovesFromSaved, MovesToSaved, PopOf, PushOf, Returns, Slot, ZeroBeforeRaise, ZeroBeforeReturn, ZeroFirst, frame_adjust, group_half, group_rest}
 use Rattle.zc_link.specs.Standing.{HasHalf}
 
 -- a list's base is a multiple of 16
@@ -41,7 +42,7 @@ some_when true x is = refl
 some_when false x is = absurd cc
 
 -- the number of a saved register is below 8
-saved_code : (r : ℕ) → IsSaved r → ltb (s_code r) 8 ≡ true
+saved_code : (r : ℕ) → IsMoved r → ltb (s_code r) 8 ≡ true
 saved_code r (inl low) =
     let first : (leb 8 r && ltb r 10) ≡ true = and_from (leb 8 r) (ltb r 10) (le-leb 8 r low.0) (lt-ltb r 10 (let to = low.1 in omega (arith, to))) in
     ap (λ b. ltb (cond b (r - 8) (cond (leb 18 r && ltb r 24) (r - 16) 8)) 8) first ∙ lt-ltb (r - 8) 8 (let to = low.1 in omega (arith, to))

@@ -42,7 +42,7 @@ drop_next (y ∷ ys) (suc k) x rest is = drop_next ys k x rest is
 
 -- ---- one item after another
 
--- so many items on an item of the same section starts, with as many more before it
+-- k items after q, an item of the same section starts, which has k items more before it
 pub record IsAlong (inputs : ParsedInputs) (q : Place) (s : SectionParts) (k : ℕ) : Type 0 where
   pub here : code_at inputs.objects (after_items inputs.objects k q) ≡ Some s
   pub start : starts_on s (after_items inputs.objects k q).offset ≡ true
@@ -154,7 +154,7 @@ module _ (inputs : Inputs) (none : gather_fault inputs ≡ None) where
       by true g = absurd cc
       by false g = record { spot = s; rest = ss; are = refl; ops = g }
 
-  -- so the items from a place on are these instructions
+  -- the items from a place on are these instructions
   module _ (program : Program) (item : program.item ≡ item_at given) (next : program.next ≡ next_at given.objects) where
     ops_along : (is tail : List Instr) (q : Place) (s : SectionParts) (spot : Spot) (rest : List Spot) → code_at given.objects q ≡ Some s
         → starts_on s q.offset ≡ true → drop (index_on s q.offset) (map (spot_on given (own q s)) (starts_in s)) ≡ spot ∷ rest
@@ -237,7 +237,7 @@ module _ (inputs : Inputs) (none : gather_fault inputs ≡ None) where
           ops = λ program item next. ops_along program item next (group_ops found.kind) found.tail q s starts.spot starts.rest here start starts.here found.first;
         }
 
-    -- its first item is an instruction without relocation
+    -- the first item of a group is an instruction without relocation
     pub group_op : (i : Instr) × (item_at given q ≡ Some (Op i))
     group_op =
         let known = group_known in

@@ -93,7 +93,7 @@ above_data a b _ words under (ASum i imm same) = tt
 
 -- ---- commits
 
--- its effect with another byte of data
+-- the effect of such an instruction with another byte of data
 stands_with :
     {p : Program} (a b : ℕ) (s : Short) (size : ℕ) (y y' : ZcCore) → reg_in y 2 < 2 ^ 32 → a < p.map.stack_low → StandsBy p (reg_in y 2) s → short_effect s size y ≡ Commits y'
     → short_effect s size (with_byte a b y) ≡ Commits (with_byte a b y')
@@ -162,7 +162,7 @@ turn_of s size y z z' none h = by (short_effect s size y) refl none h
 module _ {p : Program} {e : Image} (room : Room p e) where
   -- ---- what is left to commit
 
-  -- so many instructions are left at pc with sp, one after another: what each but the last leaves is such a state again
+  -- with this sp and pc this many instructions are left, one after another: after each but the last such a state holds again
   abbrev pub Left : ℕ → ℕ → ℕ → Type 0
   Left zero sp pc = Unit {0}
   Left (suc k) sp pc =
@@ -170,7 +170,7 @@ module _ {p : Program} {e : Image} (room : Room p e) where
       × (0 < k → (y y' : ZcCore) → IsReady room y → length y.regs ≡ 32 → reg_in y 2 ≡ sp → y.pc ≡ pc → short_effect s at.size y ≡ Commits y'
       → IsReady room y' × (length y'.regs ≡ 32) × Left k (reg_in y' 2) y'.pc)
 
--- a state with so many left
+-- a state in which k instructions of a group are left
 pub record OnGroup {p : Program} {e : Image} (room : Room p e) (k : ℕ) (y : ZcCore) : Type 0 where
   pub ready : IsReady room y
   pub long : length y.regs ≡ 32
@@ -238,7 +238,7 @@ module _ {p : Program} {e : Image} (room : Room p e) where
     left = on.left;
   }
 
-  -- the turn of what stands there
+  -- the turn of the instruction at pc
   group_turn :
       (s : Short) (z : ZcState) → z.core.exit ≡ None → SameText (loaded_core e) z.core → (at : OneAt e z.core.pc s)
       → zc_turn [] z ≡ committed (effect_step (short_effect s at.size z.core) z.core) z

@@ -1,5 +1,5 @@
--- A group's law is its step: from a sound pair the steps of its items are its commits, whatever interrupts come before them. On the way
--- there is no event, and no place is listed.
+-- The law of a group: from a sound pair the steps of its items are matched by its commits, whatever interrupts come before them.
+-- In between there is no event, and no place is listed.
 use Rattle.std.proofs.Common.{◌≡◌, ℕ, ◌+◌, ◌<◌, ◌≤◌, List, length, length-append, Some, None, Ok, sym, ap, ◌∙◌, subst, arith}
 use Rattle.zc_base.specs.declared.place.Place.{Place}
 use Rattle.interrupt_plan.specs.Plan.{Interrupt}

@@ -13,6 +13,7 @@ use Rattle.rv_decode.specs.declared.instr.ImmOp.TheVariants.{Addi, Slti, Sltiu, 
 use Rattle.rv_decode.specs.declared.instr.LoadOp.TheVariants.{Lb, Lh, Lw, Lbu, Lhu}
 use Rattle.rv_decode.specs.declared.instr.StoreOp.TheVariants.{Sb, Sh, Sw}
 use Rattle.zc_decode.specs.Lists.{stack_adjust_base, registers_of}
+use Rattle.zc_decode.specs.Operands.{IsMoved}
 use Rattle.zc_decode.specs.declared.short.Short.{Short}
 use Rattle.zc_decode.specs.declared.short.Short.TheVariants.{MoveAs, MoveSa}
 use Rattle.frame_match.specs.Matches.{all_found, are_accesses, before, ending_items, either_pair, endings, frame_at, frame_by, has_accesses, is_access, is_begun, is_frame, is_from_saved, is_saved, is_to_saved, lists, longer_of, longest_of, moves_in, pair_of, pop_by, pop_in, pop_of, pops_in, push_in, push_of, pushes_in, slots_below}
@@ -24,7 +25,7 @@ use Rattle.frame_match.specs.declared.found.Move.{Move}
 use Rattle.frame_match.specs.declared.slot.Access.{Access}
 use Rattle.frame_match.specs.declared.slot.Access.TheVariants.{Saves, Restores}
 use Rattle.frame_match.specs.declared.slot.Slot.{Slot}
-use Rattle.zc_link.specs.Invariants.Groups.{A0First, A1First, GroupKind, IsFrame, IsGroup, IsSaved, MovesFromSaved, MovesToSaved, PopOf, PushOf, SameSlots, group_half, group_ops, group_rest, slot_loads, lower_sp, move_to, raise_sp, return_to_ra, stores_of, zero_a0}
+use Rattle.zc_link.specs.Invariants.Groups.{A0First, A1First, GroupKind, IsFrame, IsGroup, MovesFromSaved, MovesToSaved, PopOf, PushOf, SameSlots, group_half, group_ops, group_rest, slot_loads, lower_sp, move_to, raise_sp, return_to_ra, stores_of, zero_a0}
 use Rattle.zc_link.proofs.Slots.{IsOneOf, contained_one, one_contained}
 
 -- ---- what is asked of an instruction
@@ -352,7 +353,7 @@ each_flat P f test (x ∷ xs) h each =
     let q = all_passes test x xs h in
     each_both P (f x) (flat_map f xs) (each x q.0) (each_flat P f test xs q.1 each)
 
--- one that is found if a test passes
+-- what holds of a thing that is found only if a test passes
 each_if : {X : Type 0} (P : X → Type 0) (b : Bool) (x : X) → (b ≡ true → P x) → Each P (cond b (x ∷ []) [])
 each_if P true x h = (h refl, tt)
 each_if P false x h = tt
@@ -544,7 +545,7 @@ module _ (is : List Instr) where
 
 -- ---- moves
 
-saved_is : (r : ℕ) → is_saved r ≡ true → IsSaved r
+saved_is : (r : ℕ) → is_saved r ≡ true → IsMoved r
 saved_is r h = ⊎_elim
     (λ low. let q = and_parts (leb 8 r) (leb r 9) low in inl (leb-true 8 r q.0, leb-true r 9 q.1))
     (λ high. let q = and_parts (leb 18 r) (leb r 23) high in inr (leb-true 18 r q.0, leb-true r 23 q.1))
@@ -556,8 +557,8 @@ moved_there (Some i) m h = ap Some (move_is i m h)
 
 -- two moves of which the first is that of a0, and what is written for them
 data IsPair (a b : Move) (s : Short) : Type 0 where
-  ToSaved : a.source ≡ 10 → b.source ≡ 11 → IsSaved a.rd → IsSaved b.rd → b.rd ≢ a.rd → MoveSa a.rd b.rd ≡ s → IsPair a b s
-  FromSaved : a.rd ≡ 10 → b.rd ≡ 11 → IsSaved a.source → IsSaved b.source → MoveAs a.source b.source ≡ s → IsPair a b s
+  ToSaved : a.source ≡ 10 → b.source ≡ 11 → IsMoved a.rd → IsMoved b.rd → b.rd ≢ a.rd → MoveSa a.rd b.rd ≡ s → IsPair a b s
+  FromSaved : a.rd ≡ 10 → b.rd ≡ 11 → IsMoved a.source → IsMoved b.source → MoveAs a.source b.source ≡ s → IsPair a b s
 
 pair_is : (a b : Move) (s : Short) → pair_of a b ≡ Some s → IsPair a b s
 pair_is a b s h = by (is_to_saved a b) (is_from_saved a b) refl refl h
@@ -578,7 +579,7 @@ pair_is a b s h = by (is_to_saved a b) (is_from_saved a b) refl refl h
     by false false to from g = absurd cc
 
 module _ (is : List Instr) where
-  -- of two moves, in either order, one is found
+  -- two moves, in either order, are found as one halfword
   abbrev pair_found : Short → Found
   pair_found s = record { items = 2; kind = s; rest = 0 }
 
@@ -652,7 +653,7 @@ longest_holds P (x ∷ xs) o f each held h = longest_holds P xs (longer_of o x) 
         either true t = let same : x ≡ g = cc in subst P same each.0
         either false t = before g t
 
--- so what is found is a group that the instructions begin with
+-- what is found is a group that the instructions begin with
 pub longest_is : (is : List Instr) (f : Found) → longest_of is ≡ Some f → IsFound is f
 unfolding longest_of
 longest_is is f h =

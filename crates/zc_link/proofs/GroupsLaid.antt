@@ -1,5 +1,5 @@
--- A group whose bytes stand in an image stands there as a push, a pop or two moves: its halfword, and what moves sp by the rest of its
--- frame behind a push and before a pop (`group_at`).
+-- A group whose bytes are in an image is there as a push, a pop or two moves: its halfword, and what moves sp by the rest of its
+-- frame after a push and before a pop (`group_at`).
 use Rattle.std.proofs.Common.{◌≡◌, ◌∙◌, ℕ, ◌+◌, ◌-◌, ◌<◌, ◌≤◌, inl, inr, List, ◌++◌, length, true, false, cond, eqb, pos, negsuc, refl, sym, ap, subst, arith}
 use Rattle.elf32_write.specs.Parts.{Parts}
 use Rattle.frame_match.specs.declared.group.Group.{Group}
@@ -21,7 +21,7 @@ use Rattle.zc_link.proofs.ImageMemory.{AreLaidOut, image_of}
 
 -- ---- groups as they were found
 
--- a group takes as many instructions as its kind
+-- a group takes the number of instructions of its kind
 pub commits_are : (g : Group) (kind : GroupKind) → g.rest ≡ group_rest kind → commits_in g ≡ group_commits kind
 commits_are g kind rest = ap (λ n. cond (eqb n 0) 1 2) rest ∙ by kind
   where
@@ -43,7 +43,7 @@ pop_no_push ZeroFirst list adjust = refl
 pop_no_push ZeroBeforeRaise list adjust = refl
 pop_no_push ZeroBeforeReturn list adjust = refl
 
--- an instruction has as many bytes as it is spelled in
+-- an instruction has the number of bytes that it is written in
 spelled_long : (n : ℕ) (bytes : List ℕ) (i : Instr) → IsSpelled n bytes i → length bytes ≡ n
 spelled_long n bytes i (inl w) = ap length w.1.are ∙ sym w.0
 spelled_long n bytes i (inr h) = ap length h.1.are ∙ sym h.0

@@ -1,4 +1,5 @@
--- A text that grows: what it holds it keeps, and one unit more, a place inside a group, a gap, or a section's end make it the text so far again.
+-- A text that grows: it keeps what it holds, and with one unit, one place inside a group, a gap, or a section's end more it is
+-- again the text up to its end.
 use Rattle.std.proofs.Common.{◌≡◌, ℕ, ◌+◌, ◌-◌, ◌<◌, ◌≤◌, List, [], ◌∷◌, ◌++◌, length, take, drop, Some, None, refl, sym, ap, ◌∙◌, subst, arith, length-append, ⊎_elim}
 use Rattle.std.specs.Prelude.{All, replicate}
 use Rattle.std.specs.List.{flat_map}
@@ -42,7 +43,7 @@ module _ (L : TextLayout) where
 
   -- ---- what a text holds
 
-  -- it keeps
+  -- a longer text holds what the shorter one held
   holds_more : (text more : List ℕ) (e : Place × ℕ) → HoldsPlace L text e → HoldsPlace L (text ++ more) e
   holds_more text more e holds u is =
       let h = holds u is in
@@ -92,7 +93,7 @@ module _ (L : TextLayout) where
       (λ (late : start + length text + length bytes ≤ start + k). absurd (omega (arith, late, lt, length-append text bytes)))
       (gap q v (start + length text) (length bytes) is address next)
 
-  -- and zeros are 0
+  -- zeros that are added are 0
   zero_gaps : (text : List ℕ) (n : ℕ) → GapsAreZero L text → GapsAreZero L (text ++ replicate n 0)
   zero_gaps text n before k past lt gap = ⊎_elim
       (λ (front : k < length text). get_or_append_left text (replicate n 0) 0 k front ∙ before k past front gap)
@@ -103,7 +104,7 @@ module _ (L : TextLayout) where
 
   -- ---- the text so far
 
-  -- with one place more
+  -- the list of places with one place more
   listed_more :
       (targets : List Place) (q : Place) (a : ℕ) (places : List (Place × ℕ)) → places ≡ flat_map (with_address L) targets
       → L.address q ≡ Some a → places ++ (q, a) ∷ [] ≡ flat_map (with_address L) (targets ++ q ∷ [])

@@ -1,5 +1,5 @@
--- The normal forms of what halfwords spell: none is `ecall`, a branch compares one of x8 to x15 with x0 for equality, and a jump links x0
--- or ra. So a branch or jump has a short form at each distance that this reaches.
+-- The normal forms of instructions of two bytes: none is `ecall`, a branch compares one of x8 to x15 with x0 for equality, and a
+-- jump links x0 or ra. So a branch or jump has a short form at each distance in the short form's range.
 use Rattle.std.proofs.Common.{◌≡◌, ℕ, ℤ, pos, ◌<◌, ◌≤◌, ◌⊎◌, inl, inr, Bool, true, false, cond, eqb, leb, ltb, List, Option, Some, None, refl, sym, ap, ◌∙◌, subst, arith}
 use Rattle.std.specs.Prelude.{◌&&◌}
 use Rattle.std.specs.Option.{is_some, option_map}
@@ -7,6 +7,7 @@ use Rattle.std.proofs.lemmas.Bool.{and_from, le-leb, le-ltb, lt-ltb}
 use Rattle.std.proofs.lemmas.Option.{same_Some}
 use Rattle.zc_base.specs.Fields.{half_in}
 use Rattle.psabi_reloc.specs.Reaches.{short_branch_reach, short_jump_reach}
+use Rattle.rv_decode.specs.Formats.{rd_of}
 use Rattle.rv_decode.specs.Normal.{normal_of, normal_reg}
 use Rattle.rv_decode.specs.declared.instr.BranchOp.{BranchOp}
 use Rattle.rv_decode.specs.declared.instr.BranchOp.TheVariants.{Beq, Bne, Blt, Bge, Bltu, Bgeu}
@@ -17,7 +18,7 @@ use Rattle.rv_decode.specs.declared.instr.RegOp.{RegOp}
 use Rattle.rv_decode.specs.declared.instr.RegOp.TheVariants.{Add, Sub, Sll, Slt, Sltu, Xor, Srl, Sra, Or, And, Mul, Mulh, Mulhsu, Mulhu, Div, Divu, Rem, Remu}
 use Rattle.block_cut.specs.Relocs.{normal_base, instr_in}
 use Rattle.shrink_layout.specs.Pieces.{is_short}
-use Rattle.zc_decode.specs.Fields.{c_rd_of, c_rs2_of, cb_offset_of, high_reg_of, low_reg_of}
+use Rattle.zc_decode.specs.Fields.{c_rs2_of, cb_offset_of, high_reg_of, low_reg_of}
 use Rattle.zc_decode.specs.Halfwords.{decoded16, spelled}
 use Rattle.zc_decode.specs.Rows.{form_of}
 use Rattle.zc_decode.specs.declared.form.Form.{Form}
@@ -34,7 +35,7 @@ pub record IsZeroBranch (op : BranchOp) (first second : ℕ) : Type 0 where
   pub high : first < 16
   pub zero : second ≡ 0
 
--- what the normal form of what a halfword spells can be
+-- what the normal form of an instruction of two bytes can be
 abbrev pub IsHalfNormal : Instr → Type 0
 IsHalfNormal Ecall = ⊥
 IsHalfNormal (Branch op first second distance) = IsZeroBranch op first second
@@ -125,10 +126,10 @@ form_normal CBnez half = zero_normal Bne half (cb_offset_of half) (inr refl)
 form_normal CSlli half = tt
 form_normal CLwsp half = tt
 form_normal CJr half = tt
-form_normal CMv half = reg_normal Add (c_rd_of half) 0 (c_rs2_of half)
+form_normal CMv half = reg_normal Add (rd_of half) 0 (c_rs2_of half)
 form_normal CEbreak half = tt
 form_normal CJalr half = tt
-form_normal CAdd half = reg_normal Add (c_rd_of half) (c_rd_of half) (c_rs2_of half)
+form_normal CAdd half = reg_normal Add (rd_of half) (rd_of half) (c_rs2_of half)
 form_normal CSwsp half = tt
 form_normal CmPush half = tt
 form_normal CmPop half = tt
@@ -149,13 +150,13 @@ half_normal half i spells = by (form_of half) spells
 
 -- ---- two bytes of code
 
--- an instruction is the normal form of what a halfword spells
+-- an instruction is the normal form of the one that a halfword is
 pub record IsNormalOf (half : ℕ) (i : Instr) : Type 0 where
   pub spelled : Instr
   pub spells : decoded16 half ≡ Some (Base spelled)
   pub normal : normal_of spelled ≡ i
 
--- so is what two bytes spell
+-- the instruction of two bytes is a normal form
 pub normal_in : (bytes : List ℕ) (n : ℕ) (i : Instr) → instr_in 2 bytes n ≡ Some i → IsNormalOf (half_in bytes n) i
 normal_in bytes n i is = by (decoded16 (half_in bytes n)) refl is
   where
@@ -202,7 +203,7 @@ zero_short op first second d is reach = by op is.equal
     by Bgeu (inl equal) = absurd cc
     by Bgeu (inr equal) = absurd cc
 
--- and a jump
+-- a jump that links x0 or ra has a short form if the distance is in its range
 pub link_short : (rd : ℕ) (d : ℤ) → (rd ≡ 0) ⊎ (rd ≡ 1) → short_jump_reach d ≡ true → is_short (Jal rd d) ≡ true
 link_short rd d (inl is) reach = ap (λ r. is_short (Jal r d)) is ∙ when_is (is_signed 12 2 d) _ ∙ signed_two 12 refl d reach
 link_short rd d (inr is) reach = ap (λ r. is_short (Jal r d)) is ∙ when_is (is_signed 12 2 d) _ ∙ signed_two 12 refl d reach

@@ -99,7 +99,7 @@ module _ (p : ParsedInputs) (A : Place → Option ℕ) where
   unfolding image_data
   length-image_data = length-filled (data_words p) (data_contents p) ∙ length-data_contents p
 
-  -- with zeros after it
+  -- words are filled in the same if zeros follow the bytes
   filled_append : (ws : List DataWord) (bytes more : List ℕ) → All (IsWithin p) ws → length bytes ≡ data_file_end p - p.map.data_low → fold (with_data_word p A) bytes ws ++ more ≡ fold (with_data_word p A) (bytes ++ more) ws
   filled_append [] bytes more within size = refl
   filled_append (w ∷ ws) bytes more within size =
@@ -132,7 +132,7 @@ module _ (p : ParsedInputs) (A : Place → Option ℕ) (Named : Place → Type 0
     each = λ k lt. subst (λ s. Fine s (get_or bs k 0)) (sym (get_or-map Num bs k 0 Undef lt)) (refl, tt);
   }
 
-  -- those of a target
+  -- the bytes of a target that is a number
   number_fine : (x n : ℕ) → x ≡ n → AreFine (bytes_of (target_word (target.Number n))) (word_bytes x)
   number_fine x n same = record { same = refl; each = byte }
     where
@@ -159,7 +159,7 @@ module _ (p : ParsedInputs) (A : Place → Option ℕ) (Named : Place → Type 0
   target_fine (target.Absent n) has named = number_fine n n refl
   target_fine target.Nowhere has named = absurd (let no = has.1 in cc)
 
-  -- one over another
+  -- bytes that are put over others
   over_fine : (at : ℕ) (ss new_s : List SymByte) (bs new_b : List ℕ) → at + length new_b ≤ length bs → AreFine ss bs → AreFine new_s new_b → AreFine (overlaid at new_s ss) (overlaid at new_b bs)
   over_fine at ss new_s bs new_b within old new = record {
     same = length-overlaid at new_s ss ∙ old.same ∙ sym (length-overlaid at new_b bs);
@@ -221,6 +221,15 @@ module _ (inputs : Inputs) (none : first_fault inputs ≡ None) where
   target_named (target.Absent n) each = tt
   target_named target.Nowhere each = tt
 
+  word_asks : (k : Option RelocKind) → is_word k ≡ true → is_ignored k ≡ false
+  word_asks (Some kind.Ignored) h = absurd cc
+  word_asks other h = refl
+
+  -- what a word is to hold has a value
+  words_valued : (A : Place → Option ℕ) → ListsLeaders p0 A → All (λ w. HasValue A w.target) (data_words p0)
+  words_valued A leaders = all_words inputs none (λ w. HasValue A w.target) (λ o i at s r found content address word fine among.
+      reloc_value p0 A leaders (record { found = found; asks = word_asks (kind_of r.kind) word; among = among }) fine)
+
   module _ (A : Place → Option ℕ) (leaders : ListsLeaders p0 A) (V : Value → Option ℕ) (place : (q : Place) → V (value.Code q) ≡ A q) where
     words_fine : All (IsFineWord p0 A (IsNamed p0) V place) (data_words p0)
     words_fine = all_words inputs none (IsFineWord p0 A (IsNamed p0) V place) (λ o i at s r found content address word fine among.
@@ -233,10 +242,6 @@ module _ (inputs : Inputs) (none : first_fault inputs ≡ None) where
           named = target_named (target_of p0 o r)
               (λ to leads. leader_named p0 to (target_good p0 (listed o i s) r to asks.asks fine leads) (reloc_leader p0 to asks leads));
         })
-      where
-        word_asks : (k : Option RelocKind) → is_word k ≡ true → is_ignored k ≡ false
-        word_asks (Some kind.Ignored) h = absurd cc
-        word_asks other h = refl
 
     -- the program's bytes of data stand for the image's
     pub data_fine : AreFine p0 A (IsNamed p0) V place (data_bytes p0) (image_data p0 A ++ replicate (data_end p0 - data_file_end p0) 0)
@@ -255,7 +260,12 @@ module _ (inputs : Inputs) (none : first_fault inputs ≡ None) where
 pub word_there : (inputs : Inputs) → first_fault inputs ≡ None → (ws : List DataWord) (k : ℕ) (d : DataWord) → ws ≡ data_words (parsed inputs) → k < length ws → IsWithin (parsed inputs) (get_or ws k d)
 word_there inputs none ws k d are lt = All-get_or (IsWithin (parsed inputs)) ws k d lt (subst (All (IsWithin (parsed inputs))) (sym are) (words_within inputs none))
 
--- one word more is put over them
+-- what a word is to hold has a value
+pub value_there : (inputs : Inputs) → first_fault inputs ≡ None → (A : Place → Option ℕ) → ListsLeaders (parsed inputs) A → (ws : List DataWord) (k : ℕ) (d : DataWord) → ws ≡ data_words (parsed inputs) → k < length ws
+    → HasValue A (get_or ws k d).target
+value_there inputs none A leaders ws k d are lt = All-get_or (λ w. HasValue A w.target) ws k d lt (subst (All (λ w. HasValue A w.target)) (sym are) (words_valued inputs none A leaders))
+
+-- one word more is put over the bytes
 pub word_put : (p : ParsedInputs) (A : Place → Option ℕ) (ws : List DataWord) (k : ℕ) (d : DataWord) (start v : ℕ) (bytes bytes' contents : List ℕ) → k < length ws → start ≡ p.map.data_low → v ≡ data_value A (get_or ws k d)
     → (get_or ws k d).at - start + 4 ≤ length bytes → bytes' ≡ with_word bytes ((get_or ws k d).at - start) v → bytes ≡ fold (with_data_word p A) contents (take k ws)
     → bytes' ≡ fold (with_data_word p A) contents (take (k + 1) ws)

@@ -88,7 +88,7 @@ copied_item L B own bytes a size n (Raw word) same form w = ap bytes (sym form) 
 copied_item L B own bytes a size n (RawShort half) same form w = ap bytes (sym form) ∙ w
 copied_item L B own bytes a size n (RawPair first second) same form w = ap bytes (sym form) ∙ w
 
--- so are jumps and calls, of which nothing is copied
+-- of jumps and calls nothing is copied
 jump_copied :
     (B : Place → Option ℕ) (own bytes : ℕ → List ℕ) (item : Item) (rd : ℕ) (to : Place) → jump_of item ≡ Some (rd, to) → ItemCopied B own bytes item
 jump_copied B own bytes (Op i) rd to is = tt
@@ -155,7 +155,7 @@ module _ (L : TextLayout) (ready : IsReady L.inputs) (lies : IsLaidOut L) (flags
   placed : All (λ e. A e.0 ≡ Some e.1) (listed_places L)
   placed = listed_placed L lies.only
 
-  -- and the text holds what is written there
+  -- the text holds what is written at each listed place
   holds : All (HoldsPlace L text) (listed_places L)
   holds = subst (All (HoldsPlace L text)) listed laid.holds
 
@@ -163,7 +163,7 @@ module _ (L : TextLayout) (ready : IsReady L.inputs) (lies : IsLaidOut L) (flags
   ends : inputs.map.text + length text ≡ text_end L
   ends = laid.ends
 
-  -- so it is short
+  -- the text is short
   short : length text ≤ 0x9_0000
   short = omega (arith, ends, lies.short)
 
@@ -171,7 +171,7 @@ module _ (L : TextLayout) (ready : IsReady L.inputs) (lies : IsLaidOut L) (flags
   memory_size : length (image_data p3 A) + (data_end p3 - data_file_end p3) ≤ 0x40_0000
   memory_size = omega (arith, length-image_data p3 A, data_low-le p3, data_file_end-le p3, room)
 
-  -- and as long as the program's
+  -- the image has as many bytes of data as the program
   bytes_size : length (data_bytes p3) ≡ length (image_data p3 A) + (data_end p3 - data_file_end p3)
   unfolding code_value
   bytes_size =
@@ -179,7 +179,7 @@ module _ (L : TextLayout) (ready : IsReady L.inputs) (lies : IsLaidOut L) (flags
       let same = (data_fine inputs ready.faultless A lies.leaders (code_value A) (λ q. refl)).same in
       same ∙ length-append (image_data p3 A) zeros ∙ (let r : length (replicate {A = ℕ} (data_end p3 - data_file_end p3) 0) ≡ data_end p3 - data_file_end p3 = length-replicate (data_end p3 - data_file_end p3) 0 in omega arith)
 
-  -- so memory lies as it should
+  -- the image's memory lies as the program's does
   out : AreLaidOut program parts
   unfolding program_of
   out = record {
@@ -200,7 +200,7 @@ module _ (L : TextLayout) (ready : IsReady L.inputs) (lies : IsLaidOut L) (flags
   listed_are : e.address ≡ A
   listed_are = λ j q. lookup L lies.only q j
 
-  -- it is of the objects' program
+  -- the image shows the layout of the objects' program
   pub shows : ShowsLayout L program e
   unfolding program_of
   shows = record { item = refl; next = refl; map = refl; listed = listed_are; entry = refl }
@@ -211,7 +211,7 @@ module _ (L : TextLayout) (ready : IsReady L.inputs) (lies : IsLaidOut L) (flags
   V : Value → Option ℕ
   V = value_in program e.address
 
-  -- of code that is the layout's
+  -- the value of a code address is the layout's address
   place_value : (q : Place) → V (value.Code q) ≡ A q
   unfolding V
   place_value q = λ j. listed_are j q
@@ -225,14 +225,14 @@ module _ (L : TextLayout) (ready : IsReady L.inputs) (lies : IsLaidOut L) (flags
   unfolding program_of
   cell_within a low high = let same = fine.same in omega (arith, low, high, same)
 
-  -- so memory begins as the program's
+  -- memory begins with bytes that stand for the image's
   first : (a : ℕ) → ByteStands (value_in program e.address) (cell_at Undef (start_memory program) a) (byte_in (loaded_core e) a)
   unfolding program_of V
   first a = memory.first_cell program parts out (λ c. ByteStands (value_in program e.address) c (byte_in (loaded_core e) a)) a
       (λ low high. subst (ByteStands (value_in program e.address) (get_or (data_bytes p3) (a - inputs.map.data_low) Undef)) (sym (memory.data_byte program parts out a low high))
       (fine.each (a - inputs.map.data_low) (cell_within a low high)).0) tt
 
-  -- and names what the program may name
+  -- memory begins with addresses of places only that the program may name
   names : (a : ℕ) → NamesByte (IsNamed p3) (cell_at Undef (start_memory program) a)
   unfolding program_of
   names a = memory.first_cell program parts out (NamesByte (IsNamed p3)) a (λ low high. (fine.each (a - inputs.map.data_low) (cell_within a low high)).1) tt
@@ -267,7 +267,7 @@ module _ (L : TextLayout) (ready : IsReady L.inputs) (lies : IsLaidOut L) (flags
           let any : 0 < length L.slots = omega (arith, some) in
           BehindStub (subst (StubLaid program e) (sym (starts_at_stub L any)) (stub_laid L program parts out refl laid.front any lies listed_are refl))
 
-  -- that is at an even address of the text
+  -- the entry is an even address of the text
   entry_is : IsEntryIn inputs.map.text (length text) (image_entry L)
   entry_is = by (length L.slots) refl
     where
@@ -318,7 +318,7 @@ module _ (L : TextLayout) (ready : IsReady L.inputs) (lies : IsLaidOut L) (flags
         data_end = omega (arith, memory_size, map.data_room, map.top);
       }
 
-  -- and a loader takes them
+  -- a loader accepts the parts
   loadable : IsLoadable parts inputs.map
   loadable =
       let few = places_few L none in
@@ -339,11 +339,11 @@ module _ (L : TextLayout) (ready : IsReady L.inputs) (lies : IsLaidOut L) (flags
         inside = are_inside L none map lies (listed_places L) placed;
       }
 
-  -- so the file reads back
+  -- the file reads back as these parts
   back : ReadsBack parts inputs.map (image_bytes parts)
   back = image_back parts inputs.map fits loadable
 
-  -- as this image
+  -- the file is read as this image
   read : image_in (image_bytes parts) inputs.map ≡ Some e
   unfolding image_in
   read =
@@ -365,7 +365,7 @@ module _ (L : TextLayout) (ready : IsReady L.inputs) (lies : IsLaidOut L) (flags
   abbrev text_part : SegmentData
   text_part = record { at = inputs.map.text; size = length text; code = true; bytes = text }
 
-  -- its one segment of code is the text
+  -- the one segment of code is the text
   sole : filter (λ s. s.code) (segments_of (image_bytes parts)) ≡ text_part ∷ []
   sole = ap (filter (λ s. s.code)) back.segments_back
 

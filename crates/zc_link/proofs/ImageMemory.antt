@@ -149,7 +149,7 @@ module _ (p : Program) (parts : Parts) (out : AreLaidOut p parts) where
   unfolding first_core
   text_lies a n low high = let at = out.text_at in code_lies text_part (data_part ∷ []) p.map refl a n (omega (arith, low, at)) (omega (arith, high, at))
 
-  -- and a byte of data
+  -- a byte of data of the loaded machine is the image's
   pub data_byte : (a : ℕ) → memory.data_low ≤ a → a < data_high p → byte_in (loaded_core image) a ≡ get_or (data_cells parts) (a - memory.data_low) 0
   unfolding first_core
   data_byte a low high =

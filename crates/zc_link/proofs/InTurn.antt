@@ -1,6 +1,6 @@
 -- Instructions that the program makes one after another in one step: the machine's effects, one after another, lead to a state that is
 -- alike with the program's again.
-use Rattle.std.proofs.Common.{◌≡◌, ℕ, ◌<◌, List, [], ◌∷◌, ◌++◌, length, Some, refl, sym, ap, ◌∙◌, subst, arith, drop}
+use Rattle.std.proofs.Common.{◌≡◌, ◌<◌, List, [], ◌∷◌, ◌++◌, length, refl, sym, ap, ◌∙◌, subst, arith, drop}
 use Rattle.zc_base.specs.declared.mem_map.MemMap.{MemMap}
 use Rattle.zc_base.specs.declared.place.Place.{Place}
 use Rattle.rv_decode.specs.declared.instr.Instr.{Instr}
@@ -14,7 +14,6 @@ use Rattle.sym_machine.proofs.StepLaws.{ended}
 use Rattle.zc_link.specs.Image.{Image}
 use Rattle.zc_link.specs.Invariants.Room.{Room}
 use Rattle.zc_link.specs.Sound.{Alike}
-use Rattle.zc_link.proofs.Effects.{Effects}
 use Rattle.zc_link.proofs.Ends.{ends_alike}
 use Rattle.zc_link.proofs.Straight.{AreStraight, Follow, IsStraight, straight_goes}
 
@@ -47,7 +46,7 @@ one_first map i is next s s' events h = by (applied map s (op_does i s next)) re
     by (Went m none) first g = record { middle = m; made = none; first = first; rest = g }
     by (Stuck why) first g = absurd cc
 
--- those of two lists
+-- the steps of two lists of instructions, taken apart
 pub record Apart (map : MemMap) (is js : List Instr) (next : Place) (s s' : PlainCore) (events : List Event) : Type 0 where
   pub middle : PlainCore
   pub first : in_turn map is next s ≡ Went middle []
@@ -62,7 +61,7 @@ in_turn-apart map (i ∷ is) js next s s' events h =
 
 -- ---- both machines
 
--- one of them, by itself
+-- one of the instructions, by itself
 record OneDone (p : Program) (Named : Place → Type 0) (e : Image) (i : Instr) (next : Place) (s m : PlainCore) (z : ZcCore) : Type 0 where
   after : ZcCore
   commits : effect i 0 z ≡ Commits after

@@ -13,7 +13,7 @@ use Rattle.rv_decode.specs.declared.instr.StoreOp.{StoreOp}
 use Rattle.rv_decode.specs.declared.instr.StoreOp.TheVariants.{Sb, Sh, Sw}
 use Rattle.rv_decode.specs.declared.instr.UpperOp.{UpperOp}
 use Rattle.rv_decode.specs.Bits.{add32}
-use Rattle.rv_decode.specs.Effect.{Commits, after, branch_target, effect, gives, jumps, load_result, load_width, onward, store_width, stored}
+use Rattle.rv_decode.specs.Effect.{Commits, after, effect, gives, jumps, load_result, load_width, onward, store_width, stored}
 use Rattle.rv_decode.specs.Results.{imm_result, reg_result, upper_result}
 use Rattle.rv_decode.specs.State.{ZcCore, reg_in, set_reg}
 use Rattle.rv_decode.proofs.ResultLaws.{imm_result-below, reg_result-below, upper_result-below}
@@ -51,7 +51,7 @@ pub record Made (p : Program) (Named : Place → Type 0) (e : Image) (i : Instr)
   pub ready : Ready p Named e (after_change c s) after
   pub quiet : IsQuiet c
 
--- and both go on to what follows the instruction, be it listed or not
+-- both machines go on to what follows the instruction, be it listed or not
 pub record GoesOn (p : Program) (Named : Place → Type 0) (e : Image) (i : Instr) (size : ℕ) (c : Change) (s : PlainCore) (next : Place) (z : ZcCore) : Type 0 where
   pub made : Made p Named e i size c s z
   pub place : c.place ≡ next
@@ -222,7 +222,7 @@ module _ {p : Program} {Named : Place → Type 0} {e : Image} {s : PlainCore} {z
         → branch_does (condition p op (reg_of s first) (reg_of s second)) to next ≡ Goes c → Moves p Named e (Branch op first second distance) size c s z
     branch_moves op first second distance to low_first low_second at h = known (condition p op (reg_of s first) (reg_of s second)) refl h
       where
-        lands : (t : Bool) → e.address (cond t to next) ≡ Some (branch_target t distance size z)
+        lands : (t : Bool) → e.address (cond t to next) ≡ Some (cond t (add32 z.pc distance) (after z size))
         lands true = at
         lands false = listed
 
@@ -235,8 +235,8 @@ module _ {p : Program} {Named : Place → Type 0} {e : Image} {s : PlainCore} {z
             let same : continues (cond t to next) ≡ c = cc in
             subst (λ x. Moves p Named e (Branch op first second distance) size x s z) same (record {
               made = record {
-                after = record (onward z size z.regs) { pc = branch_target t distance size z };
-                commits = ap (λ b. Commits (record (onward z size z.regs) { pc = branch_target b distance size z })) taken;
+                after = record (onward z size z.regs) { pc = cond t (add32 z.pc distance) (after z size) };
+                commits = ap (λ b. Commits (record (onward z size z.regs) { pc = cond b (add32 z.pc distance) (after z size) })) taken;
                 ready = ready_moved ready (cond t to next) _ _;
                 quiet = record { events = refl; taken = refl };
               };

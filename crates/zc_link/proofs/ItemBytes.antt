@@ -1,7 +1,7 @@
--- What is written for an item, by what it is: so many bytes, which are what the item asks for.
+-- What is written for an item, by what it is: the number of bytes, and that they are what the item asks for.
 use Rattle.std.proofs.Common.{◌≡◌, ℕ, ℤ, ◌+◌, ◌^◌, ◌<◌, ◌≤◌, ◌⊎◌, inl, inr, Bool, List, ◌++◌, length, Option, Some, None, true, false, refl, sym, ap, ◌∙◌, subst, arith, take, drop}
 use Rattle.std.specs.Prelude.{IsTrue, ◌||◌}
-use Rattle.std.specs.Option.{option_map, unwrap_or}
+use Rattle.std.specs.Option.{option_map}
 use Rattle.std.proofs.lemmas.List.{take-append-drop}
 use Rattle.zc_base.specs.Fields.{half_bytes, half_in, word_bytes, word_in}
 use Rattle.zc_base.specs.declared.place.Place.{Place}
@@ -30,7 +30,7 @@ use Rattle.zc_encode.specs.Halves.{encoded16}
 use Rattle.zca_zcb_pass.specs.Forms.{HasEffectOf}
 use Rattle.zc_link.specs.Copied.{bytes_from}
 use Rattle.zc_link.specs.LaidOut.{HasBranchSize, HasCallSize, HasForm, HasSize}
-use Rattle.zc_link.specs.Standing.{HasOwnSize, IsHalfHere, ItemStands, SpellsCall, SpellsWay, StandsHere, WrittenHere, is_lower, is_patched}
+use Rattle.zc_link.specs.Standing.{HasOwnSize, HasValue, HasWay, IsHalfHere, ItemStands, SpellsCall, SpellsWay, StandsHere, WrittenHere, is_lower, is_patched}
 use Rattle.zc_link.specs.Meant.{meant, way_on}
 use Rattle.zc_link.specs.TextLayout.{TextLayout}
 use Rattle.zc_link.specs.Values.{target_value, way}
@@ -41,7 +41,7 @@ use Rattle.zc_link.proofs.Adds.{AreBytes, bytes_append, drop_are, half_are, half
 
 -- ---- bytes that spell
 
--- so many bytes
+-- a list is n bytes
 abbrev pub AreSized : ℕ → List ℕ → Type 0
 AreSized n bytes = (length bytes ≡ n) × AreBytes bytes
 
@@ -118,7 +118,7 @@ module _ (L : TextLayout) (code : List ℕ) (q : Place) (item : Item) (a n : ℕ
 
   -- ---- one word
 
-  -- a word that spells what the item is here
+  -- a word that is the instruction of the item here
   pub word_written :
       (j : Item) (i : Instr) (word : ℕ) → item ≡ j
       → ((bytes : List ℕ) → SpellsMeant L a n j bytes → IsWritten L own a n j bytes) → meant L.address it a j ≡ Some i
@@ -141,7 +141,7 @@ module _ (L : TextLayout) (code : List ℕ) (q : Place) (item : Item) (a n : ℕ
     pub branch_stands : SpellsWay L.address (instr_in size code q.offset) (instr.Branch op first second) to
     branch_stands = subst (ItemStands L.address it _ _) is here.stands
 
-    -- in so many bytes it reaches
+    -- in n bytes the branch reaches
     pub branch_form : HasBranchSize (instr.Branch op first second) n (as_signed (way a branch_stands.address))
     branch_form = subst (HasForm L.address a size n) is here.form branch_stands.address branch_stands.listed
 
@@ -179,7 +179,7 @@ module _ (L : TextLayout) (code : List ℕ) (q : Place) (item : Item) (a n : ℕ
     pub call_form : HasCallSize rd n (as_signed (way a call_stands.address))
     call_form = subst (HasForm L.address a size n) is here.form call_stands.address call_stands.listed
 
-    -- as one jump
+    -- a call as one jump
     pub call_jump_written :
         (d : ℤ) (bytes : List ℕ) → ((b : ℕ) → L.address to ≡ Some b → d ≡ as_signed (way a b)) → IsSpelled n bytes (instr.Jal rd d) → Here bytes
     call_jump_written d bytes far spelled =
@@ -188,7 +188,7 @@ module _ (L : TextLayout) (code : List ℕ) (q : Place) (item : Item) (a n : ℕ
         (subst (λ i. IsWritten L own a n i bytes) (sym is)
         (inl (record { instr = instr.Jal rd d; is = leads_by (instr.Jal rd) to call_stands.address d call_stands.listed same; spelled = spelled })))
 
-    -- as its two words
+    -- a call as its two words
     pub call_written :
         (bytes : List ℕ) → n ≡ 8 → SpellsWord (take 4 bytes) (instr.Upper Auipc temp (hi20_of (way a call_stands.address)))
         → SpellsWord (drop 4 bytes) (instr.Jalr rd temp (lo12_of (way a call_stands.address))) → Here bytes
@@ -219,7 +219,7 @@ module _ (L : TextLayout) (code : List ℕ) (q : Place) (item : Item) (a n : ℕ
     pub op_range : InRange i
     op_range = in_range_in size code q.offset i op_stands
 
-    -- and has its own if it has more than two bytes
+    -- an item has a word of its own if it has more than two bytes
     long_own : (size ≡ 2 → ⊥) → size ≡ 4
     long_own long = by op_size
       where
@@ -251,7 +251,7 @@ module _ (L : TextLayout) (code : List ℕ) (q : Place) (item : Item) (a n : ℕ
             by (inr (inl four)) = four
             by (inr (inr two)) = absurd (long two.0)
 
-  -- one whose instruction is known before the layout has its own bytes, of which there are two at least
+  -- an item whose instruction is known before the layout has two bytes or more of its own
   patched_size : (i : Item) → is_patched i ≡ true → HasOwnSize i size → 2 ≤ size
   patched_size (Op i) p (inl two) = omega (arith, two)
   patched_size (Op i) p (inr four) = omega (arith, four)
@@ -265,6 +265,25 @@ module _ (L : TextLayout) (code : List ℕ) (q : Place) (item : Item) (a n : ℕ
   pub patched_within : is_patched item ≡ true → q.offset + 2 ≤ length code
   patched_within patched = omega (arith, here.within, patched_size item patched here.size)
 
+  -- the target of its relocation has a value
+  abbrev Stands : Item → Type 0
+  Stands = ItemStands L.address it (instr_in size code q.offset) (instr_in 4 code (q.offset + 4))
+
+  pub hi_value : (i : Instr) (t : Target) → item ≡ Hi i t → HasValue L.address t
+  hi_value i t is = (subst Stands is here.stands).1
+
+  pub lo_value : (i : Instr) (t : Target) → item ≡ Lo i t → HasValue L.address t
+  lo_value i t is = (subst Stands is here.stands).1
+
+  pub pc_hi_value : (i : Instr) (t : Target) → item ≡ PcHi i t → HasValue L.address t
+  pc_hi_value i t is = (subst Stands is here.stands).1
+
+  pub word_value : (t : Target) → item ≡ Word t → HasValue L.address t
+  word_value t is = subst Stands is here.stands
+
+  pub pc_lo_way : (i : Instr) (from : Place) → item ≡ PcLo i from → HasWay L.address it from
+  pc_lo_way i from is = (subst Stands is here.stands).1
+
   -- of four bytes its word is its own, with a part of an address
   module _ (own_four : size ≡ 4) (four : n ≡ 4) (word : ℕ) (small : word < 2 ^ 32) where
     stands : ItemStands L.address it (instr_in 4 code q.offset) (instr_in 4 code (q.offset + 4)) item
@@ -272,10 +291,6 @@ module _ (L : TextLayout) (code : List ℕ) (q : Place) (item : Item) (a n : ℕ
 
     abbrev Known : Item → Type 0
     Known j = ItemStands L.address it (instr_in 4 code q.offset) (instr_in 4 code (q.offset + 4)) j
-
-    -- what has a value has the one that the code takes
-    value : (o : Option ℕ) (x : ℕ) → (y : ℕ) × (o ≡ Some y) → x ≡ unwrap_or o 0 → o ≡ Some x
-    value o x found is = found.1 ∙ ap Some (sym (is ∙ ap (λ p. unwrap_or p 0) found.1))
 
     or_true : (b : Bool) → (b || true) ≡ true
     or_true true = refl
@@ -286,43 +301,43 @@ module _ (L : TextLayout) (code : List ℕ) (q : Place) (item : Item) (a n : ℕ
     Puts is_kind put = (i : Instr) → decoded (word_in code q.offset) ≡ Some i → is_kind (Some i) ≡ true → decoded word ≡ Some (put i)
 
     pub hi_written :
-        (i : Instr) (t : Target) (x : ℕ) → item ≡ Hi i t → x ≡ unwrap_or (target_value L.address t) 0
+        (i : Instr) (t : Target) (x : ℕ) → item ≡ Hi i t → target_value L.address t ≡ Some x
         → Puts (λ o. is_lui o || is_auipc o) (λ j. with_upper j (hi20_of x)) → Here (word_bytes word)
     hi_written i t x is taken puts =
         let k = subst Known is stands in
         word_written (Hi i t) (with_upper i (hi20_of x)) word is (λ bytes m. m)
-        (ap (option_map (λ y. with_upper i (hi20_of y))) (value (target_value L.address t) x k.1 taken)) four small (puts i k.0.spells (ap (λ b. b || is_auipc (Some i)) k.0.kind))
+        (ap (option_map (λ y. with_upper i (hi20_of y))) taken) four small (puts i k.0.spells (ap (λ b. b || is_auipc (Some i)) k.0.kind))
 
     pub pc_hi_written :
-        (i : Instr) (t : Target) (x : ℕ) → item ≡ PcHi i t → x ≡ unwrap_or (target_value L.address t) 0
+        (i : Instr) (t : Target) (x : ℕ) → item ≡ PcHi i t → target_value L.address t ≡ Some x
         → Puts (λ o. is_lui o || is_auipc o) (λ j. with_upper j (hi20_of (way a x))) → Here (word_bytes word)
     pc_hi_written i t x is taken puts =
         let k = subst Known is stands in
         word_written (PcHi i t) (with_upper i (hi20_of (way a x))) word is (λ bytes m. m)
-        (ap (option_map (λ y. with_upper i (hi20_of (way a y)))) (value (target_value L.address t) x k.1 taken)) four small
+        (ap (option_map (λ y. with_upper i (hi20_of (way a y)))) taken) four small
         (puts i k.0.spells (ap (λ b. is_lui (Some i) || b) k.0.kind ∙ or_true (is_lui (Some i))))
 
     pub lo_written :
-        (i : Instr) (t : Target) (x : ℕ) → item ≡ Lo i t → x ≡ unwrap_or (target_value L.address t) 0
+        (i : Instr) (t : Target) (x : ℕ) → item ≡ Lo i t → target_value L.address t ≡ Some x
         → (decoded (word_in code q.offset) ≡ Some i → is_lower (Some i) ≡ true → decoded word ≡ Some (with_imm i (lo12_of x))) → Here (word_bytes word)
     lo_written i t x is taken puts =
         let k = subst Known is stands in
         word_written (Lo i t) (with_imm i (lo12_of x)) word is (λ bytes m. m)
-        (ap (option_map (λ y. with_imm i (lo12_of y))) (value (target_value L.address t) x k.1 taken)) four small (puts k.0.spells k.0.kind)
+        (ap (option_map (λ y. with_imm i (lo12_of y))) taken) four small (puts k.0.spells k.0.kind)
 
     pub pc_lo_written :
-        (i : Instr) (from : Place) (x : ℕ) → item ≡ PcLo i from → ((w : ℕ) → way_on L.address it from ≡ Some w → x ≡ w)
+        (i : Instr) (from : Place) (x : ℕ) → item ≡ PcLo i from → way_on L.address it from ≡ Some x
         → (decoded (word_in code q.offset) ≡ Some i → is_lower (Some i) ≡ true → decoded word ≡ Some (with_imm i (lo12_of x))) → Here (word_bytes word)
     pc_lo_written i from x is taken puts =
         let k = subst Known is stands in
         word_written (PcLo i from) (with_imm i (lo12_of x)) word is (λ bytes m. m)
-        (ap (option_map (λ y. with_imm i (lo12_of y))) (k.1.1 ∙ ap Some (sym (taken k.1.0 k.1.1)))) four small (puts k.0.spells k.0.kind)
+        (ap (option_map (λ y. with_imm i (lo12_of y))) taken) four small (puts k.0.spells k.0.kind)
 
-    pub word_target : (t : Target) → item ≡ Word t → word ≡ unwrap_or (target_value L.address t) 0 → Here (word_bytes word)
+    pub word_target : (t : Target) → item ≡ Word t → target_value L.address t ≡ Some word → Here (word_bytes word)
     word_target t is taken =
         let k = subst Known is stands in
         made (word_bytes word) (sym four, word_are word)
-        (subst (λ j. IsWritten L own a n j (word_bytes word)) (sym is) (word, value (target_value L.address t) word k taken, refl))
+        (subst (λ j. IsWritten L own a n j (word_bytes word)) (sym is) (word, taken, refl))
 
   -- but an instruction without relocation these have four bytes
   patched_four : (i : Item) → ((j : Instr) → i ≡ Op j → ⊥) → is_patched i ≡ true → HasOwnSize i size → size ≡ 4

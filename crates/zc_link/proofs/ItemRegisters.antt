@@ -19,7 +19,7 @@ use Rattle.rv_decode.specs.Registers.{HasRegisters}
 use Rattle.rv_decode.specs.declared.instr.Instr.{Instr}
 use Rattle.rv_decode.specs.declared.instr.Instr.TheVariants as instr
 use Rattle.rv_decode.proofs.DecodeLaws.{decoded-registers}
-use Rattle.block_cut.specs.Items.{call_item, item_at, item_under, known_item, of_instr, raw_in, raw_pair, size_on, spelled_item, target_away, target_of, to_place, transfer_item, transfer_under}
+use Rattle.block_cut.specs.Items.{call_item, item_at, item_under, known_item, raw_in, raw_pair, size_on, spelled_item, target_away, target_of, to_place, transfer_item, transfer_under}
 use Rattle.block_cut.specs.Relocs.{instr_in, reloc_on}
 use Rattle.block_cut.specs.declared.item.Item.{Item}
 use Rattle.block_cut.specs.declared.item.Item.TheVariants.{Op, Hi, Lo, PcHi, PcLo, Branch, Jump, Call, Align, Word, Raw, RawShort, RawPair}
@@ -61,7 +61,7 @@ upper_registers instr.Ecall n h = h
 upper_registers instr.Ebreak n h = h
 upper_registers (instr.Csrrw rd source) n h = h
 
--- and with another immediate
+-- the registers of an instruction with another immediate
 pub imm_registers : (i : Instr) (z : ℤ) → HasRegisters i → HasRegisters (with_imm i z)
 imm_registers (instr.Upper op rd imm) z h = h
 imm_registers (instr.Jal rd distance) z h = h
@@ -116,13 +116,13 @@ transferred (instr.Branch op first second distance) other to h rest = h
 transferred (instr.Jal rd distance) other to h rest = h
 transferred i other to h rest = rest
 
--- these bytes spell it
+-- the item of bytes by the instruction that they are
 module _ (bytes : List ℕ) (n : ℕ) where
   abbrev raw : Item
   raw = raw_in 4 bytes n
 
-  -- one of an instruction
-  parted : (f : Instr → Item) (d : Option Instr) → instr_in 4 bytes n ≡ d → ((i : Instr) → HasRegisters i → ItemRegisters (f i)) → ItemRegisters (of_instr d raw f)
+  -- the item of an instruction by a part of its bytes
+  parted : (f : Instr → Item) (d : Option Instr) → instr_in 4 bytes n ≡ d → ((i : Instr) → HasRegisters i → ItemRegisters (f i)) → ItemRegisters (option_map_or f d raw)
   parted f None e each = tt
   parted f (Some i) e each = each i (decoded-registers (word_in bytes n) i e)
 
@@ -138,7 +138,7 @@ module _ (bytes : List ℕ) (n : ℕ) where
       half : Item
       half = raw_in 2 bytes n
 
-      by : (d : Option Instr) → instr_in 2 bytes n ≡ d → ItemRegisters (of_instr d half (λ i. to_place t (transfer_item i half) half))
+      by : (d : Option Instr) → instr_in 2 bytes n ≡ d → ItemRegisters (option_map_or (λ i. to_place t (transfer_item i half) half) d half)
       by None e = tt
       by (Some i) e = placed t (transfer_item i half) half (λ to. transferred i half to (registers_in 2 bytes n i e) tt) tt
 
@@ -179,7 +179,7 @@ item_registers p q item is =
         (raw_by ItemRegisters (λ half. tt) (λ word. tt) own s.bytes q.offset) (λ i e. registers_in own s.bytes q.offset i e)
     by s (Some r) = by_kind s.bytes q.offset (kind_of r.kind) r.addend (target_of p q.object r)
 
--- of the instruction that an item is at an address
+-- the registers of the instruction that an item is at an address
 pub meant_registers :
     (A : Place → Option ℕ) (items : Place → Option Item) (a : ℕ) (item : Item) (i : Instr) → ItemRegisters item → meant A items a item ≡ Some i → HasRegisters i
 meant_registers A items a (Op j) i h is = subst HasRegisters (same_Some j i is) h

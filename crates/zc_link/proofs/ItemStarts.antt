@@ -55,7 +55,7 @@ module _
       (subst (λ m. IsPlaceNumber p.objects (place_of l n) (record { section = number.section; index = m })) (sym starts.index)
       (number_there L none ready laid number.section l starts.listed starts.code n (inl begins)))
 
-  -- it is a start
+  -- an item starts at the place
   pub alone_start : is_start_at p.objects q ≡ true
   alone_start =
       ap (is_start_at p.objects) (sym starts.place)
@@ -138,12 +138,12 @@ module _ (L : TextLayout) (laid : IsLaidOut L) (code : List ℕ) (q : Place) (g 
 
 -- ---- a jump or call through the table
 
--- its number is small, so there is a halfword, which spells it
+-- the number of a slot is small, so the jump through it has a halfword
 pub site_some : (slot : ℕ) → slot < 256 → is_some (encoded16 (TableJump slot)) ≡ true
 site_some slot few = some_when _ _ (lt-ltb slot 256 few)
 
 pub site_spells : (slot half : ℕ) → encoded16 (TableJump slot) ≡ Some half → SpellsHalf (half_bytes half) (TableJump slot)
-site_spells slot half is = half_spells (TableJump slot) (Some half) half (tt, ap is_some is) (sym is) (encoding-table slot (Some half) is) refl
+site_spells slot half is = half_spells (TableJump slot) half (tt, ap is_some is) is (encoding-table slot (Some half) is)
 
 module _
     (L : TextLayout) (laid : IsLaidOut L) (code : List ℕ) (q : Place) (slot : ℕ) (unit : L.unit q ≡ Some (OneSite slot)) (a : ℕ)

@@ -41,11 +41,11 @@ item_unit p q i is = by (item_at p q) is
     by None h = absurd cc
     by (Some j) h = cc
 
--- it has no place but its own
+-- an item by itself has no place inside
 pub single_inside : (L : TextLayout) (q : Place) (k : ℕ) → 0 < k → k < 1 → HasNoAddress L (after_items (parsed L.inputs).objects k q)
 single_inside L q k some few = absurd (omega (arith, some, few))
 
--- and something is written just where an item starts
+-- something is written just where an item starts
 pub item_written :
     (p : ParsedInputs) (A : Place → Option ℕ) → ((q : Place) → is_some (A q) ≡ is_target_at p.objects q) → (q : Place)
     → is_some (option_map OneItem (item_at p q)) ≡ (is_some (A q) && is_start_at p.objects q)

@@ -101,7 +101,7 @@ module _ {p : Program} {Named : Place → Type 0} {e : Image} {r r' : PlainState
 
   -- ---- branches and jumps to places
 
-  -- with a distance
+  -- an item whose instruction has a distance to its target
   reaching :
       {item : Item} (i : ℤ → Instr) (to : Place) (l : OneLaid p e r.core.place z.core.pc item) → option_map (λ b. i (as_signed (way z.core.pc b))) (e.address to) ≡ Some l.instr
       → (d : ℤ) × (e.address to ≡ Some (add32 z.core.pc d)) × AloneLaid p e r.core.place z.core.pc (i d)
@@ -144,7 +144,7 @@ module _ {p : Program} {Named : Place → Type 0} {e : Image} {r r' : PlainState
       lo_moves room al.ready m.2.at.size from.step.change (p.next r.core.place) listed i t m.0 m.1 (leads.item r.core.place (Lo i t) item) m.2.registers
       (leads.next r.core.place (Lo i t) item) h)
 
-  -- the upper part of the way from here
+  -- an item with the upper part of the distance from here
   pc_hi_comes :
       (i : Instr) (t : Target) → p.item r.core.place ≡ Some (PcHi i t) → OneLaid p e r.core.place z.core.pc (PcHi i t)
       → item_does p (Some (PcHi i t)) r.core (p.next r.core.place) ≡ Goes from.step.change → Comes p Named e cuts 1 z r'
@@ -155,7 +155,7 @@ module _ {p : Program} {Named : Place → Type 0} {e : Image} {r r' : PlainState
       (pc_hi_goes room ready m.2.at.size from.step.change (p.next r.core.place) i r.core.place t m.0 (ap pc_target item)
       (from.sound.place ∙ ap Some (sym at)) m.1 h))
 
-  -- the lower part of the way from another place
+  -- an item with the lower part of the distance from another place
   pc_lo_comes :
       (i : Instr) (q : Place) → p.item r.core.place ≡ Some (PcLo i q) → OneLaid p e r.core.place z.core.pc (PcLo i q)
       → item_does p (Some (PcLo i q)) r.core (p.next r.core.place) ≡ Goes from.step.change → Comes p Named e cuts 1 z r'

@@ -42,7 +42,7 @@ module _ (p : ParsedInputs) where
       ap (list_any (section_leads p to)) cut.all_are ∙ any_there (section_leads p to) (sections_before p.objects o i) cut.rest (listed o i s) own in
       or_right (eqb to.offset 0 && is_target_at p.objects to) _ (or_left (list_any (section_leads p to) (all_sections p.objects)) _ some)
 
-  -- such a relocation is one at an offset of code
+  -- a relocation that asks for something is the one at its offset of code
   pub asks_at :
       (q : Place) (s : SectionParts) (r : Reloc) → code_at p.objects q ≡ Some s → reloc_on s q.offset ≡ Some r → is_ignored (kind_of r.kind) ≡ false
       → AsksIn p q.object q.section s r
@@ -79,7 +79,7 @@ module _ (p : ParsedInputs) where
   first_leader q first target =
       or_left (eqb q.offset 0 && is_target_at p.objects q) _ (and_from (eqb q.offset 0) (is_target_at p.objects q) (eq-eqb q.offset 0 first) target)
 
-  -- such a place is one that a program may name
+  -- a place that begins a basic block is one that a program may name
   pub leader_named : (to : Place) → is_target_at p.objects to ≡ true → is_leader_at p to ≡ true → IsNamed p to
   leader_named to target leader = by (or_cases (is_start_at p.objects to) (is_end_at p.objects to) target)
     where

@@ -10,7 +10,7 @@ use Rattle.psabi_sym.specs.Indexed.{IndexedSection, all_sections, sections_in}
 abbrev pub listed_at : ℕ → ℕ × SectionParts → IndexedSection
 listed_at o s = record { object = o; index = s.0; section = s.1 }
 
--- of an object's own
+-- what holds of each section of one object
 own_listed : (P : IndexedSection → Type 0) (o n : ℕ) (ss : List SectionParts) → ((k : ℕ) (s : SectionParts) → slice_get ss k ≡ Some s → P (listed_at o (n + k, s))) → All P (map (listed_at o) (enumerate_from n ss))
 own_listed P o n [] each = All-nil P
 own_listed P o n (s ∷ ss) each =
@@ -18,7 +18,7 @@ own_listed P o n (s ∷ ss) each =
     All-cons P (listed_at o (n, s)) (map (listed_at o) (enumerate_from (n + 1) ss)) (subst (λ m. P (listed_at o (m, s))) here (each 0 s refl))
     (own_listed P o (n + 1) ss (λ k t at. let e : n + suc k ≡ n + 1 + k = omega arith in subst (λ m. P (listed_at o (m, t))) e (each (suc k) t at)))
 
--- and of objects that are numbered from here on
+-- what holds of each section of objects that are numbered from n on
 each_listed : (P : IndexedSection → Type 0) (n : ℕ) (objects : List ObjectParts)
     → ((k i : ℕ) (object : ObjectParts) (s : SectionParts) → slice_get objects k ≡ Some object → slice_get object.sections i ≡ Some s → P (listed_at (n + k) (0 + i, s)))
     → All P (flat_map sections_in (enumerate_from n objects))

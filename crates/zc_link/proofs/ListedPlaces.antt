@@ -71,7 +71,7 @@ entries_few L (q ∷ qs) = by (L.address q) (entries_few L qs)
     by None rest = omega (arith, rest)
     by (Some a) rest = omega (arith, rest)
 
--- and those of all code are few
+-- the places of all code are few
 pub places_few : (L : TextLayout) → gather_fault L.inputs ≡ None → 4 * length (listed_places L) ≤ 0x4_0000
 unfolding listed_places
 places_few L none =
@@ -97,12 +97,12 @@ sorted_append (x ∷ xs) ys one two apart =
     let P = λ (z : Place). All (λ y. is_before z y ≡ true) ys in
     (All-append (λ r. is_before x r ≡ true) xs ys one.0 (All-head P x xs apart), sorted_append xs ys one.1 two (All-tail P x xs apart))
 
--- so do entries of a list, by their places
+-- the entries of a list come in order of their places
 AreSorted : List (Place × ℕ) → Type 0
 AreSorted [] = Unit {0}
 AreSorted (e ∷ es) = All (λ d. is_before e.0 d.0 ≡ true) es × AreSorted es
 
--- such a list ascends
+-- a list in order ascends
 sorted_ascends : (es : List (Place × ℕ)) → AreSorted es → is_ascending es ≡ true
 unfolding AreSorted
 sorted_ascends [] sorted = refl
@@ -133,7 +133,7 @@ IsUp : ℕ → List ℕ → Type 0
 IsUp low [] = Unit {0}
 IsUp low (x ∷ xs) = (low ≤ x) × IsUp (x + 1) xs
 
--- they go up from a lower number too
+-- numbers that go up from a number go up from a lower one too
 up_less : (low high : ℕ) (xs : List ℕ) → low ≤ high → IsUp high xs → IsUp low xs
 unfolding IsUp
 up_less low high [] le up = tt
@@ -146,7 +146,7 @@ section_up s code whole =
     along s code whole (λ n xs. IsUp n (xs ++ length s.bytes ∷ [])) (omega arith, tt)
     (λ n xs lt words st above rest. (omega arith, up_less (n + 1) (n + size_on s n) (xs ++ length s.bytes ∷ []) (omega (arith, st.some)) rest))
 
--- so its places come in order
+-- places of one section come in order of their offsets
 offset_before : (l : IndexedSection) (m n : ℕ) → m < n → is_before (place_of l m) (place_of l n) ≡ true
 offset_before l m n lt =
     or_right (nat_lt l.object l.object) _
@@ -179,7 +179,7 @@ each_target P l each = by (is_code_section l.section)
     by true = mapped (starts_in l.section ++ length l.section.bytes ∷ [])
     by false = All-nil P
 
--- those of a section do
+-- the places of a section come in order
 section_sorted : (l : IndexedSection) → (is_code_section l.section ≡ true → IsWhole l.section) → IsSorted (targets_of l)
 unfolding IsSorted
 section_sorted l whole = by (is_code_section l.section) refl
@@ -210,7 +210,7 @@ module _ (L : TextLayout) (none : gather_fault L.inputs ≡ None) (map : IsMap L
   abbrev A : Place → Option ℕ
   A = L.address
 
-  -- and those of all code
+  -- the places of all code come in order
   pub ascends : is_ascending (listed_places L) ≡ true
   unfolding listed_places
   ascends =
@@ -243,11 +243,11 @@ module _ (L : TextLayout) (none : gather_fault L.inputs ≡ None) (map : IsMap L
       offset_inside s code whole (inl start) = omega (arith, (start_is s code whole q.offset start).inside)
       offset_inside s code whole (inr end) = omega (arith, end)
 
-  -- so has each place of a list
+  -- each place of a list that has its address is an entry
   pub entries : (places : List (Place × ℕ)) → All (λ e. A e.0 ≡ Some e.1) places → All IsPlaceEntry places
   entries places placed = All-weaker (λ (e : Place × ℕ). A e.0 ≡ Some e.1) IsPlaceEntry (λ e at. place_entry e.0 e.1 at) places placed
 
-  -- and none lies outside the text
+  -- no place of such a list lies outside the text
   pub are_inside : (places : List (Place × ℕ)) → All (λ e. A e.0 ≡ Some e.1) places → list_any (is_outside L.inputs.map) places ≡ false
   are_inside [] placed = refl
   are_inside (e ∷ es) placed =

@@ -1,6 +1,6 @@
 -- Long branches: one of the opposite condition goes over a jump. If the program's branch isn't taken, that is one commit, and goes to
 -- what follows the jump; if it is, both are commits, and between them the states are alike.
-use Rattle.std.proofs.Common.{◌≡◌, ℕ, ◌+◌, ◌<◌, List, Option, Some, None, Ok, Bool, true, false, refl, sym, ap, ◌∙◌, subst, arith}
+use Rattle.std.proofs.Common.{◌≡◌, ℕ, ◌+◌, ◌<◌, List, Option, Some, None, Ok, Bool, true, false, refl, sym, ap, ◌∙◌, subst, arith, cond}
 use Rattle.std.specs.Prelude.{not}
 use Rattle.zc_base.specs.declared.place.Place.{Place}
 use Rattle.interrupt_plan.specs.Plan.{Interrupt}
@@ -9,7 +9,7 @@ use Rattle.rv_decode.specs.declared.instr.Instr.{Instr}
 use Rattle.rv_decode.specs.declared.instr.Instr.TheVariants as instr
 use Rattle.rv_decode.specs.declared.instr.Instr.TheVariants.{Jal}
 use Rattle.rv_decode.specs.Bits.{add32}
-use Rattle.rv_decode.specs.Effect.{Commits, branch_target, onward}
+use Rattle.rv_decode.specs.Effect.{Commits, after, onward}
 use Rattle.rv_decode.specs.Results.{is_taken}
 use Rattle.rv_decode.specs.State.{ZcCore, ZcState, reg_in}
 use Rattle.sym_machine.specs.Change.{Change, Goes, branch_does, continues, item_does}
@@ -49,7 +49,7 @@ other_taken {op = op} {one = one} {two = two} {s = s} {y = y} t room ready laid 
     ∙ ap not (condition_is room op (reg_of s one) (reg_of s two) (reg_in y one) (reg_in y two) t
     (ready.core.words one) (ready.core.words two) (ready.registers one laid.first_low) (ready.registers two laid.second_low) is)
 
--- two commits, and so the program's branch is taken
+-- the branch has two commits, so the program's branch is taken
 pub record IsTaken (p : Program) (s : PlainCore) (op : BranchOp) (one two : ℕ) : Type 0 where
   pub is : branch_taken p s op one two ≡ Some true
   pub commits : commits_of p s (LongOf op one two) ≡ 2
@@ -62,7 +62,7 @@ known_taken p s op one two more = by (branch_taken p s op one two) refl
     by (Some false) is = absurd (omega (arith, more, ap long_commits is))
     by (Some true) is = record { is = is; commits = ap long_commits is }
 
--- then the image's isn't, and goes on to the jump
+-- the image's branch isn't taken, and goes on to the jump
 pub goes_over :
     {p : Program} {Named : Place → Type 0} {e : Image} {a : ℕ} {op : BranchOp} {one two : ℕ} (s : PlainCore) (y : ZcCore) → Room p e → Alike p Named e s y
     → (laid : LongLaid p e s.place a op one two) → branch_taken p s op one two ≡ Some true → is_taken laid.other (reg_in y one) (reg_in y two) ≡ false
@@ -90,7 +90,7 @@ module _
 
   -- the state after it, by whether it is taken
   abbrev after_first : Bool → ZcCore
-  after_first t = record (onward first.now laid.at.one.size first.now.regs) { pc = branch_target t laid.over laid.at.one.size first.now }
+  after_first t = record (onward first.now laid.at.one.size first.now.regs) { pc = cond t (add32 first.now.pc laid.over) (after first.now laid.at.one.size) }
 
   first_turn : (t : Bool) → taken ≡ Some t → zc_turn (cuts 0) z ≡ Ok (record z { core = after_first (not t) })
   first_turn t is =

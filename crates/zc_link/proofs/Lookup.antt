@@ -91,7 +91,7 @@ target_there objects q is = by (code_at objects q) refl
         either (inl start) = inl start
         either (inr end) = inr (eqb-true q.offset (length s.bytes) end)
 
--- it is among those that are listed
+-- a place that code may lead to is among those that are listed
 target_among : (objects : List ObjectParts) (q : Place) → is_target_at objects q ≡ true → list_any (λ r. same_place r q) (all_targets objects) ≡ true
 target_among objects q is =
     let at = target_there objects q is in

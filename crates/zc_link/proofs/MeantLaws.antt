@@ -20,7 +20,7 @@ pub mapped : {X : Type 0} (f : ℕ → X) (o : Option ℕ) (y : X) → option_ma
 mapped f None y h = absurd cc
 mapped f (Some x) y h = (x, refl, same_Some (f x) y h)
 
--- what a way leads from and to
+-- the two addresses that a distance is taken from and to
 pub record WayFound (A : Place → Option ℕ) (items : Place → Option Item) (from : Place) (w : ℕ) : Type 0 where
   pub to : Target
   pub leads : pc_target (items from) ≡ Some to

@@ -16,9 +16,10 @@ use Rattle.sym_machine.specs.Run.{plain_turn}
 use Rattle.sym_machine.specs.State.{PlainState}
 use Rattle.zc_decode.specs.Accesses.{accesses_of}
 use Rattle.zc_decode.specs.Effect.{short_effect}
+use Rattle.zc_decode.specs.Operands.{IsMoved}
 use Rattle.zc_decode.specs.declared.short.Short.{Short}
 use Rattle.zc_decode.specs.declared.short.Short.TheVariants.{MoveAs, MoveSa}
-use Rattle.zc_link.specs.Invariants.Groups.{A0First, A1First, IsSaved, MoveOrder, move_ops, move_to}
+use Rattle.zc_link.specs.Invariants.Groups.{A0First, A1First, MoveOrder, move_ops, move_to}
 use Rattle.zc_link.specs.Image.{Image}
 use Rattle.zc_link.specs.IsSimulation.{Comes}
 use Rattle.zc_link.specs.Invariants.Room.{Room}
@@ -54,7 +55,7 @@ record AreMoved (regs : List ℕ) (z zf : ZcCore) : Type 0 where
   memory : zf.memory ≡ z.memory
   rest : KeepsRest z zf
 
--- one after the other
+-- two moves, one after the other
 in_order : (a b : ℕ × ℕ) (z zf : ZcCore) → ((r : ℕ) → reg_in z r < 2 ^ 32) → MovesApart a b → Effects (move_to a.0 a.1 ∷ move_to b.0 b.1 ∷ []) z zf → AreMoved (moved a b z) z zf
 in_order a b z zf small apart h =
     let one = sum_is a.0 a.1 (pos 0) z h.1 (h.0, h.1, h.2, refl) in
@@ -92,7 +93,7 @@ pub record SavedFacts (s : ℕ) : Type 0 where
   pub no_a0 : s ≢ 10
   pub no_a1 : s ≢ 11
 
-pub saved_facts : (s : ℕ) → IsSaved s → SavedFacts s
+pub saved_facts : (s : ℕ) → IsMoved s → SavedFacts s
 saved_facts s (inl a) = record { some = omega (arith, a.0); low = omega (arith, a.1); no_a0 = λ is. omega (arith, a.1, is); no_a1 = λ is. omega (arith, a.1, is) }
 saved_facts s (inr b) = record { some = omega (arith, b.0); low = omega (arith, b.1); no_a0 = λ is. omega (arith, b.0, is); no_a1 = λ is. omega (arith, b.0, is) }
 
@@ -107,7 +108,7 @@ moves_some A0First a b = omega arith
 moves_some A1First a b = omega arith
 
 module _ {p : Program} {Named : Place → Type 0} {e : Image} (room : Room p e) {r r' : PlainState} {cuts : ℕ → List Interrupt} {z : ZcState} (from : FromPlace p Named e r cuts z) where
-  -- the program came to a place by both, whichever way
+  -- the program came to a place by both moves, in either order
   moves_end :
       {end : ℕ} (order : MoveOrder) (a b : ℕ × ℕ) (short : Short) → MovesApart a b → ((sp : ℕ) → accesses_of short sp ≡ [])
       → ((size : ℕ) (x : ZcCore) → short_effect short size x ≡ Commits (onward x size (moved a b x))) → HalfAt e z.core.pc short end
@@ -135,7 +136,7 @@ module _ {p : Program} {Named : Place → Type 0} {e : Image} (room : Room p e) 
       (zc_turns-one cuts z (record z { core = y' }) (turn_commits (cuts 0) z y y' short size bh.turn (does size y)))
 
   pub to_saved_end :
-      {end : ℕ} (order : MoveOrder) (first second : ℕ) → IsSaved first → IsSaved second → second ≢ first → HalfAt e z.core.pc (MoveSa first second) end
+      {end : ℕ} (order : MoveOrder) (first second : ℕ) → IsMoved first → IsMoved second → second ≢ first → HalfAt e z.core.pc (MoveSa first second) end
       → ((y : ZcCore) → Alike p Named e r.core y → Follow p Named e (move_ops order (first, 10) (second, 11)) r' y) → (q : Place) → CameTo q r r' → e.address q ≡ Some end
       → Comes p Named e cuts 1 z r'
   to_saved_end order first second is_first is_second other at follow q came next =
@@ -146,7 +147,7 @@ module _ {p : Program} {Named : Place → Type 0} {e : Image} (room : Room p e) 
       (λ sp. refl) (λ size x. refl) at follow q came next
 
   pub from_saved_end :
-      {end : ℕ} (order : MoveOrder) (first second : ℕ) → IsSaved first → IsSaved second → HalfAt e z.core.pc (MoveAs first second) end
+      {end : ℕ} (order : MoveOrder) (first second : ℕ) → IsMoved first → IsMoved second → HalfAt e z.core.pc (MoveAs first second) end
       → ((y : ZcCore) → Alike p Named e r.core y → Follow p Named e (move_ops order (10, first) (11, second)) r' y) → (q : Place) → CameTo q r r' → e.address q ≡ Some end
       → Comes p Named e cuts 1 z r'
   from_saved_end order first second is_first is_second at follow q came next =
@@ -169,7 +170,7 @@ module _ {p : Program} {Named : Place → Type 0} {e : Image} (room : Room p e) 
         on_way p is (length is) r r' (omega arith) ops (moves_straight order a b low_a low_b) from.sound.alike.running h
 
   pub to_saved_comes :
-      {end : ℕ} (order : MoveOrder) (first second : ℕ) → IsSaved first → IsSaved second → second ≢ first → HalfAt e z.core.pc (MoveSa first second) end
+      {end : ℕ} (order : MoveOrder) (first second : ℕ) → IsMoved first → IsMoved second → second ≢ first → HalfAt e z.core.pc (MoveSa first second) end
       → AreOps p r.core.place (move_ops order (first, 10) (second, 11)) → e.address (place_items_on p r.core.place (length (move_ops order (first, 10) (second, 11)))) ≡ Some end
       → iterate (plain_turn p) (length (move_ops order (first, 10) (second, 11))) r ≡ Ok r' → Comes p Named e cuts 1 z r'
   to_saved_comes order first second is_first is_second other at ops next h =
@@ -180,7 +181,7 @@ module _ {p : Program} {Named : Place → Type 0} {e : Image} (room : Room p e) 
       (place_items_on p r.core.place (length is)) (items_came order (first, 10) (second, 11) low_a low_b ops h) next
 
   pub from_saved_comes :
-      {end : ℕ} (order : MoveOrder) (first second : ℕ) → IsSaved first → IsSaved second → HalfAt e z.core.pc (MoveAs first second) end
+      {end : ℕ} (order : MoveOrder) (first second : ℕ) → IsMoved first → IsMoved second → HalfAt e z.core.pc (MoveAs first second) end
       → AreOps p r.core.place (move_ops order (10, first) (11, second)) → e.address (place_items_on p r.core.place (length (move_ops order (10, first) (11, second)))) ≡ Some end
       → iterate (plain_turn p) (length (move_ops order (10, first) (11, second))) r ≡ Ok r' → Comes p Named e cuts 1 z r'
   from_saved_comes order first second is_first is_second at ops next h =

@@ -21,27 +21,27 @@ use Rattle.zc_link.specs.Invariants.Room.{Room}
 use Rattle.zc_link.specs.DataApart.{Cuts, IsCell, OnWay, Pokes, Starts, Turns, poked}
 use Rattle.zc_link.proofs.Cuts.{cut-none}
 
--- such an instruction stands at an address
+-- an instruction without accesses is at an address
 pub record NoAccessAt (e : Image) (a : ℕ) : Type 0 where
   pub short : Short
   pub none : (sp : ℕ) → accesses_of short sp ≡ []
   pub at : OneAt e a short
 
--- as each of 32 bits, and its short form, is
+-- an instruction of 32 bits, or its short form, is one without accesses
 abbrev pub base_at : {e : Image} {a : ℕ} {i : Instr} → OneAt e a (Base i) → NoAccessAt e a
 base_at {i = i} at = record { short = Base i; none = λ sp. refl; at = at }
 
--- it stands at pc in the text, which is as it was loaded
+-- an instruction without accesses is at pc in the text, which is as it was loaded
 pub record NoAccess (e : Image) (y : ZcCore) : Type 0 where
   pub text : SameText (loaded_core e) y
   pub here : NoAccessAt e y.pc
   pub open here use *
 
--- so it is fetched
+-- the instruction at pc is fetched
 pub here_fetched : {e : Image} {y : ZcCore} (n : NoAccess e y) → fetched_at y y.pc ≡ Found n.short n.at.size
 here_fetched {e} {y} n = fetched_same (loaded_core e) y n.text y.pc ∙ n.at.here
 
--- and an interrupt only writes its bytes
+-- an interrupt before the instruction only writes its own bytes
 pub cut_writes : {e : Image} {y : ZcCore} (c : Interrupt) → NoAccess e y → interrupted c y ≡ all_dirtied c.dirt y
 cut_writes {y = y} c n = cut-none c y n.short n.at.size n.none (here_fetched n)
 
@@ -50,7 +50,7 @@ pub record KeepsText (e : Image) (y z : ZcCore) : Type 0 where
   pub rest : z ≡ record y { memory = z.memory }
   pub text : SameText (loaded_core e) z
 
--- then it still stands there
+-- with only memory outside the text changed, the instruction is still at pc
 here_kept : {e : Image} {y z : ZcCore} → NoAccess e y → KeepsText e y z → NoAccess e z
 here_kept {e} n kept = record { text = kept.text; here = subst (λ x. NoAccessAt e x.pc) (sym kept.rest) n.here }
 

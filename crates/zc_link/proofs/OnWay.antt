@@ -40,7 +40,7 @@ use Rattle.zc_link.proofs.Straight.{one_turn}
 
 -- ---- what the program goes on from
 
--- of an item that is one instruction, that instruction
+-- the instruction of an item that is one
 item_alone :
     (p : Program) {e : Image} (q next : Place) {a : ℕ} (s : PlainCore) {c : Change} (o : Option Item) → ItemLaid p e q a o → item_does p o s next ≡ Goes c
     → NoAccessAt e a
@@ -145,7 +145,7 @@ module _ {p : Program} {Named : Place → Type 0} {e : Image} {stretch : Place �
         )))
         (cases_lt 1 (commits_of p r.core (stretch r.core.place)))
 
-    -- a push, a pop or two moves that the objects have as one halfword stands there, with its accesses in the stack
+    -- a push, a pop or two moves that the objects have as one halfword is at pc, with its accesses in the stack
     pub pair_expansion :
         IsNoGroup (stretch r.core.place) → (is : List Instr) → item_expansion (p.item r.core.place) ≡ Some is → (k : ℕ) (z : ZcState) → From k z → 0 < k → OnGroup laid.room k z.core
     pair_expansion other is are k z from some =
@@ -174,7 +174,7 @@ module _ {p : Program} {Named : Place → Type 0} {e : Image} {stretch : Place �
         by (GroupOf items commits) single group steps one = absurd single
         by (TableOf slot) single table steps one = site table.goes
 
-    -- a group's instructions stand there, with their accesses in the stack
+    -- a group's instructions are at pc, with their accesses in the stack
     pub pair_group : (items commits : ℕ) → stretch r.core.place ≡ GroupOf items commits → (k : ℕ) (z : ZcState) → From k z → 0 < k → OnGroup laid.room k z.core
     pair_group items commits is k z from some =
         let group = subst (StretchLaid p e r.core.place z.core.pc) is (laid.each r.core.place z.core.pc from.sound.place) in

@@ -61,7 +61,7 @@ module _ {p : Program} {e : Image} (room : Room p e) where
       → WordStands V (reg_numeric op a b) (reg_result op m n)
   reg_numeric_stands op a b m n small_m small_n ha hb = number_results2 V a b (reg_result op) m n small_m small_n ha hb
 
-  -- of two registers by their numbers; register 0 holds 0
+  -- an operation on two registers, by their numbers; register 0 holds 0
   pub reg_word_stands :
       (op : RegOp) (first second : ℕ) (a b : SymWord) (m n : ℕ) → m < 2 ^ 32 → n < 2 ^ 32 → (first ≡ 0 → m ≡ 0) → (second ≡ 0 → n ≡ 0)
       → WordStands V a m → WordStands V b n → WordStands V (reg_word op first second a b) (reg_result op m n)

@@ -20,7 +20,7 @@ use Rattle.zc_link.proofs.Instrs.{IsQuiet}
 use Rattle.zc_link.proofs.Ready.{alike_moved, ready_moved}
 use Rattle.zc_link.proofs.Singles.{FromSound, below_top, comes_after}
 
--- so many commits come to a state that is still alike, at an address
+-- after `count` commits the state is still alike, at an address
 record Padded (p : Program) (Named : Place → Type 0) (e : Image) (s : PlainCore) (cuts : ℕ → List Interrupt) (count b : ℕ) (z : ZcState) : Type 0 where
   after : ZcCore
   runs : zc_turns cuts count z ≡ Ok (record z { core = after })

@@ -3,7 +3,7 @@
 use Rattle.std.proofs.Common.{◌≡◌, ℕ, suc, ◌+◌, ◌<◌, ◌≤◌, ℤ, pos, negsuc, List, [], ◌∷◌, map, filter, length, max, min, Option, Some, None, Bool, true, false, cond, eqb, ltb, leb, refl, sym, ap, ◌∙◌, arith, inl, inr, ◌⊎◌}
 use Rattle.std.specs.Prelude.{◌&&◌, ◌||◌, not}
 use Rattle.std.specs.List.{find, list_any}
-use Rattle.std.specs.Option.{option_and_then, option_map}
+use Rattle.std.specs.Option.{option_and_then, option_map, option_map_or}
 use Rattle.std.proofs.lemmas.Bool.{and_from, and_parts, eq-eqb, eqb-true, leb-true, lt-ltb, ltb-false, or_cases, or_parts}
 use Rattle.zc_base.specs.declared.place.Place.{Place}
 use Rattle.elf32_read.specs.Parts.{SectionParts, is_code_section}
@@ -20,13 +20,13 @@ use Rattle.psabi_sym.proofs.FaultLaws.{neither}
 use Rattle.rv_decode.specs.declared.instr.Instr.{Instr}
 use Rattle.block_cut.specs.declared.item.Item.TheVariants.{PcHi}
 use Rattle.block_cut.specs.Faults.{first_fault, is_pair_at, is_zero_addend, reloc_fault}
-use Rattle.block_cut.specs.Items.{code_at, code_only, is_target_at, item_at, item_under, known_item, of_instr, raw_in, size_on, starts_on, target_of}
+use Rattle.block_cut.specs.Items.{code_at, is_target_at, item_at, item_under, known_item, raw_in, size_on, starts_on, target_of}
 use Rattle.block_cut.specs.Relocs.{field_end, field_of, instr_in, overlaps_another, is_ignored, is_pcrel_hi, is_pcrel_lo, is_placed, is_sound, has_pcrel_hi_at, overlap, reloc_on}
 use Rattle.block_cut.proofs.ItemLaws.{item_there}
 use Rattle.block_cut.proofs.ListedLaws.{listed}
 use Rattle.block_cut.proofs.PlainLaws.{target_on}
 use Rattle.block_cut.proofs.SoundLaws.{sound_at}
-use Rattle.block_cut.proofs.WholeLaws.{code_is_section}
+use Rattle.block_cut.proofs.WholeLaws.{code_at_is, code_is_section}
 use Rattle.zc_link.specs.LaidOut.{ListsLeaders}
 use Rattle.sym_machine.specs.AddressParts.{pc_target}
 use Rattle.zc_link.specs.Values.{target_value, way}
@@ -70,7 +70,7 @@ hi_parts n r h =
     let size : field_of r ≡ 4 = ap (λ x. field_length x r.addend) k in
     (k, eqb-true r.offset n two.1, omega arith)
 
--- another that stands there counts
+-- another relocation at the offset counts as one that overlaps
 counted : (n : ℕ) (x : Reloc) (ys : List Reloc) → x.offset ≡ n → 0 < field_of x → list_any (hi_at n) ys ≡ true → 0 < length (filter (overlap x) ys)
 counted n x [] at some h = absurd cc
 counted n x (y ∷ ys) at some h = by (or_cases (hi_at n y) (list_any (hi_at n) ys) h) (λ later. counted n x ys at some later)
@@ -120,7 +120,7 @@ module _ (p : ParsedInputs) (l : IndexedSection) (n : ℕ) where
           choose (inl hi) = absurd (cc (fails, hi_sound x hi fine))
           choose (inr later) = rest later here
 
-  -- and something is found
+  -- some relocation is found at the offset
   pub some_found : (ys : List Reloc) → first_some (map (reloc_fault p l) ys) ≡ None → list_any (hi_at n) ys ≡ true → (r : Reloc) × (find (sound_on s n) ys ≡ Some r)
   some_found [] none some = absurd cc
   some_found (x ∷ xs) none some =
@@ -186,7 +186,7 @@ module _ (inputs : Inputs) (none : first_fault inputs ≡ None) (A : Place → O
         item = item_there p2 from s at start ∙ ap Some
             ((λ j. item_under p2 from (is j) (size_on s from.offset) s.bytes)
             ∙ (λ j. known_item (k j) r.addend (target_of p2 from.object r) s.bytes from.offset)
-            ∙ ap (λ d. of_instr d (raw_in 4 s.bytes from.offset) (λ i2. PcHi i2 (target_of p2 from.object r))) e);
+            ∙ ap (λ d. option_map_or (λ i2. PcHi i2 (target_of p2 from.object r)) d (raw_in 4 s.bytes from.offset)) e);
         has = has;
       }
 
@@ -207,7 +207,7 @@ module _ (inputs : Inputs) (none : first_fault inputs ≡ None) (A : Place → O
       let rest = and_parts (eqb from.section q.section) (has_pcrel_hi_at s from.offset) one.1 in
       let object = eqb-true from.object q.object one.0 in
       let section = eqb-true from.section q.section rest.0 in
-      let here : code_at p2.objects from ≡ Some s = (λ j. option_and_then code_only (section_at p2.objects (object j) (section j))) ∙ at in
+      let here = code_at_is p2.objects from s ((λ j. section_at p2.objects (object j) (section j)) ∙ two.0) two.1 in
       let inside = leb-true (from.offset + 4) (length s.bytes) (and_parts (leb (from.offset + 4) (length s.bytes)) _ rest.1).0 in
       let start : starts_on s from.offset ≡ true = starts here target inside in
       let upper = upper_at from s here start rest.1 in

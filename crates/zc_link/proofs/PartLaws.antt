@@ -1,12 +1,12 @@
--- The upper part and the signed lower part of a word sum up to it, modulo 2^32; and so do those of the way from an address to
--- another, if the address is added.
+-- The upper part and the signed lower part of a word sum up to it, modulo 2^32; and those of the distance from an address to
+-- another sum up to the other one, if the address is added.
 use Rattle.std.proofs.Common.{◌≡◌, ℕ, ◌+◌, ◌-◌, ◌*◌, ◌/◌, ◌%◌, ◌^◌, ◌<◌, Bool, true, false, cond, refl, ap, ◌∙◌, arith, ℤ, pos, negsuc, ltb}
 use Rattle.std.proofs.lemmas.Bool.{ltb-false, ltb-true}
 use Rattle.rv_decode.specs.Bits.{add32, field}
 use Rattle.psabi_reloc.specs.Parts.{hi20_of, lo12_of}
 use Rattle.zc_link.specs.Values.{way}
 
--- what an `auipc` at address a gives on the way to address t
+-- what an `auipc` at address a gives for a target at address t
 abbrev pub pc_upper : ℕ → ℕ → ℕ
 pc_upper a t = (a + hi20_of (way a t) * 2 ^ 12) % 2 ^ 32
 
@@ -29,6 +29,6 @@ way_sum a t low =
     let d : ℕ = way a t in
     add32_shift a (hi20_of d * 2 ^ 12) (d % 2 ^ 32) (lo12_of d) (parts_sum d) ∙ omega (arith, low)
 
--- so an `auipc` and a `jalr` that have them lead to an even address
+-- an `auipc` and a `jalr` with the two parts lead to an even address
 pub call_reaches : (a t : ℕ) → a < 2 ^ 32 → t < 2 ^ 32 → t % 2 ≡ 0 → add32 (pc_upper a t) (lo12_of (way a t)) / 2 * 2 ≡ t
 call_reaches a t low small even = ap (λ x. x / 2 * 2) (way_sum a t low) ∙ omega (arith, small, even)

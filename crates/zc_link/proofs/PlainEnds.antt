@@ -1,19 +1,19 @@
 -- In the plain layout the end of a section of code has the address where the section ends. So code ends by these addresses where the
 -- plain layout ends.
 use Rattle.std.proofs.Common.{◌≡◌, ℕ, ◌+◌, List, [], ◌∷◌, length, Bool, true, false, cond, Option, Some, None, refl, sym, ap, ◌∙◌, subst, inr, arith}
-use Rattle.std.specs.Option.{option_and_then, unwrap_or}
+use Rattle.std.specs.Option.{unwrap_or}
 use Rattle.std.proofs.lemmas.List.Sums.{fold-append}
 use Rattle.zc_base.specs.declared.place.Place.{Place}
 use Rattle.elf32_read.specs.Parts.{SectionParts, is_code_section}
 use Rattle.psabi_sym.specs.Faults.{gather_fault}
 use Rattle.psabi_sym.specs.Inputs.{Inputs, ParsedInputs, parsed}
 use Rattle.psabi_sym.specs.Indexed.{IndexedSection, section_at, sections_before}
-use Rattle.block_cut.specs.Items.{code_at, code_only, place_of}
+use Rattle.block_cut.specs.Items.{code_at, place_of}
 use Rattle.block_cut.specs.PlainLayout.{plain_address, plain_end, plain_end_of, section_end as plain_section_end}
 use Rattle.block_cut.proofs.ListedLaws.{before_more, listed}
 use Rattle.block_cut.proofs.PlainLaws.{offset_end, place_address}
 use Rattle.block_cut.proofs.RoomLaws.{section_end-other}
-use Rattle.block_cut.proofs.WholeLaws.{code_whole}
+use Rattle.block_cut.proofs.WholeLaws.{code_at_is, code_whole}
 use Rattle.zc_link.specs.LaidOut.{code_end_after, laid_section_end, text_end}
 use Rattle.zc_link.specs.TextLayout.{TextLayout, front_end, plain_layout}
 use Rattle.zc_link.proofs.EachSection.{before_each, of_all}
@@ -22,7 +22,7 @@ use Rattle.zc_link.proofs.EachSection.{before_each, of_all}
 pub code_found :
     (p : ParsedInputs) (o i n : ℕ) (s : SectionParts) → section_at p.objects o i ≡ Some s → is_code_section s ≡ true
     → code_at p.objects (record { object = o; section = i; offset = n }) ≡ Some s
-code_found p o i n s found code = ap (option_and_then code_only) found ∙ ap (λ b. cond b (Some s) None) code
+code_found p o i n s found code = code_at_is p.objects (record { object = o; section = i; offset = n }) s found code
 
 module _ (inputs : Inputs) (none : gather_fault inputs ≡ None) where
   abbrev p : ParsedInputs
@@ -42,7 +42,7 @@ module _ (inputs : Inputs) (none : gather_fault inputs ≡ None) where
   abbrev AreEnds : List IndexedSection → Type 0
   AreEnds ls = code_end_after L ls ≡ plain_end_of p ls
 
-  -- one section more
+  -- one section more in the plain layout
   section_ends :
       (o i : ℕ) (s : SectionParts) → section_at p.objects o i ≡ Some s
       → laid_section_end L (plain_end_of p (sections_before p.objects o i)) (listed o i s)
@@ -77,7 +77,7 @@ module _ (inputs : Inputs) (none : gather_fault inputs ≡ None) where
   pub ends_before : (o i : ℕ) (s : SectionParts) → section_at p.objects o i ≡ Some s → AreEnds (sections_before p.objects o i)
   ends_before = before_each p.objects AreEnds front_is one_more
 
-  -- and all
+  -- all sections in the plain layout
   pub text_end_is : text_end L ≡ plain_end p
   unfolding plain_end
   text_end_is = of_all p.objects AreEnds front_is one_more

@@ -7,6 +7,7 @@ use Rattle.std.proofs.lemmas.Option.{none-some, same_Some}
 use Rattle.zc_base.specs.declared.place.Place.{Place}
 use Rattle.elf32_read.specs.Parts.{SectionParts, is_code_section}
 use Rattle.psabi_reloc.specs.Reaches.{branch_reach, jal_reach, short_branch_reach, short_jump_reach}
+use Rattle.psabi_sym.proofs.BlockLaws.{aligned_up-ge}
 use Rattle.psabi_sym.specs.Blocks.{aligned_up}
 use Rattle.psabi_sym.specs.Faults.{gather_fault, power_above}
 use Rattle.psabi_sym.specs.Inputs.{Inputs, ParsedInputs, parsed}
@@ -22,7 +23,7 @@ use Rattle.block_cut.specs.Relocs.{instr_in}
 use Rattle.block_cut.specs.declared.item.Item.{Item}
 use Rattle.block_cut.specs.declared.item.Item.TheVariants.{Op, Hi, Lo, PcHi, PcLo, Branch, Jump, Call, Align, Word, Raw, RawShort, RawPair}
 use Rattle.block_cut.proofs.PlainLaws.{AreBounds, AtEnd, Coincide, FirstFlat, InPadding, IsFlat, Same, SecondFlat, address_bounds, apart, item_here, next_address, place_address, spot}
-use Rattle.block_cut.proofs.RoomLaws.{after_starts-ge, aligned_up-ge, plain_end-fits}
+use Rattle.block_cut.proofs.RoomLaws.{after_starts-ge, plain_end-fits}
 use Rattle.block_cut.proofs.StartLaws.{start_first}
 use Rattle.block_cut.proofs.WholeLaws.{code_whole}
 use Rattle.sym_machine.specs.Conditions.{is_solid}
@@ -93,7 +94,7 @@ module _ (inputs : Inputs) (ready : IsReady inputs) where
       way_jumps a b (omega (arith, one.few, map.code, map.data_room, map.top)) (omega (arith, two.few, map.code, map.data_room, map.top))
       (omega (arith, two.few, one.low)) (omega (arith, one.few, two.low)) (omega (arith, one.words)) (omega (arith, two.words))
 
-  -- and a branch, since no fault stands there; so do branches and jumps of two bytes in these
+  -- a branch is in range, since otherwise there would be a fault; so are branches and jumps of two bytes
   module _ (q to : Place) (a b : ℕ) (from : A q ≡ Some a) (there : A to ≡ Some b) where
     way_is : as_signed (way a b) ≡ pos b -ℤ pos a
     way_is =
@@ -103,7 +104,7 @@ module _ (inputs : Inputs) (ready : IsReady inputs) where
         way_distance a b (omega (arith, one.few, map.code, map.data_room, map.top)) (omega (arith, two.few, map.code, map.data_room, map.top))
         (omega (arith, two.few, one.low)) (omega (arith, one.few, two.low))
 
-    -- what two bytes spell at the place
+    -- the instruction of two bytes at the place
     spelled_there : (item : Item) (is : item_at p q ≡ Some item) (i : ℤ → Instr) (d : ℤ) → size_at p.objects q ≡ 2
         → instr_in (size_on (item_here inputs none q item is).section q.offset) (item_here inputs none q item is).section.bytes q.offset ≡ Some (i d) → IsHalfNormal (i d)
     spelled_there item is i d two spells =
@@ -133,7 +134,7 @@ module _ (inputs : Inputs) (ready : IsReady inputs) where
   behind_is : (q : Place) → behind L q ≡ next_at p.objects q
   behind_is q = item_behind L q refl
 
-  -- each has its longest form: as many bytes as in its object, but for padding
+  -- each item has its longest form, its bytes in the object, except padding
   lies_item : (q : Place) (a : ℕ) (item : Item) → item_at p q ≡ Some item → A q ≡ Some a → LiesAt L q a (OneItem item)
   lies_item q a item is at =
       by item (size_at p.objects q) refl is (ap A (behind_is q) ∙ next_address inputs none q item a is at)
@@ -173,7 +174,7 @@ module _ (inputs : Inputs) (ready : IsReady inputs) where
   lies q a (OneGroup g) unit at = absurd (no_group (item_at p q) g unit)
   lies q a (OneSite slot) unit at = absurd (no_site (item_at p q) slot unit)
 
-  -- so in two bytes an instruction that is known before the layout has two bytes of its own
+  -- an item in two bytes whose instruction is known before the layout has two bytes of its own
   pub copied_alone :
       (q : Place) (item : Item) → item_at p q ≡ Some item → size_in L q ≡ 2 → (i : Instr) → fixed_instr item ≡ Some i
       → (size_at p.objects q ≡ 2) × (item ≡ Op i)
@@ -208,7 +209,7 @@ module _ (inputs : Inputs) (ready : IsReady inputs) where
 
   -- ---- sections
 
-  -- one begins after those before it
+  -- a section begins after those before it
   begins :
       (o i : ℕ) (s : SectionParts) → section_at p.objects o i ≡ Some s → is_code_section s ≡ true
       → code_end_after L (sections_before p.objects o i) ≤ unwrap_or (A (place_at o i 0)) 0

@@ -26,7 +26,7 @@ module _ (inputs : Inputs) (none : first_fault inputs ≡ None) where
   fine : AreFaultless inputs
   fine = all_none inputs none
 
-  -- a branch or jump at a place that has to reach in so many bytes does
+  -- a branch or jump at a place is in range, if it may be out of range at all
   reached :
       (q : Place) (i : Item) (to : Place) (a b : ℕ) → item_at p q ≡ Some i → way_place (size_at p.objects q) i ≡ Some to
       → plain_address p q ≡ Some a → plain_address p to ≡ Some b → reaches (size_at p.objects q) i (pos b -ℤ pos a) ≡ true

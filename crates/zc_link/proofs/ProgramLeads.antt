@@ -20,7 +20,7 @@ use Rattle.rv_decode.specs.declared.instr.Instr.TheVariants as instr
 use Rattle.block_cut.specs.declared.item.Item.{Item}
 use Rattle.block_cut.specs.declared.item.Item.TheVariants.{Branch, Jump}
 use Rattle.block_cut.specs.Faults.{first_fault}
-use Rattle.block_cut.specs.Items.{call_item, code_at, instr_item, is_end_at, is_start_at, is_target_at, item_at, item_under, known_item, next_at, of_instr, raw_in, raw_pair, size_on, spelled_item, target_away, target_of, to_place, transfer_item}
+use Rattle.block_cut.specs.Items.{call_item, code_at, instr_item, is_end_at, is_start_at, is_target_at, item_at, item_under, known_item, next_at, raw_in, raw_pair, size_on, spelled_item, target_away, target_of, to_place, transfer_item}
 use Rattle.block_cut.specs.Leaders.{ends_block, goes_to}
 use Rattle.block_cut.specs.Relocs.{instr_in, is_ignored, reloc_on}
 use Rattle.block_cut.proofs.ItemLaws.{item_found}
@@ -69,7 +69,7 @@ module _ (inputs : Inputs) (none : first_fault inputs ≡ None) where
   -- items of an instruction, and items that go to a place
   instr_named :
       (o : Option Instr) (other : Item) (f : Instr → Item) → NamesItem Named other → ((i : Instr) → NamesItem Named (f i))
-      → NamesItem Named (of_instr o other f)
+      → NamesItem Named (option_map_or f o other)
   instr_named None other f stays each = stays
   instr_named (Some i) other f stays each = each i
 

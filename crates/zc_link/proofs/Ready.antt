@@ -114,7 +114,7 @@ alike_moved pc commits al = record {
   below = al.below;
 }
 
--- and if the program forgets a register other than sp, in which the machine gets a word
+-- states are still alike if the program forgets a register other than sp, in which the machine gets a word
 pub alike_forgets :
     {p : Program} {Named : Place → Type 0} {e : Image} {s : PlainCore} {z : ZcCore} (rd v pc commits : ℕ) → rd ≢ 2
     → v < 2 ^ 32 → Alike p Named e s z

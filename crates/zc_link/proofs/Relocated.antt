@@ -71,7 +71,7 @@ module _ {p : Program} {Named : Place → Type 0} {e : Image} {s : PlainCore} {z
   hi_goes instr.Ebreak t x is h = absurd cc
   hi_goes (instr.Csrrw rd source) t x is h = absurd cc
 
-  -- of the way from here
+  -- an instruction with the upper part of the distance from here
   pub pc_hi_goes :
       (i : Instr) (q : Place) (t : Target) (x : ℕ) → pc_target (p.item q) ≡ Some t → e.address q ≡ Some z.pc
       → target_value e.address t ≡ Some x → upper_does Auipc i (value_word (PcHi q)) next ≡ Goes c
@@ -128,7 +128,7 @@ module _ {p : Program} {Named : Place → Type 0} {e : Image} {s : PlainCore} {z
     sum_moves instr.Ebreak k w registers named stands names h = absurd cc
     sum_moves (instr.Csrrw rd source) k w registers named stands names h = absurd cc
 
-    -- with the lower part of an address
+    -- an instruction with the lower part of an address
     pub lo_moves :
         (i : Instr) (t : Target) (x : ℕ) → target_value e.address t ≡ Some x → NamesTarget Named t → HasRegisters (with_imm i (lo12_of x))
         → (is_jalr i ≡ true → Named next) → by_sum i (low_sum t (reg_of s (base_register i))) s next ≡ Goes c → Moves p Named e (with_imm i (lo12_of x)) size c s z
@@ -139,7 +139,7 @@ module _ {p : Program} {Named : Place → Type 0} {e : Image} {s : PlainCore} {z
         (low_stands room t (reg_of s base) (reg_in z base) x (ready.core.words base) is (ready.registers base low))
         (low_names Named t (reg_of s base) names (ready.names.registers base low)) h
 
-    -- with the lower part of the way from an `auipc`
+    -- an instruction with the lower part of the distance from an `auipc`
     pub pc_lo_moves :
         (i : Instr) (from : Place) (t : Target) (a x : ℕ) → pc_target (p.item from) ≡ Some t → ((u : Target) → pc_target (p.item from) ≡ Some u → NamesTarget Named u)
         → e.address from ≡ Some a → target_value e.address t ≡ Some x → HasRegisters (with_imm i (lo12_of (way a x)))

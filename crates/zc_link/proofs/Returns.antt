@@ -133,7 +133,7 @@ module _ {p : Program} {Named : Place → Type 0} {e : Image} (room : Room p e) 
         let came1 = subst (λ (x : PlainState). CameTo q r x) same came in
         arrives from k q r' y came1 (next ∙ ap Some pc1) al1 (b.runs y (b.done.does ∙ ap Commits end))
 
-    -- one that returns
+    -- a pop that returns
     pub lands_ends :
         (let y = record b.now { regs = final_regs ending b.done.regs } in
         ended ending (onward b.now half.size b.done.regs) ≡ record y { pc = reg_in y 1 / 2 * 2; commits = b.now.commits + 1 })

@@ -19,7 +19,7 @@ abbrev pub IsRising : List IndexedSection → Type 0
 IsRising [] = Unit {0}
 IsRising (l ∷ ls) = All (IsBefore l) ls × IsRising ls
 
--- so do its places
+-- places come in the order of their sections
 pub before_places : (l m : IndexedSection) (k n : ℕ) → IsBefore l m → is_before (place_of l k) (place_of m n) ≡ true
 before_places l m k n (inl object) = or_left (nat_lt l.object m.object) _ (lt-ltb l.object m.object object)
 before_places l m k n (inr same) =
@@ -33,16 +33,16 @@ before_places l m k n (inr same) =
 abbrev IsFrom : ℕ → ℕ → IndexedSection → Type 0
 IsFrom o n l = (l.object ≡ o) × (n ≤ l.index)
 
--- its sections from an index on
+-- an object's sections from an index on
 abbrev own : ℕ → ℕ → List SectionParts → List IndexedSection
 own o n ss = map (listed_at o) (enumerate_from n ss)
 
--- they are at or after any index up to there
+-- an object's sections from an index on are at or after any index up to that
 own_from : (o n low : ℕ) (ss : List SectionParts) → low ≤ n → All (IsFrom o low) (own o n ss)
 own_from o n low [] le = All-nil (IsFrom o low)
 own_from o n low (s ∷ ss) le = All-cons (IsFrom o low) (listed_at o (n, s)) (own o (n + 1) ss) (refl, le) (own_from o (n + 1) low ss (omega (arith, le)))
 
--- and come in order
+-- an object's sections come in order
 own_rising : (o n : ℕ) (ss : List SectionParts) → IsRising (own o n ss)
 own_rising o n [] = tt
 own_rising o n (s ∷ ss) = (
@@ -61,7 +61,7 @@ rising_append o (x ∷ xs) ys rising_x rising_y are later =
       rising_append o xs ys rising_x.1 rising_y (All-tail (IsFrom o 0) x xs are) later,
     )
 
--- those of objects from an index on are of these
+-- the sections of objects from an index on are of these objects
 objects_from : (n low : ℕ) (objects : List ObjectParts) → low ≤ n → All (λ l. low ≤ l.object) (flat_map sections_in (enumerate_from n objects))
 objects_from n low [] le = All-nil (λ (l : IndexedSection). low ≤ l.object)
 objects_from n low (o ∷ os) le =
@@ -70,14 +70,14 @@ objects_from n low (o ∷ os) le =
     (All-weaker (IsFrom n 0) P (λ l from. omega (arith, from.0, le)) (own n 0 o.sections) (own_from n 0 0 o.sections (omega arith)))
     (objects_from (n + 1) low os (omega (arith, le)))
 
--- so they come in order
+-- the sections of objects from an index on come in order
 objects_rising : (n : ℕ) (objects : List ObjectParts) → IsRising (flat_map sections_in (enumerate_from n objects))
 objects_rising n [] = tt
 objects_rising n (o ∷ os) =
     rising_append n (own n 0 o.sections) (flat_map sections_in (enumerate_from (n + 1) os)) (own_rising n 0 o.sections) (objects_rising (n + 1) os) (own_from n 0 0 o.sections (omega arith))
     (All-weaker (λ (l : IndexedSection). n + 1 ≤ l.object) (λ l. n < l.object) (λ l above. omega (arith, above)) (flat_map sections_in (enumerate_from (n + 1) os)) (objects_from (n + 1) (n + 1) os (omega arith)))
 
--- and all sections of the objects do
+-- all sections of the objects come in order
 pub sections_rising : (objects : List ObjectParts) → IsRising (all_sections objects)
 unfolding all_sections
 sections_rising objects = objects_rising 0 objects

@@ -65,7 +65,7 @@ module _ (L : TextLayout) (k : ℕ) (l : IndexedSection) (at : slice_get (all_se
   abbrev p : ParsedInputs
   p = parsed L.inputs
 
-  -- one that isn't code
+  -- a section that isn't code adds nothing
   pub other_section :
       (text : List ℕ) (places : List (Place × ℕ)) → is_code_section l.section ≡ false → IsTextOf L (before L k) text places
       → IsTextOf L (before L (k + 1)) text places
@@ -82,7 +82,7 @@ module _ (L : TextLayout) (k : ℕ) (l : IndexedSection) (at : slice_get (all_se
       subst (λ ts. IsSoFar L ts (code_end_after L (before L (k + 1))) text places) targets
       (subst (λ e. IsSoFar L (flat_map targets_of (before L k)) e text places) ends so_far)
 
-  -- one that is begins no earlier than the text so far ends
+  -- a section of code begins no earlier than the text ends
   module _ (laid : IsLaidOut L) (code : is_code_section l.section ≡ true) (begin : ℕ) (listed : L.address (place_of l 0) ≡ Some begin) where
     pub begins_late : code_end_after L (before L k) ≤ begin
     begins_late =

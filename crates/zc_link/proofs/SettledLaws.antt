@@ -19,9 +19,9 @@ use Rattle.block_cut.proofs.ItemLaws.{item_found}
 use Rattle.block_cut.proofs.PlaceOrder.{same_or_before}
 use Rattle.sym_machine.specs.Conditions.{is_solid}
 use Rattle.shrink_layout.specs.declared.piece.Piece.{Piece}
-use Rattle.shrink_layout.specs.declared.piece.Piece.TheVariants.{Fixed, Joined}
+use Rattle.shrink_layout.specs.declared.piece.Piece.TheVariants.{Fixed, WithOthers}
 use Rattle.shrink_layout.specs.Halves.{fixed_instr}
-use Rattle.shrink_layout.specs.Forms.{HasAlignment, IsForm, holds, target, width}
+use Rattle.shrink_layout.specs.Forms.{HasAlignment, IsForm, form_reaches, target, width}
 use Rattle.shrink_layout.specs.Pieces.{group_size, instr_size, is_short, piece_number_at, piece_of, pieces_of, slot_at, unit_at, unit_piece}
 use Rattle.shrink_layout.specs.Settled.{settled_address, settled_addresses, settled_end, settled_sizes}
 use Rattle.frame_match.specs.declared.group.Group.{Group}
@@ -92,7 +92,7 @@ module _ (inputs : Inputs) (faultless : first_fault inputs ≡ None) (is_map : I
 
   -- ---- what is written
 
-  -- its piece: its form, and where it ends
+  -- the piece of a unit: its form, and where it ends
   record IsPiece (q : Place) (u : CodeUnit) : Type 0 where
     pub within : piece_number_at objects q < length pieces
     pub there : (d : Piece) → get_or pieces (piece_number_at objects q) d ≡ unit_piece objects (Some u)
@@ -124,7 +124,7 @@ module _ (inputs : Inputs) (faultless : first_fault inputs ≡ None) (is_map : I
     few = settled_few inputs none is_map slots slots_few q b is;
   }
 
-  -- behind what is written lies the place so many items on
+  -- the place after what is written at a place is as many items on as the unit has
   behind_is : (q : Place) (u : CodeUnit) → unit_at (parsed inputs) slots q ≡ Some u → behind (zc_layout inputs slots) q ≡ after_items objects (unit_items u) q
   behind_is q u is = ap (λ o. after_items objects (option_map_or unit_items o 1) q) is
 
@@ -138,10 +138,10 @@ module _ (inputs : Inputs) (faultless : first_fault inputs ≡ None) (is_map : I
       let size = slice_index sizes n in
       let p = piece_of objects item in
       let there = own.there (Fixed 0) in
-      let fits : holds p size (at_number n) (at_number (target p)) ≡ true =
-      ap (λ r. holds r size (at_number n) (at_number (target r))) (sym there)
+      let fits : form_reaches p size (at_number n) (at_number (target p)) ≡ true =
+      ap (λ r. form_reaches r size (at_number n) (at_number (target r))) (sym there)
       ∙ fits_at inputs.map.text pieces sizes n (Fixed 0) own.within (forms inputs none is_map slots slots_few) (settled inputs none is_map slots slots_few).fits in
-      let reach : holds p size a (at_number (target p)) ≡ true = ap (λ x. holds p size x (at_number (target p))) (sym here.number) ∙ fits in
+      let reach : form_reaches p size a (at_number (target p)) ≡ true = ap (λ x. form_reaches p size x (at_number (target p))) (sym here.number) ∙ fits in
       let aligned : HasAlignment p = subst HasAlignment there (all_aligned inputs none slots n (Fixed 0) own.within) in
       record {
         is = (unit_item (parsed inputs) (slot_at (parsed inputs) slots) q item is).1;
@@ -162,7 +162,7 @@ module _ (inputs : Inputs) (faultless : first_fault inputs ≡ None) (is_map : I
       known_short objects item i (slice_index sizes (piece_number_at objects q)) a known (piece_is q (OneItem item) is).form
       (sym (size_is (zc_layout inputs slots) q a at.size got at.next) ∙ two)
 
-  -- so does a group, and the places inside it have no addresses
+  -- a group lies up to the place after it, and the places inside it have no addresses
   group_lies : (q : Place) (a : ℕ) (g : Group) → unit_at (parsed inputs) slots q ≡ Some (OneGroup g) → A q ≡ Some a → LiesAt (zc_layout inputs slots) q a (OneGroup g)
   group_lies q a g is got =
       let role = unit_group (parsed inputs) (slot_at (parsed inputs) slots) q g is in
@@ -183,7 +183,7 @@ module _ (inputs : Inputs) (faultless : first_fault inputs ≡ None) (is_map : I
   leaders : ListsLeaders (parsed inputs) A
   leaders q target leader = settled_listed inputs none is_map slots slots_few q ∙ leader_listed inputs none q target leader
 
-  -- so does a jump or call through the table
+  -- a jump or call through the table lies up to the place after it
   site_lies : (q : Place) (a n : ℕ) → unit_at (parsed inputs) slots q ≡ Some (OneSite n) → A q ≡ Some a → LiesAt (zc_layout inputs slots) q a (OneSite n)
   unfolding settled_addresses
   site_lies q a n is got =
@@ -230,7 +230,7 @@ module _ (inputs : Inputs) (faultless : first_fault inputs ≡ None) (is_map : I
   solid_found : (q : Place) (a : ℕ) → is_solid (item_at (parsed inputs) q) ≡ true → A q ≡ Some a → IsSolid q
   solid_found q a solid at = by (item_at (parsed inputs) q) refl solid
     where
-      some_bytes : (g : Group) (size a : ℕ) → IsForm (Joined (group_size g)) size → 0 < width (Joined (group_size g)) size a
+      some_bytes : (g : Group) (size a : ℕ) → IsForm (WithOthers (group_size g)) size → 0 < width (WithOthers (group_size g)) size a
       some_bytes g size a form = either (eqb g.rest 0) form
         where
           either : (b : Bool) → size ≡ cond b 2 (2 + instr_size (rest_instr g)) → 0 < size
@@ -268,7 +268,7 @@ module _ (inputs : Inputs) (faultless : first_fault inputs ≡ None) (is_map : I
             (omega (arith, number_rises_past (parsed inputs) q r x.item x.is (item_target (parsed inputs) r y.item y.is) before)) (number_most (parsed inputs) slots r),
       )
 
-  -- so two such with one address are one
+  -- two such places with one address are one
   settled_distinct :
       (q r : Place) (a : ℕ) → is_solid (item_at (parsed inputs) q) ≡ true → is_solid (item_at (parsed inputs) r) ≡ true
       → A q ≡ Some a → A r ≡ Some a → q ≡ r
@@ -306,6 +306,6 @@ module _ (inputs : Inputs) (faultless : first_fault inputs ≡ None) (is_map : I
         distinct = settled_distinct inputs faultless is_map slots few;
       }
 
-  -- and its text ends where the last piece does
+  -- the text ends where the last piece does
   pub settled_end_is : text_end (zc_layout inputs slots) ≡ settled_end (parsed inputs) slots
   settled_end_is = end_settled inputs (gathered inputs faultless) is_map slots few

@@ -23,7 +23,7 @@ use Rattle.block_cut.specs.declared.item.Item.TheVariants.{Op, Hi, Lo, PcHi, PcL
 use Rattle.sym_machine.specs.Conditions.{is_solid}
 use Rattle.shrink_layout.specs.declared.piece.Piece.TheVariants as piece
 use Rattle.shrink_layout.specs.Halves.{fixed_instr, fixed_part}
-use Rattle.shrink_layout.specs.Forms.{HasAlignment, IsForm, distance, holds, target, width}
+use Rattle.shrink_layout.specs.Forms.{HasAlignment, IsForm, distance, form_reaches, target, width}
 use Rattle.shrink_layout.specs.Pieces.{instr_size, is_short, jump_piece, part_size, piece_number_at, piece_of}
 use Rattle.shrink_layout.proofs.Distances.{distance_back, distance_on}
 use Rattle.zc_link.specs.LaidOut.{HasBranchSize, HasForm, HasJumpSize, HasSize, OfWay}
@@ -33,7 +33,7 @@ use Rattle.zc_link.proofs.SettledLawsShort.{branch_short, jump_short}
 
 -- ---- ways
 
--- a `jal` goes so far
+-- a `jal` reaches this far
 pub jal_settled : (a b : ℕ) → a % 2 ≡ 0 → b % 2 ≡ 0 → b ≤ a + 0x9_0004 → a ≤ b + 0x9_0004 → jal_reach (distance a b) ≡ true
 jal_settled a b ea eb near back = elim (cases_lt b a) [
   | inr le ↦
@@ -97,7 +97,7 @@ module _
   module _ (a : ℕ) (even : a % 2 ≡ 0) (low : text ≤ a) (few : a ≤ text + 0x9_0000) where
     -- ---- branches and jumps
 
-    -- the way to a place with an address is the distance to its number's
+    -- the distance to a place with an address is that to its piece's
     way_near : (to : Place) (b : ℕ) → A to ≡ Some b → as_signed (way a b) ≡ distance a (address (piece_number_at objects to))
     way_near to b is =
         let there = near to b is in
@@ -127,12 +127,12 @@ module _
 
       branch_form :
           (to : Place) (size : ℕ) → IsForm (piece.Branch (piece_number_at objects to) short) size
-          → holds (piece.Branch (piece_number_at objects to) short) size a (address (piece_number_at objects to)) ≡ true
+          → form_reaches (piece.Branch (piece_number_at objects to) short) size a (address (piece_number_at objects to)) ≡ true
           → OfWay A a to (HasBranchSize branch size)
       branch_form to size form reach b is = by short refl form
         where
-          at : (n : ℕ) → size ≡ n → holds (piece.Branch (piece_number_at objects to) short) n a (address (piece_number_at objects to)) ≡ true
-          at n same = ap (λ m. holds (piece.Branch (piece_number_at objects to) short) m a (address (piece_number_at objects to))) (sym same) ∙ reach
+          at : (n : ℕ) → size ≡ n → form_reaches (piece.Branch (piece_number_at objects to) short) n a (address (piece_number_at objects to)) ≡ true
+          at n same = ap (λ m. form_reaches (piece.Branch (piece_number_at objects to) short) m a (address (piece_number_at objects to))) (sym same) ∙ reach
 
           four : size ≡ 4 → HasBranchSize branch size (as_signed (way a b))
           four same = inl (same, ap branch_reach (way_near to b is) ∙ at 4 same)
@@ -154,17 +154,17 @@ module _
 
       jump_form :
           (to : Place) (size : ℕ) → IsForm (jump_piece objects to short_jump) size
-          → holds (jump_piece objects to short_jump) size a (address (target (jump_piece objects to short_jump))) ≡ true
+          → form_reaches (jump_piece objects to short_jump) size a (address (target (jump_piece objects to short_jump))) ≡ true
           → OfWay A a to (HasJumpSize rd (width (jump_piece objects to short_jump) size a))
       jump_form to size form reach b is = by short_jump refl form reach
         where
           by :
               (s : Bool) → short_jump ≡ s → IsForm (jump_piece objects to s) size
-              → holds (jump_piece objects to s) size a (address (target (jump_piece objects to s))) ≡ true
+              → form_reaches (jump_piece objects to s) size a (address (target (jump_piece objects to s))) ≡ true
               → HasJumpSize rd (width (jump_piece objects to s) size a) (as_signed (way a b))
           by true e (inl same) reach =
               let at : short_jump_reach (distance a (address (piece_number_at objects to))) ≡ true =
-              ap (λ m. holds (piece.Jump (piece_number_at objects to)) m a (address (piece_number_at objects to))) (sym same) ∙ reach in
+              ap (λ m. form_reaches (piece.Jump (piece_number_at objects to)) m a (address (piece_number_at objects to))) (sym same) ∙ reach in
               inr (same, jump_short rd (pos 0) (as_signed (way a b)) e (ap short_jump_reach (way_near to b is) ∙ at))
           by true e (inr same) reach = inl (same, jal_near to b is)
           by false e same reach = inl (same, jal_near to b is)
@@ -180,7 +180,7 @@ module _
     -- an item may have the size that its piece has
     pub has_form :
         (own : ℕ) (item : Item) (size : ℕ) → HasAlignment (piece_of objects item) → IsForm (piece_of objects item) size
-        → holds (piece_of objects item) size a (address (target (piece_of objects item))) ≡ true
+        → form_reaches (piece_of objects item) size a (address (target (piece_of objects item))) ≡ true
         → HasForm A a own (width (piece_of objects item) size a) item
     has_form own (Op i) size aligned form reach = inr (subst (HasSize (Op i)) (sym form) (known_form (Op i) i refl))
     has_form own (Hi i t) size aligned form reach = subst (HasSize (Hi i t)) (sym form) (part_form (Hi i t) t (λ x. with_upper i (hi20_of x)) refl)

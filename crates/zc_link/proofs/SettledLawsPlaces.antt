@@ -96,12 +96,12 @@ module _ (inputs : Inputs) (none : gather_fault inputs ≡ None) (is_map : IsMap
   pub forms : AreForms pieces sizes
   forms = layout_forms inputs.map.text pieces sizes settled
 
-  -- so addresses are given to the places that images list, and to no others
+  -- addresses are given to the places that images list, and to no others
   pub settled_listed : (q : Place) → is_some (A q) ≡ is_listed_at p q
   unfolding settled_address
   settled_listed q = chosen_some (is_listed_at p q) (slice_index (settled_addresses p slots) (piece_number_at objects q))
 
-  -- such a place has the address of its number
+  -- a place that images list has the address of its number
   settled_there :
       (q : Place) (s : SectionParts) → code_at objects q ≡ Some s → is_listed_at p q ≡ true
       → A q ≡ Some (address (pieces_before objects q.object q.section s q.offset))
@@ -116,14 +116,14 @@ module _ (inputs : Inputs) (none : gather_fault inputs ≡ None) (is_map : IsMap
       end_listed p q
       (ap (λ o. option_map_or (λ t. eqb q.offset (length t.bytes)) o false) at ∙ eq-eqb q.offset (length s.bytes) end)
 
-  -- so is its first place, since a basic block begins there
+  -- the first place of a section is listed, since a basic block begins there
   first_there : (q : Place) (s : SectionParts) → code_at objects q ≡ Some s → (starts_on s q.offset ≡ true) ⊎ (q.offset ≡ length s.bytes) → q.offset ≡ 0
       → is_listed_at p q ≡ true
   first_there q s at target first =
       let led = target_there objects q s at target in
       leader_listed inputs none q led (first_leader p q first led)
 
-  -- and a place with an address has that of its number
+  -- a place with an address has that of its number
   pub settled_here : (q : Place) (a : ℕ) → A q ≡ Some a → address (piece_number_at objects q) ≡ a
   unfolding settled_address settled_addresses
   settled_here q a is = chosen (is_listed_at p q) (address (piece_number_at objects q)) a is
@@ -140,7 +140,7 @@ module _ (inputs : Inputs) (none : gather_fault inputs ≡ None) (is_map : IsMap
         first_address inputs.map.text pieces sizes,
       )
 
-  -- it is short
+  -- the table and its stub are short
   front_few : front_size slots ≤ 0x1000
   front_few = by slots slots_few
     where
@@ -186,7 +186,7 @@ module _ (inputs : Inputs) (none : gather_fault inputs ≡ None) (is_map : IsMap
   abbrev EndsThere : List IndexedSection → Type 0
   EndsThere ls = code_end_after L ls ≡ address (1 + sum_by piece_count ls)
 
-  -- with one section more
+  -- the end of the code with one section more
   ends_more :
       (o i : ℕ) (s : SectionParts) → section_at objects o i ≡ Some s → EndsThere (sections_before objects o i)
       → EndsThere (sections_before objects o (i + 1))
@@ -209,7 +209,7 @@ module _ (inputs : Inputs) (none : gather_fault inputs ≡ None) (is_map : IsMap
           let same : padding_number objects o i ≡ padding_number objects o (i + 1) = omega (arith, padding_number-next objects o i s found, nothing) in
           ap (λ b. cond b (unwrap_or (A (place_at o i (length s.bytes))) end) end) other ∙ before ∙ ap address same
 
-  -- of the sections before one
+  -- the end of the code of the sections before one
   ends_before :
       (o i : ℕ) (s : SectionParts) → section_at objects o i ≡ Some s
       → code_end_after L (sections_before objects o i) ≡ address (padding_number objects o i)

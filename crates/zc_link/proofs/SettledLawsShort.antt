@@ -15,7 +15,7 @@ use Rattle.zc_encode.proofs.NumberLaws.{and_three}
 
 -- ---- distances
 
--- an even distance of so many bits is a signed number that a halfword holds
+-- an even distance of `bits` bits is a signed number that a halfword holds
 pub signed_two : (bits : ℕ) → 2 ^ bits % 2 ≡ 0 → (z : ℤ) → is_even_of bits z ≡ true → is_signed bits 2 z ≡ true
 signed_two bits whole (pos n) h =
     let two = and_parts (ltb n (2 ^ (bits - 1))) (eqb (n % 2) 0) h in
@@ -30,7 +30,7 @@ signed_two bits whole (negsuc n) h =
 
 -- ---- branches
 
--- there is a halfword if its test passes
+-- there is a halfword exactly if its test passes
 pub when_is : (t : Bool) (half : ℕ) → is_some (when t half) ≡ t
 when_is true half = refl
 when_is false half = refl

@@ -1,5 +1,5 @@
--- Ways between addresses that are near. In two's complement such a way is the difference, and between even addresses one that `jal` may
--- go.
+-- Distances between addresses that are near. In two's complement such a distance is the difference, and between even addresses it
+-- is in the range of `jal`.
 use Rattle.std.proofs.Common.{◌≡◌, ℕ, suc, pos, negsuc, ◌+ℤ◌, ◌-ℤ◌, ◌+◌, ◌-◌, ◌%◌, ◌^◌, ◌<◌, ◌≤◌, inl, inr, true, eqb, ltb, sym, ap, ◌∙◌, arith}
 use Rattle.std.specs.Int.{w32}
 use Rattle.std.proofs.Math.Facts.{to_z-neg}
@@ -10,7 +10,7 @@ use Rattle.psabi_reloc.specs.Reaches.{jal_reach}
 use Rattle.rv_decode.specs.Bits.{as_signed}
 use Rattle.zc_link.specs.Values.{way}
 
--- the way on, or back
+-- the distance forward, and back
 way_on : (a n : ℕ) → pos (a + n) -ℤ pos a ≡ pos n
 way_on a n =
     let sum : n + a ≡ a + n = omega arith in
@@ -22,7 +22,7 @@ way_back b k =
     let up : negsuc k +ℤ pos (b + suc k) ≡ pos b = +ℤ_comm (negsuc k) (pos (b + suc k)) ∙ down in
     ap (λ z. z -ℤ pos (b + suc k)) (sym up) ∙ +ℤ-neg_ℤ_cancel (negsuc k) (pos (b + suc k))
 
--- in two's complement a short way is the difference
+-- in two's complement a short distance is the difference
 pub way_distance : (a b : ℕ) → a < 2 ^ 32 → b < 2 ^ 32 → b ≤ a + 0x9_0000 → a ≤ b + 0x9_0000 → as_signed (way a b) ≡ pos b -ℤ pos a
 way_distance a b ha hb near back = elim (cases_lt b a) [
   | inr le ↦
@@ -37,7 +37,7 @@ way_distance a b ha hb near back = elim (cases_lt b a) [
       ap as_signed is ∙ to_z-neg w32 k (omega arith) ∙ sym (way_back b k) ∙ ap (λ m. pos b -ℤ pos m) sum
 ]
 
--- a short way between even addresses is one that `jal` may go
+-- a short distance between even addresses is in the range of `jal`
 pub way_jumps : (a b : ℕ) → a < 2 ^ 32 → b < 2 ^ 32 → b ≤ a + 0x9_0000 → a ≤ b + 0x9_0000 → a % 2 ≡ 0 → b % 2 ≡ 0 → jal_reach (as_signed (way a b)) ≡ true
 way_jumps a b ha hb near back wa wb = elim (cases_lt b a) [
   | inr le ↦

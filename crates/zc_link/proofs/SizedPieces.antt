@@ -1,4 +1,5 @@
--- What starts at a place of a layout, by what is written there and its size, and how many commits that is: few, since padding is short.
+-- What starts at a place of a layout, by what is written there and its size, and its number of commits: few, since padding is
+-- short.
 use Rattle.std.proofs.Common.{◌≡◌, ℕ, ◌+◌, ◌-◌, ◌*◌, ◌<◌, ◌≤◌, Option, Some, None, Bool, true, false, cond, eqb, ltb, refl, ap, ◌∙◌, arith}
 use Rattle.std.specs.Option.{option_map_or}
 use Rattle.zc_base.specs.declared.place.Place.{Place}
@@ -30,7 +31,7 @@ long_few None = omega arith
 long_few (Some false) = omega arith
 long_few (Some true) = omega arith
 
--- so has what is written for an item in n bytes, if padding is short
+-- what is written for an item in n bytes has few commits, if padding is short
 item_few : (p : Program) (s : PlainCore) (n : ℕ) (i : Item) → ((bytes : ℕ) → i ≡ Align bytes → n < 256) → IsFew p s (stretch_of n (Some (OneItem i)))
 item_few p s n (Op i) short = omega arith
 item_few p s n (Hi i t) short = omega arith
@@ -54,7 +55,7 @@ item_few p s n (Raw word) short = omega arith
 item_few p s n (RawShort half) short = omega arith
 item_few p s n (RawPair first second) short = omega arith
 
--- so has a group
+-- a group has few commits
 group_few : (g : Group) → commits_in g ≤ 2
 group_few g = by (eqb g.rest 0)
   where
@@ -106,7 +107,7 @@ power_most n = by (ltb n 2) (ltb n 4) (ltb n 8) (ltb n 16) (ltb n 32) (ltb n 64)
 pub behind_item : (L : TextLayout) (q : Place) (i : Item) → L.unit q ≡ Some (OneItem i) → behind L q ≡ next_at (parsed L.inputs).objects q
 behind_item L q i is = ap (λ u. after_items (parsed L.inputs).objects (option_map_or unit_items u 1) q) is
 
--- the size of what is written is the way to the place behind it
+-- the size of what is written is the distance to the place after it
 pub size_is : (L : TextLayout) (q : Place) (a n : ℕ) → L.address q ≡ Some a → L.address (behind L q) ≡ Some (a + n) → size_in L q ≡ n
 size_is L q a n at next = let less : a + n - a ≡ n = omega arith in (λ j. bytes_between (at j) (next j)) ∙ less
 
@@ -122,7 +123,7 @@ module _ (L : TextLayout) (laid : IsLaidOut L) where
           let size = size_is L q a lies.size at lies.next in
           omega (arith, size, lies.form, aligned_up-lt (power_above k) a, power_most k)
 
-  -- so no stretch has many commits
+  -- no stretch has many commits
   pub few : (p : Program) (s : PlainCore) → commits_of p s (stretch_in L s.place) ≤ 64 * span_of (stretch_in L s.place)
   few p s = by (L.unit s.place) refl
     where
@@ -132,7 +133,7 @@ module _ (L : TextLayout) (laid : IsLaidOut L) where
       by (Some (OneGroup g)) unit = omega (arith, group_few g, group_items L laid s.place g unit)
       by (Some (OneSite slot)) unit = omega arith
 
-  -- and each has an item
+  -- each stretch has an item
   pub some : (q : Place) → 0 < span_of (stretch_in L q)
   some q = by (L.unit q) refl
     where

@@ -79,7 +79,7 @@ module _ (given : ℕ → ℕ → ℕ) (base : ℕ) where
       (and_from (leb (base + d.offset) x) (ltb x (base + d.offset + 4)) (le-leb (base + d.offset) x covers.0) (lt-ltb x (base + d.offset + 4) covers.1)))
       (covering ds x)
 
-  -- so the order makes no difference
+  -- memory is the same in whatever order the slots are written
   pub written_same :
       (ds es : List Slot) (m : List (Region ℕ)) → AreSame ds es
       → ((x : ℕ) (c d : Slot) → IsOneOf c es → IsOneOf d es → Covers base c x → Covers base d x → c ≡ d)
@@ -137,7 +137,7 @@ module _ (word : ℕ → ℕ) (base : ℕ) where
       reads_out ds (set_reg regs d.register (word (base + d.offset))) r (λ c n. none c (inr n))
       ∙ reads-set_reg_other 0 0 regs d.register (word (base + d.offset)) r (λ is. none d (inl refl) (sym is))
 
-  -- one with a slot has its word
+  -- a register with a slot gets the slot's word
   reads_in :
       (ds : List Slot) (regs : List ℕ) (r : ℕ) (d : Slot) → r ≢ 0 → r < length regs → IsOneOf d ds → d.register ≡ r
       → ((c : Slot) → IsOneOf c ds → c.register ≡ r → c ≡ d) → reads 0 0 (read_all word base ds regs) r ≡ word (base + d.offset)
@@ -159,7 +159,7 @@ module _ (word : ℕ → ℕ) (base : ℕ) where
       ∙ ap (λ (t : Slot). word (base + t.offset)) (sym here))
       (holding ds r)
 
-  -- so the order makes no difference, nor what the slots' registers held before
+  -- the registers are the same in whatever order the slots are read, and whatever the slots' registers held before
   pub reads_same :
       (ds es : List Slot) (xs ys : List ℕ) → AreSame ds es → length xs ≡ 32 → length ys ≡ 32
       → ((c d : Slot) → IsOneOf c es → IsOneOf d es → c.register ≡ d.register → c ≡ d) → ((d : Slot) → IsOneOf d es → (d.register < 32) × (0 < d.register))

@@ -59,12 +59,12 @@ falls b r rs h =
     not_true true h = absurd cc
     not_true false h = refl
 
--- and a0 is none of them
+-- a0 is none of the registers
 abbrev avoid : ℕ → List ℕ → Bool
 avoid k [] = true
 avoid k (r ∷ rs) = not (eqb r k) && avoid k rs
 
--- so it is for each list of pushes and pops, whose slots have room in its base
+-- the slots of each list of pushes and pops have room in the list's base
 fits : ℕ → Bool
 fits list =
     fall 32 (registers_of list) && (avoid 10 (registers_of list) && (leb (4 * length (registers_of list)) (stack_adjust_base list) && leb 16 (stack_adjust_base list)))
@@ -150,7 +150,7 @@ slots_apart top base (r ∷ rs) x c d room (inr a) (inl b) cx dx =
     absurd (omega (arith, h, k, dx.0, cx.1, room))
 slots_apart top base (r ∷ rs) x c d room (inr a) (inr b) cx dx = slots_apart (top - 4) base rs x c d (omega (arith, room)) a b cx dx
 
--- and no register has two
+-- no register has two slots
 slots_once : (top b : ℕ) (rs : List ℕ) (c d : Slot) → fall b rs ≡ true → IsOneOf c (slots_below top rs) → IsOneOf d (slots_below top rs) → c.register ≡ d.register → c ≡ d
 slots_once top b [] c d f m n e = absurd m
 slots_once top b (r ∷ rs) c d f (inl x) (inl y) e = x ∙ sym y

@@ -1,5 +1,5 @@
--- What is known of each item of inputs without a fault: its bytes, of which it has so many, spell what it is, and what it leads to has an
--- address.
+-- What is known of each item of inputs without a fault: it has its own number of bytes, these are its instruction, and what it
+-- leads to has an address.
 use Rattle.std.proofs.Common.{◌≡◌, ℕ, ◌+◌, ℤ, Option, Some, None, Bool, true, false, refl, sym, ap, ◌∙◌, subst, inl, inr}
 use Rattle.std.specs.Prelude.{◌&&◌, not}
 use Rattle.std.specs.Option.{option_map_or}
@@ -18,7 +18,7 @@ use Rattle.rv_decode.specs.declared.instr.Instr.{Instr}
 use Rattle.rv_decode.specs.declared.instr.Instr.TheVariants as instr
 use Rattle.rv_decode.specs.declared.instr.UpperOp.TheVariants.{Lui, Auipc}
 use Rattle.block_cut.specs.Faults.{first_fault, is_bad_target}
-use Rattle.block_cut.specs.Items.{call_item, code_at, is_target_at, item_at, item_in, item_under, known_item, of_instr, raw_in, raw_pair, size_at, size_on, spelled_item, target_away, target_of, to_place, transfer_item}
+use Rattle.block_cut.specs.Items.{call_item, code_at, is_target_at, item_at, item_in, item_under, known_item, raw_in, raw_pair, size_at, size_on, spelled_item, target_away, target_of, to_place, transfer_item}
 use Rattle.block_cut.specs.Leaders.{goes_to, is_leader_at}
 use Rattle.block_cut.specs.Relocs.{field_of, fits_at, instr_in, is_bad_kind, is_ignored, is_pcrel_lo, is_transfer, reloc_on}
 use Rattle.block_cut.specs.CodeSizes.{own_size}
@@ -54,7 +54,7 @@ module _ (inputs : Inputs) (none : gather_fault inputs ≡ None) (ready : IsRead
     abbrev n : ℕ
     n = q.offset
 
-    -- the instructions that so many bytes here spell, and a word behind one
+    -- the instruction of m bytes here, and that of the word after one
     abbrev one : ℕ → Option Instr
     one m = instr_in m s.bytes n
 
@@ -65,7 +65,7 @@ module _ (inputs : Inputs) (none : gather_fault inputs ≡ None) (ready : IsRead
     abbrev raw : ℕ → Item
     raw m = raw_in m s.bytes n
 
-    -- an item that has so many bytes here
+    -- an item that has m bytes here
     abbrev Stands : ℕ → Item → Type 0
     Stands m i = ItemStands A (item_at p) (one m) two i × HasOwnSize i m
 
@@ -131,7 +131,7 @@ module _ (inputs : Inputs) (none : gather_fault inputs ≡ None) (ready : IsRead
     -- an instruction with a part of an address
     parted :
         (is_kind : Option Instr → Bool) (f : Instr → Item) (d : Option Instr) → one 4 ≡ d → is_kind d ≡ true
-        → ((i : Instr) → SpellsKind is_kind (one 4) i → Stands 4 (f i)) → Stands 4 (of_instr d (raw 4) f)
+        → ((i : Instr) → SpellsKind is_kind (one 4) i → Stands 4 (f i)) → Stands 4 (option_map_or f d (raw 4))
     parted is_kind f None e kind each = (tt, refl)
     parted is_kind f (Some i) e kind each = each i (record { spells = e; kind = kind })
 
@@ -147,7 +147,7 @@ module _ (inputs : Inputs) (none : gather_fault inputs ≡ None) (ready : IsRead
 
       led :
           (d : Option Instr) (t : Target) → one m ≡ d → is_bad_target p.objects true t ≡ false
-          → ((to : Place) → t ≡ Code to → is_leader_at p to ≡ true) → Stands m (of_instr d (raw m) (λ i. to_place t (transfer_item i (raw m)) (raw m)))
+          → ((to : Place) → t ≡ Code to → is_leader_at p to ≡ true) → Stands m (option_map_or (λ i. to_place t (transfer_item i (raw m)) (raw m)) d (raw m))
       led None t e lost leads = raw_stands m size
       led (Some i) (Code to) e lost leads = transferred i to e (target_is (Code to) to true lost refl) (leads to refl)
       led (Some i) (Number k) e lost leads = raw_stands m size
@@ -178,11 +178,11 @@ module _ (inputs : Inputs) (none : gather_fault inputs ≡ None) (ready : IsRead
     called (Some (instr.Upper Lui temp upper)) d2 (Code to) e e2 kind lost leads = absurd cc
     called d d2 (Code to) e e2 kind lost leads = (tt, refl)
 
-    -- the lower part of a way
+    -- an instruction with the lower part of a distance
     lowered :
         (is_kind : Option Instr → Bool) (d : Option Instr) (t : Target) → one 4 ≡ d → is_kind d ≡ true
         → ((i : Instr) → is_kind (Some i) ≡ true → is_lower (Some i) ≡ true)
-        → ((from : Place) → t ≡ Code from → HasWay A (item_at p) from) → Stands 4 (of_instr d (raw 4) (λ i. to_place t (PcLo i) (raw 4)))
+        → ((from : Place) → t ≡ Code from → HasWay A (item_at p) from) → Stands 4 (option_map_or (λ i. to_place t (PcLo i) (raw 4)) d (raw 4))
     lowered is_kind None t e kind lower pair = (tt, refl)
     lowered is_kind (Some i) (Code from) e kind lower pair = ((record { spells = e; kind = lower i kind }, pair from refl), refl)
     lowered is_kind (Some i) (Number k) e kind lower pair = (tt, refl)

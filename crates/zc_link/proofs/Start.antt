@@ -115,7 +115,7 @@ module _ {p : Program} {Named : Place → Type 0} {e : Image} {piece : Place →
     below = λ a low lt. stack_unknown p laid.room.under a low;
   }
 
-  -- so many commits lead from the first state to a sound pair
+  -- k commits lead from the first state to a sound pair
   abbrev StartsAfter : ℕ → (ℕ → List Interrupt) → List ℕ → Type 0
   StartsAfter k cuts input =
       Comes p Named e cuts k (first_state (loaded_core e) input) (record { core = first_plain p input; events = [] })

@@ -27,7 +27,7 @@ module _ (p : ParsedInputs) (q : Place) where
     abbrev place : Place
     place = record { object = l.object; section = l.symbol.home; offset = l.symbol.value }
 
-    -- its home is code, and its offset is the place's
+    -- the symbol's section is code, and its offset is the place's
     record IsInCode (s : SectionParts) : Type 0 where
       same : place ≡ q
       code : is_code_section s ≡ true

@@ -58,7 +58,7 @@ pub ops_first : (p : Program) (q : Place) (is js : List Instr) → AreOps p q (i
 ops_first p q [] js ops = tt
 ops_first p q (i ∷ is) js ops = (ops.0, ops_first p (p.next q) is js ops.1)
 
--- and behind them
+-- the items after the first instructions are the others
 pub ops_last : (p : Program) (q : Place) (is js : List Instr) → AreOps p q (is ++ js) → AreOps p (place_items_on p q (length is)) js
 ops_last p q [] js ops = ops
 ops_last p q (i ∷ is) js ops = ops_last p (p.next q) is js ops.1
@@ -113,7 +113,7 @@ pub record CameTo (q : Place) (r r' : PlainState) : Type 0 where
   pub input : r'.core.input ≡ r.core.input
   pub running : r'.core.exit ≡ None
 
--- one turn is one step
+-- a run of one turn is one step
 pub one_turn : (p : Program) (r r' : PlainState) → iterate (plain_turn p) 1 r ≡ Ok r' → plain_turn p r ≡ Ok r'
 one_turn p r r' h =
     let first = bind_ok (plain_turn p r) (iterate (plain_turn p) 0) r' h in
@@ -164,7 +164,7 @@ on_way p (i ∷ is) (suc k) r r' few ops low running h =
 
 -- ---- both machines
 
--- one step of both
+-- one step of both machines
 pub record BothStep (p : Program) (Named : Place → Type 0) (e : Image) (i : Instr) (r r1 : PlainState) (z : ZcCore) : Type 0 where
   pub of : StepOf p i r r1
   pub goes : GoesOn p Named e i 0 of.step.change r.core (p.next r.core.place) z

@@ -61,7 +61,7 @@ use Rattle.zc_link.proofs.TablesLaid.{slot_holds}
 
 -- ---- by how it is spelled
 
--- one instruction hasn't eight bytes
+-- one instruction doesn't have eight bytes
 spelled_short : (n : ℕ) (bytes : List ℕ) (i : Instr) → IsSpelled n bytes i → eqb n 8 ≡ false
 spelled_short n bytes i (inl w) = ap (λ k. eqb k 8) w.0
 spelled_short n bytes i (inr h) = ap (λ k. eqb k 8) h.0
@@ -123,7 +123,7 @@ module _ (L : TextLayout) (is_map : IsMap L.inputs.map) (laid : IsLaidOut L) (pr
       let short = laid.short in
       (laid.even q a at, omega (arith, low, is_map.above), omega (arith, high, short, is_map.code, is_map.data_room, is_map.top))
 
-  -- one instruction
+  -- an item that is one instruction
   alone : (q : Place) (a n : ℕ) (bytes : List ℕ) (i : Instr) → HasRegisters i → A (next_at p.objects q) ≡ Some (a + n) → StandAt program parts out a bytes → IsSpelled n bytes i → AloneLaid program here q a i
   alone q a n bytes i registers next st sp =
       let is = spelled_at program parts out a n bytes i st sp in
@@ -220,7 +220,7 @@ module _ (L : TextLayout) (is_map : IsMap L.inputs.map) (laid : IsLaidOut L) (pr
   item_laid : (q : Place) (a : ℕ) (item : Item) → item_at p q ≡ Some item → ItemLaid program here q a (Some item) → ItemLaid program here q a (program.item q)
   item_laid q a item is = subst (ItemLaid program here q a) (sym (same_item q item is))
 
-  -- one instruction that is spelled
+  -- an item that is written as one instruction
   one_laid :
       (q : Place) (a n : ℕ) (item : Item) (bytes : List ℕ) → item_at p q ≡ Some item → A (next_at p.objects q) ≡ Some (a + n) → StandAt program parts out a bytes
       → SpellsMeant L a n item bytes → OneLaid program here q a item
@@ -246,7 +246,7 @@ module _ (L : TextLayout) (is_map : IsMap L.inputs.map) (laid : IsLaidOut L) (pr
           subst (λ b. StretchLaid program here q a (cond b (LongOf op first second) Alone)) (sym eight)
           (long_laid q a n op first second to bytes l.0 w.at w.next w.stands l.1 (same_item q (Branch op first second to) w.is))
 
-  -- so is a call
+  -- a call is laid
   calling_laid : (q : Place) (a n rd temp : ℕ) (to : Place) (bytes : List ℕ) → WrittenAt q a n (Call rd temp to) bytes → StretchLaid program here q a (stretch_of n (Some (OneItem (Call rd temp to))))
   calling_laid q a n rd temp to bytes w = by w.written
     where
@@ -259,7 +259,7 @@ module _ (L : TextLayout) (is_map : IsMap L.inputs.map) (laid : IsLaidOut L) (pr
           subst (λ b. StretchLaid program here q a (cond b CallOf Alone)) (sym eight)
           (call_laid q a n rd temp to bytes two.0 w.at w.next w.stands two.1 (same_item q (Call rd temp to) w.is))
 
-  -- an instruction without relocation is spelled, or a halfword of the object that spells it is copied
+  -- an instruction without relocation is written as itself, or its halfword in the object is copied
   op_laid : (q : Place) (a n : ℕ) (i : Instr) (bytes : List ℕ) → WrittenAt q a n (Op i) bytes → OneLaid program here q a (Op i)
   unfolding alone half_at_address
   op_laid q a n i bytes w = by L.keeps_halfwords w.written
@@ -461,6 +461,6 @@ module _ (L : TextLayout) (is_map : IsMap L.inputs.map) (laid : IsLaidOut L) (pr
   distinct q r a solid_q solid_r at_q at_r =
       laid.distinct q r a (ap is_solid (λ j. sym shows.item j q) ∙ solid_q) (ap is_solid (λ j. sym shows.item j r) ∙ solid_r) (sym (listed_at q) ∙ at_q) (sym (listed_at r) ∙ at_r)
 
-  -- and all are even
+  -- the addresses of listed places are even
   pub even : (q : Place) (a : ℕ) → here.address q ≡ Some a → (a % 2 ≡ 0) × (0 < a) × (a < 2 ^ 32)
   even q a at = even_word q a (sym (listed_at q) ∙ at)

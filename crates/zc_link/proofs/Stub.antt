@@ -80,7 +80,7 @@ started_room start room = record {
   distinct = room.distinct;
 }
 
--- the same is fetched
+-- the image with another start fetches the same
 started-fetched :
     (e : Image) (start a : ℕ) → fetched_at (loaded_core (started e start)) a ≡ fetched_at (loaded_core e) a
 unfolding first_core
@@ -181,7 +181,7 @@ module _
   abbrev with_table : ZcCore
   with_table = record (onward second.now stub.sets.size second.now.regs) { jvt = reg_in second.now 5 / 64 * 64 }
 
-  -- t0 holds the text's start, and so does jvt
+  -- t0 and jvt hold the text's start
   table_is : reg_in second.now 5 / 64 * 64 ≡ e.map.text
   table_is =
       let long = first.alike.core.count in

@@ -133,7 +133,7 @@ call_laid = record {
 
 -- ---- a run
 
--- pc, jvt and ra after so many commits without interrupts
+-- pc, jvt and ra of a state
 abbrev shown : Result ZcState Reason → Option (ℕ × ℕ × ℕ)
 shown (Ok r) = Some (r.core.pc, r.core.jvt, reg_in r.core 1)
 shown (Err reason) = None

@@ -114,7 +114,7 @@ module _
       let pc = ap (λ x. x.pc) behind.spoiled.rest in
       laid.next ∙ ap Some (below_top z.core.pc now.pc laid.at.size pc laid.at.small)
 
-  -- so it stands for the word that the program puts in the register
+  -- the address that the machine links stands for the word that the program puts in the register
   set_ready :
       {s : PlainCore} → Ready p Named e s now → Named next
       → Ready p Named e

@@ -109,7 +109,7 @@ module _ (L : TextLayout) (program : Program) (parts : Parts) (out : AreLaidOut 
         small = omega (arith, within, all, short, map.code, map.data_room, map.top);
       }
 
-  -- one that spells an instruction is fetched
+  -- a word of the stub that is an instruction is fetched
   one_there : (a k w : ℕ) (i : Instr) → a ≡ at + k → k + 4 ≤ front_size L.slots → word_in bytes k ≡ w → decoded w ≡ Some i → OneAt e a (Base i)
   one_there a k w i is_at within is spells =
       let l = lies_there k within in
@@ -140,7 +140,7 @@ module _ (L : TextLayout) (program : Program) (parts : Parts) (out : AreLaidOut 
   -- ---- the stub
 
   module _ (some : 0 < length L.slots) where
-    -- its instructions stand one after another
+    -- the stub's instructions come one after another
     stub_one : (a k : ℕ) (i : Instr) → a ≡ at + (4 * length L.slots + 4 * k) → k < 3 → slice_get (stub_instrs L.inputs.map.text (stub_distance L)) k ≡ Some i → OneAt e a (Base i)
     stub_one a k i is_at few is =
         let words = stub_in_front L bytes front some in

@@ -1,5 +1,5 @@
--- The walk over a section, place by place: so far the text has what stands before the place at hand, whose address its end is. A
--- place is told by how many items of the section stand before it.
+-- The walk over a section, place by place: the text has what comes before the place at hand, and ends at its address. A place is
+-- told by the number of the section's items before it.
 use Rattle.std.proofs.Common.{◌≡◌, ℕ, zero, suc, ltb, get_or, ◌+◌, ◌-◌, ◌^◌, ◌<◌, ◌≤◌, ◌⊎◌, inl, inr, List, [], ◌∷◌, ◌++◌, length, map, Option, Some, None, Bool, true, false, refl, sym, ap, ◌∙◌, subst, arith, append_assoc, length-append, cond, eqb, eq-eqb, slice_get, take}
 use Rattle.std.specs.Prelude.{◌||◌, ◌&&◌}
 use Rattle.std.specs.List.{flat_map}
@@ -51,7 +51,7 @@ either s n (inr end) = ap (λ b. starts_on s n || b) (eq-eqb n (length s.bytes) 
     or_true true = refl
     or_true false = refl
 
--- no section has many
+-- a section has no more items than bytes
 starts_few : (s : SectionParts) → length (starts_in s) ≤ length s.bytes
 unfolding starts_in
 starts_few s = few (length s.bytes) 0
@@ -73,7 +73,7 @@ abbrev pub GivesAddress : TextLayout → ℕ → ℕ → ℕ → Type 0
 GivesAddress L k i given =
     (q : Place) (a : ℕ) → L.address q ≡ Some a → IsPlaceNumber (parsed L.inputs).objects q (record { section = k; index = i }) → given ≡ a
 
--- after so many places of a section, at the next of them: so many items on, behind those that are inside a group, the text ends
+-- at place i of a section the text ends `left` items on, after those that are inside a group
 pub record Walks (L : TextLayout) (k : ℕ) (l : IndexedSection) (i : ℕ) (text : List ℕ) (places : List (Place × ℕ)) : Type 0 where
   pub offset : ℕ
   pub target : IsTarget l.section offset
@@ -104,7 +104,7 @@ module _
   pub there : IsCodeHere L.inputs l.object l.index s
   there = code_here L.inputs l.object l.index s none (listed_at p.objects k l at) code
 
-  -- its places
+  -- the places of the section
   places_are : code_places p l ≡ map (code_place p l) (targets_in s)
   places_are = ap (λ b. cond b (map (code_place p l) (targets_in s)) []) code
 
@@ -120,7 +120,7 @@ module _
   has_place n i is target =
       (place_of l n, target_at n target, subst (λ m. IsPlaceNumber p.objects (place_of l n) (record { section = k; index = m })) (sym is) (number_there n target))
 
-  -- the place so many places on is the one at hand
+  -- the place with number i is the one at hand
   pub place_got :
       (i : ℕ) (text : List ℕ) (places : List (Place × ℕ)) (walks : Walks L k l i text places) (own : List CodePlace) (place : CodePlace)
       → own ≡ code_places p l → slice_get own i ≡ Some place → place ≡ code_place p l walks.offset
@@ -130,7 +130,7 @@ module _
       ∙ ap (option_map (code_place p l)) (target_got s code there.whole walks.offset (either s walks.offset walks.target)) in
       cc (sym got ∙ found)
 
-  -- so few
+  -- a section has few places
   pub number_few : (i n : ℕ) → i ≡ index_on s n → IsTarget s n → (i < length (targets_in s)) × (i + 1 < 2 ^ 32)
   number_few i n index target =
       let within = slice_get_within (targets_in s) (index_on s n) n (target_got s code there.whole n (either s n target)) in
@@ -139,7 +139,7 @@ module _
   pub index_few : (i : ℕ) (text : List ℕ) (places : List (Place × ℕ)) → Walks L k l i text places → (i < length (targets_in s)) × (i + 1 < 2 ^ 32)
   index_few i text places walks = number_few i walks.offset walks.index walks.target
 
-  -- a text that is on its way is short
+  -- during the walk the text is short
   pub text_small : (i : ℕ) (text : List ℕ) (places : List (Place × ℕ)) → Walks L k l i text places → start + length text < 2 ^ 32
   text_small i text places walks = address_small L ready.is_map laid (after_items p.objects walks.left (place_of l walks.offset)) (start + length text) walks.ahead
 
@@ -149,7 +149,7 @@ module _
     abbrev q : Place
     q = place_of l n
 
-    -- it starts there
+    -- the item starts at the place
     pub start_there : starts_on s n ≡ true
     start_there =
         let own = item_here L.inputs none q item is in
@@ -237,7 +237,7 @@ module _
     abbrev all : List Place
     all = flat_map targets_of (before L k)
 
-    -- one place more has one item more before it
+    -- the places before the next one are one place more
     targets_more :
         (item : Item) → item_at p here ≡ Some item
         → (all ++ map (place_of l) (starts_before s walks.offset)) ++ here ∷ []
@@ -266,7 +266,7 @@ module _
             let start = ap (λ o. option_map_or (λ t. starts_on t walks.offset) o false) (sym (there.at walks.offset)) ∙ (inside 0 (omega arith)).0 in
             absurd (cc (item_there p here s (there.at walks.offset) start, last))
 
-    -- there the text ends
+    -- the text ends at the place
     ends_here : walks.left ≡ 0 → L.address here ≡ Some a
     ends_here first = ap (λ n. L.address (after_items p.objects n here)) (sym first) ∙ walks.ahead
 
@@ -364,7 +364,7 @@ module _
 
   -- ---- a turn
 
-  -- the walk is on its way as long as there is a place
+  -- as long as there is a place the walk isn't at its end
   pub on_way :
       (i : ℕ) (text : List ℕ) (places : List (Place × ℕ)) (own : List CodePlace) (place : CodePlace) → After L k l i text places
       → own ≡ code_places p l → slice_get own i ≡ Some place → Walks L k l i text places
@@ -372,7 +372,7 @@ module _
   on_way i text places own place (AtEnd past all) are got =
       absurd (omega (arith, past, slice_get_within own i place got, ap length (are ∙ places_are), length-map (targets_in s) (code_place p l)))
 
-  -- and at its end when there is none
+  -- when there is no place left the walk is at its end
   pub at_end :
       (i : ℕ) (text : List ℕ) (places : List (Place × ℕ)) (own : List CodePlace) → After L k l i text places → own ≡ code_places p l → length own ≤ i
       → IsTextOf L (before L (k + 1)) text places
@@ -380,7 +380,7 @@ module _
   at_end i text places own (OnWay walks) are over =
       absurd (omega (arith, over, (index_few i text places walks).0, ap length (are ∙ places_are), length-map (targets_in s) (code_place p l)))
 
-  -- its values are those of the place at hand
+  -- the values of the place at hand
   module _
       (i : ℕ) (text : List ℕ) (places : List (Place × ℕ)) (walks : Walks L k l i text places) (q : Place) (code_bytes : List ℕ) (address : ℕ)
       (place_is : place_of l walks.offset ≡ q) (code_is : s.bytes ≡ code_bytes) (address_is : start + length text ≡ address) where
@@ -429,7 +429,7 @@ module _
 
 -- ---- in the code
 
--- there is a section with each number
+-- each number below the count has a section
 pub listed_there : (sections : List IndexedSection) (k : ℕ) → k < length sections → (l : IndexedSection) × (slice_get sections k ≡ Some l)
 listed_there [] k lt = absurd (omega (arith, lt))
 listed_there (l ∷ sections) zero lt = (l, refl)

@@ -1,12 +1,13 @@
 -- One byte of memory is another. What looks at other bytes alone does the same, and keeps that byte: accesses and interrupts that lie
 -- elsewhere, and so the effects of pushes, pops and moves.
-use Rattle.std.proofs.Common.{◌≡◌, ◌≢◌, ℕ, zero, suc, ◌+◌, ◌-◌, ◌%◌, ◌<◌, ◌≤◌, List, [], ◌∷◌, Option, Some, None, Bool, true, false, cond, refl, sym, ap, ap₂, ◌∙◌, subst, arith, eqb, ltb, leb}
+use Rattle.std.proofs.Common.{◌≡◌, ◌≢◌, ℕ, zero, suc, ◌+◌, ◌-◌, ◌%◌, ◌<◌, ◌≤◌, List, [], ◌∷◌, Option, Some, None, Bool, true, false, cond, refl, sym, ap, ◌∙◌, subst, arith, eqb, ltb, leb}
 use Rattle.std.specs.Prelude.{◌&&◌, slice_get}
 use Rattle.std.proofs.lemmas.Bool.{and_parts, cond-true, cond_both, leb-true, ltb-true}
 use Rattle.rv_decode.specs.Effect.{BadAccess, Commits, Effect, Misaligned, onward, reaching}
-use Rattle.rv_decode.specs.Memory.{Extent, Region, byte_of, cells_changed, changed, extents_of, is_data, is_stack, lies_in, written}
+use Rattle.rv_decode.specs.Memory.{Extent, Region, byte_of, changed, extents_of, is_data, is_stack, lies_in, written}
 use Rattle.rv_decode.specs.State.{ZcCore, byte_in, reg_in, set_reg, word_at}
 use Rattle.rv_decode.proofs.MemoryLaws.{cell-changed_default, extents-changed, untouched}
+use Rattle.rv_decode.proofs.WriteLaws.{changed-after}
 use Rattle.zc_decode.specs.Accesses.{Access, accesses_of, sp_after}
 use Rattle.zc_decode.specs.Effect.{accessed, all_accessed, framed, reaching_all, restored, returned, saved, short_effect, zeroed}
 use Rattle.zc_decode.specs.declared.short.Short.{Short}
@@ -18,14 +19,8 @@ use Rattle.zc_link.proofs.Effects.{commits_same}
 
 -- ---- changes of different cells
 
-module _ {X : Type 0} (f g : ℕ → X → X) (each : (x : ℕ) (c : X) → f x (g x c) ≡ g x (f x c)) where
-  cells_changed-both : (a : ℕ) (cs : List X) → cells_changed f a (cells_changed g a cs) ≡ cells_changed g a (cells_changed f a cs)
-  cells_changed-both a [] = refl
-  cells_changed-both a (c ∷ cs) = ap₂ (λ x xs. x ∷ xs) (each a c) (cells_changed-both (suc a) cs)
-
-  changed-both : (rs : List (Region X)) → changed f (changed g rs) ≡ changed g (changed f rs)
-  changed-both [] = refl
-  changed-both (r ∷ rs) = ap₂ (λ cs xs. record r { cells = cs } ∷ xs) (cells_changed-both r.at r.cells) (changed-both rs)
+changed-both : {X : Type 0} (f g : ℕ → X → X) → ((x : ℕ) (c : X) → f x (g x c) ≡ g x (f x c)) → (rs : List (Region X)) → changed f (changed g rs) ≡ changed g (changed f rs)
+changed-both f g each rs = changed-after f g (λ x c. g x (f x c)) each rs ∙ sym (changed-after g f (λ x c. g x (f x c)) (λ x c. refl) rs)
 
 -- a byte, and some that lie elsewhere
 written-both :

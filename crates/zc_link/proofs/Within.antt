@@ -1,11 +1,10 @@
 -- Words of data lie among the bytes that files hold: sections with content stand in the classes that come first.
-use Rattle.std.proofs.Common.{◌≡◌, ℕ, ◌+◌, ◌≤◌, List, [], ◌∷◌, ◌++◌, map, filter, Option, Some, None, Bool, true, false, cond, eqb, ltb, refl, sym, ap, ◌∙◌, subst, arith}
+use Rattle.std.proofs.Common.{◌≡◌, ℕ, ◌+◌, ◌≤◌, List, [], ◌∷◌, map, filter, Option, Some, None, Bool, true, false, cond, eqb, ltb, refl, sym, ap, ◌∙◌, subst, arith}
 use Rattle.std.specs.Prelude.{All, ℤ, ◌&&◌, ◌||◌, not, slice_get}
 use Rattle.std.specs.List.{flat_map, list_any}
 use Rattle.std.specs.Option.{option_and_then, option_map_or}
 use Rattle.std.proofs.lemmas.Bool.{ltb-false, or_left, or_parts, or_right}
-use Rattle.std.proofs.lemmas.List.{map-append}
-use Rattle.std.proofs.lemmas.List.Elements.{All-append, All-cons, All-head, All-nil, All-tail, filter-append}
+use Rattle.std.proofs.lemmas.List.Elements.{All-append, All-cons, All-head, All-nil, All-tail}
 use Rattle.std.proofs.lemmas.Option.{same_Some}
 use Rattle.elf32_read.specs.Kept.{has_flags}
 use Rattle.elf32_read.specs.Parts.{ObjectParts, SectionParts, is_code_section, is_kept_section}
@@ -14,48 +13,33 @@ use Rattle.psabi_reloc.specs.Kinds.{field_length, kind_of}
 use Rattle.psabi_reloc.specs.declared.kind.RelocKind.{RelocKind}
 use Rattle.psabi_reloc.specs.declared.kind.RelocKind.TheVariants as kind
 use Rattle.psabi_sym.specs.Blocks.{aligned_up, end_from}
-use Rattle.psabi_sym.specs.Classes.{same_class}
-use Rattle.psabi_sym.specs.Data.{address_in, blocks_in, blocks_of, class_end, class_of, class_start, data_address, data_file_end, has_class, is_of_class, role_address, role_of, section_block}
+use Rattle.psabi_sym.specs.Data.{address_in, blocks_of, class_end, class_of, class_start, data_address, data_file_end, role_address, role_of}
 use Rattle.psabi_sym.specs.Faults.{first_some}
 use Rattle.psabi_sym.specs.Inputs.{Inputs, ParsedInputs, parsed}
-use Rattle.psabi_sym.specs.Indexed.{IndexedSection, all_sections, section_at, sections_before}
-use Rattle.psabi_sym.specs.declared.block.Block.{Block}
+use Rattle.psabi_sym.specs.Indexed.{IndexedSection, all_sections, section_at}
 use Rattle.psabi_sym.specs.declared.data_class.DataClass.{DataClass}
-use Rattle.psabi_sym.specs.declared.data_class.DataClass.TheVariants.{ReadOnly, Data, SmallData, SmallZero, Zero, Common}
+use Rattle.psabi_sym.specs.declared.data_class.DataClass.TheVariants.{ReadOnly, Data, SmallData, SmallZero, Zero}
 use Rattle.psabi_sym.specs.declared.section_row.SectionRole.{SectionRole}
 use Rattle.psabi_sym.specs.declared.section_row.SectionRole.TheVariants.{Code, InClass, Dropped}
+use Rattle.psabi_sym.proofs.BlockLaws.{aligned_up-ge, end_from-ge}
 use Rattle.psabi_sym.proofs.ContentLaws.{address_in-ge}
 use Rattle.psabi_sym.proofs.FaultLaws.{neither}
 use Rattle.block_cut.specs.DataWords.{data_word, data_words, data_words_in}
 use Rattle.block_cut.specs.Faults.{first_fault, reloc_fault}
 use Rattle.block_cut.specs.Relocs.{overlaps_another, is_ignored, is_placed, is_word}
 use Rattle.block_cut.specs.declared.data_word.DataWord.{DataWord}
-use Rattle.block_cut.proofs.ListedLaws.{cut_at, listed}
+use Rattle.block_cut.proofs.DataLaws.{in_class}
+use Rattle.block_cut.proofs.ListedLaws.{listed}
 use Rattle.zc_link.proofs.ListedLaws.{all_listed}
 use Rattle.zc_link.proofs.Faultless.{IsGood, good, section_none}
 
 none_some : {X : Type 0} {x : X} → None ≡ Some x → ⊥
 none_some h = cc
 
--- ---- ends of blocks
-
-up : (align at : ℕ) → at ≤ aligned_up align at
-unfolding aligned_up
-up align at = omega arith
-
-ends_up : (at : ℕ) (bs : List Block) → at ≤ end_from at bs
-ends_up at [] = omega arith
-ends_up at (b ∷ bs) = omega (arith, up b.align at, ends_up (aligned_up b.align at + b.size) bs)
+-- ---- classes with content
 
 later : {a b c : ℕ} → a ≤ b → b ≤ c → a ≤ c
 later first second = omega (arith, first, second)
-
--- one of them ends before the last does
-block_ends : (at : ℕ) (xs ys : List Block) (b : Block) → aligned_up b.align (end_from at xs) + b.size ≤ end_from at (xs ++ b ∷ ys)
-block_ends at [] ys b = ends_up (aligned_up b.align at + b.size) ys
-block_ends at (x ∷ xs) ys b = block_ends (aligned_up x.align at + x.size) xs ys b
-
--- ---- classes with content
 
 module _ (p : ParsedInputs) where
   -- each begins where the one before it ends
@@ -70,29 +54,12 @@ module _ (p : ParsedInputs) where
   data_first : class_end p Data ≤ class_end p SmallData
   data_first =
       subst (λ n. class_end p Data ≤ n) (sym small_after)
-      (later (up 16 (class_end p Data)) (ends_up (aligned_up 16 (class_end p Data)) (blocks_of p.objects SmallData)))
+      (later (aligned_up-ge 16 (class_end p Data)) (end_from-ge (aligned_up 16 (class_end p Data)) (blocks_of p.objects SmallData)))
 
   read_only_first : class_end p ReadOnly ≤ class_end p SmallData
   read_only_first =
       later (subst (λ n. class_end p ReadOnly ≤ n) (sym data_after)
-      (later (up 16 (class_end p ReadOnly)) (ends_up (aligned_up 16 (class_end p ReadOnly)) (blocks_of p.objects Data)))) data_first
-
-  -- a section's content ends within its class
-  in_class : (o i : ℕ) (s : SectionParts) (class : DataClass) → blocks_of p.objects class ≡ blocks_in class (all_sections p.objects) → section_at p.objects o i ≡ Some s → is_of_class class (listed o i s) ≡ true
-      → address_in p o i s class + s.size ≤ class_end p class
-  unfolding class_end
-  in_class o i s class blocks found is =
-      let cut = cut_at p.objects o i s found in
-      let before = sections_before p.objects o i in
-      let l = listed o i s in
-      let own : blocks_in class (l ∷ cut.rest) ≡ section_block l ∷ blocks_in class cut.rest = ap (λ b. map section_block (cond b (l ∷ filter (is_of_class class) cut.rest) (filter (is_of_class class) cut.rest))) is in
-      let all : blocks_of p.objects class ≡ blocks_in class before ++ section_block l ∷ blocks_in class cut.rest =
-      blocks ∙ ap (blocks_in class) cut.all_are
-      ∙ ap (map section_block) (filter-append (is_of_class class) before (l ∷ cut.rest))
-      ∙ map-append section_block (filter (is_of_class class) before) (filter (is_of_class class) (l ∷ cut.rest))
-      ∙ ap (λ bs. blocks_in class before ++ bs) own in
-      subst (λ bs. address_in p o i s class + s.size ≤ end_from (class_start p class) bs) (sym all)
-      (block_ends (class_start p class) (blocks_in class before) (blocks_in class cut.rest) (section_block l))
+      (later (aligned_up-ge 16 (class_end p ReadOnly)) (end_from-ge (aligned_up 16 (class_end p ReadOnly)) (blocks_of p.objects Data)))) data_first
 
 -- a class whose sections have content
 data IsFirst (class : DataClass) : Type 0 where
@@ -120,27 +87,15 @@ content_class s class content is = by (is_code_section s) (is_kept_section s) (c
 
 module _ (p : ParsedInputs) where
   -- the content of a section of such a class ends before the bytes that files hold do
-  class_within : (o i : ℕ) (s : SectionParts) (class : DataClass) → section_at p.objects o i ≡ Some s → is_of_class class (listed o i s) ≡ true → IsFirst class
+  class_within : (o i : ℕ) (s : SectionParts) (class : DataClass) → section_at p.objects o i ≡ Some s → role_of s ≡ InClass class → IsFirst class
       → address_in p o i s class + s.size ≤ data_file_end p
-  class_within o i s class found own (First e) =
-      subst (λ c. is_of_class c (listed o i s) ≡ true → address_in p o i s c + s.size ≤ data_file_end p) (sym e)
-      (λ own. later (in_class p o i s ReadOnly refl found own) (read_only_first p)) own
-  class_within o i s class found own (Second e) =
-      subst (λ c. is_of_class c (listed o i s) ≡ true → address_in p o i s c + s.size ≤ data_file_end p) (sym e)
-      (λ own. later (in_class p o i s Data refl found own) (data_first p)) own
-  class_within o i s class found own (Third e) =
-      subst (λ c. is_of_class c (listed o i s) ≡ true → address_in p o i s c + s.size ≤ data_file_end p) (sym e)
-      (λ own. in_class p o i s SmallData refl found own) own
+  class_within o i s class found role (First e) =
+      later (in_class p o i s found class role) (subst (λ c. class_end p c ≤ data_file_end p) (sym e) (read_only_first p))
+  class_within o i s class found role (Second e) =
+      later (in_class p o i s found class role) (subst (λ c. class_end p c ≤ data_file_end p) (sym e) (data_first p))
+  class_within o i s class found role (Third e) = subst (λ c. address_in p o i s class + s.size ≤ class_end p c) e (in_class p o i s found class role)
 
-  of_own : (class : DataClass) → same_class class class ≡ true
-  of_own ReadOnly = refl
-  of_own Data = refl
-  of_own SmallData = refl
-  of_own SmallZero = refl
-  of_own Zero = refl
-  of_own Common = refl
-
-  -- so one that has content ends before them
+  -- a section that has content ends before the data of files does
   pub content_within : (o i at : ℕ) (s : SectionParts) → section_at p.objects o i ≡ Some s → eqb s.kind 8 ≡ false → data_address p o i ≡ Some at → (p.map.data_low ≤ at) × (at + s.size ≤ data_file_end p)
   unfolding data_address
   content_within o i at s found content address =
@@ -151,7 +106,7 @@ module _ (p : ParsedInputs) where
       by Dropped is h = absurd (none_some h)
       by (InClass class) is h =
           subst (λ n. (p.map.data_low ≤ n) × (n + s.size ≤ data_file_end p)) (same_Some (address_in p o i s class) at h)
-          (address_in-ge p o i s class, class_within o i s class found (ap (has_class class) is ∙ of_own class) (content_class s class content is))
+          (address_in-ge p o i s class, class_within o i s class found is (content_class s class content is))
 
 -- ---- words of data
 
@@ -169,7 +124,7 @@ module _
       by true is fine rest = All-cons P (word x) (map word (filter taken xs)) (each x is fine (λ test h. more test (or_left (test x) (list_any test xs) h))) rest
       by false is fine rest = rest
 
--- and what holds at each address holds of the list that is taken if there is one
+-- what holds at the address that a section has holds of its words
 all_placed : {Y : Type 0} (P : Y → Type 0) (zeros : Bool) (a : Option ℕ) (of : ℕ → List Y) → (zeros ≡ false → (at : ℕ) → a ≡ Some at → All P (of at)) → All P (cond zeros [] (option_map_or of a []))
 all_placed P true a of each = All-nil P
 all_placed P false None of each = All-nil P
@@ -214,7 +169,7 @@ word_field p l r word fine =
     by size offset addend other (Some kind.Word) word placed = omega (arith, ltb-false size (offset + 4) (or_parts (ltb size (offset + 4)) other placed).0)
     by size offset addend other k word placed = absurd cc
 
--- so it lies where its section does
+-- a word lies where its section does
 field_within : (low end at size offset : ℕ) → (low ≤ at) × (at + size ≤ end) → offset + 4 ≤ size → (low ≤ at + offset) × (at + offset + 4 ≤ end)
 field_within low end at size offset within field = (omega (arith, within.0), omega (arith, within.1, field))
 

@@ -13,7 +13,7 @@ use Rattle.zc_link.proofs.Slots.{IsOneOf}
 
 -- ---- how a pop ends
 
--- its registers, by those that a pop that goes on leaves
+-- the registers after a pop, by those that a pop that goes on leaves
 abbrev pub final_regs : Ending → List ℕ → List ℕ
 final_regs GoesOn regs = regs
 final_regs Returns regs = regs
@@ -120,7 +120,7 @@ zero_itself y yz long h =
       a0 = reads-set_reg_same 0 0 y.regs 10 0 ten (omega (arith, long));
     })
 
--- so the registers are those with a0 set
+-- the registers are those with a0 set
 zero_reads : (y z : ZcCore) → HasZero y z → (r : ℕ) → reg_in z r ≡ reads 0 0 (set_reg y.regs 10 0) r
 zero_reads y z t r = ⊎_elim
     (λ here.
@@ -132,7 +132,7 @@ zero_reads y z t r = ⊎_elim
 
 -- ---- a pop's items
 
--- those of a pop that goes on, to the state zp, and what sets a0
+-- the effects of a pop that goes on, up to a state zp, and of what sets a0
 pub record WithoutZero (ending : Ending) (frame : ℕ) (order : List Slot) (z zf : ZcCore) : Type 0 where
   pub zp : ZcCore
   pub effects : Effects (pop_ops frame order) z zp
@@ -159,7 +159,7 @@ module _ (frame : ℕ) (order : List Slot) (no_a0 : (d : Slot) → IsOneOf d ord
       let b = raise_zero frame ye rest.1 zf t rest.3 in
       (b.0, effects_both (slot_loads order) (raise_sp frame ∷ []) z ye b.0 parts.1 b.1, b.2)
 
-  -- and last
+  -- a0 is set last
   zero_last : (zf : ZcCore) → Effects (pop_ops frame order ++ zero_a0 ∷ []) z zf → (zp : ZcCore) × Effects (pop_ops frame order) z zp × HasZero zp zf
   zero_last zf h =
       let parts = effects_apart (pop_ops frame order) (zero_a0 ∷ []) z zf h in

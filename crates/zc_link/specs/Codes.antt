@@ -7,7 +7,7 @@ use Rattle.zc_link.specs.Written.{IsLongBranch, IsSpelled, padding}
 use Rattle.zc_link.specs.declared.code.Code.{Code}
 use Rattle.zc_link.specs.declared.code.Code.TheVariants.{Half, Word, Pair, Halves, HalfWord, WordHalf, Own, Padding}
 
--- its bytes
+-- the bytes of what is written
 abbrev pub code_bytes : Code → List ℕ
 code_bytes (Half half) = half_bytes half
 code_bytes (Word word) = word_bytes word

@@ -14,8 +14,8 @@ use Rattle.zc_link.specs.Values.{target_value}
 abbrev pub bytes_from : List ℕ → ℕ → ℕ → List ℕ
 bytes_from bytes at n = take n (drop at bytes)
 
--- what these bytes hold of an item, if A gives the addresses of places: what is copied unread has the object's own bytes, and a
--- word in code its target's address; nothing is said of others here
+-- what these bytes hold of an item, if A gives the addresses of places: an item that is copied unread has the object's own bytes,
+-- and a word in code its target's address; of other items nothing is said here
 abbrev pub ItemCopied : (Place → Option ℕ) → (ℕ → List ℕ) → (ℕ → List ℕ) → Item → Type 0
 ItemCopied A own bytes (Op i) = Unit {0}
 ItemCopied A own bytes (Hi i t) = Unit {0}
@@ -31,7 +31,7 @@ ItemCopied A own bytes (Raw word) = bytes 4 ≡ own 4
 ItemCopied A own bytes (RawShort half) = bytes 2 ≡ own 2
 ItemCopied A own bytes (RawPair first second) = bytes 8 ≡ own 8
 
--- a segment of code holds this of each item, at the address that is listed for its place
+-- a segment of code holds each item in this way, at the address that is listed for its place
 abbrev pub IsCopiedTo : ParsedInputs → (Place → Option ℕ) → SegmentData → Type 0
 IsCopiedTo inputs A text =
     (q : Place) (a : ℕ) (s : SectionParts) (item : Item) → A q ≡ Some a → code_at inputs.objects q ≡ Some s → item_at inputs q ≡ Some item

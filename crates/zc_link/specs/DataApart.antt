@@ -1,5 +1,5 @@
--- What a simulation demands of interrupts and commits if others write cells of data between them: on the way from one sound pair
--- to the next they do the same whatever data hold.
+-- What a simulation demands of interrupts and commits if others write cells of data between them: from one sound pair to the
+-- next, each does the same whatever data hold.
 use Rattle.std.specs.Prelude.{◌≡◌, ℕ, suc, ◌<◌, ◌≤◌, List, [], ◌∷◌, All, Ok}
 use Rattle.zc_base.specs.declared.place.Place.{Place}
 use Rattle.interrupt_plan.specs.Plan.{Interrupt, IsInterrupt}
@@ -16,12 +16,12 @@ use Rattle.zc_link.specs.Image.{Image, loaded_core}
 use Rattle.zc_link.specs.Pace.{Pace, lead_of}
 use Rattle.zc_link.specs.Sound.{Sound}
 
--- an address of data
+-- a is an address of data
 pub record IsCell (p : Program) (a : ℕ) : Type 0 where
   pub low : p.map.data_low ≤ a
   pub high : a < data_high p
 
--- the machine's byte at an address becomes this, and the program's does
+-- the state after the byte at an address was written from outside: in the machine, and in the program
 abbrev pub poked : ℕ → ℕ → ZcState → ZcState
 poked a b z = record z { core = record z.core { memory = changed (written a 1 (λ _. b)) z.core.memory } }
 
@@ -32,7 +32,7 @@ abbrev pub all_poked : List (ℕ × ℕ) → PlainState → PlainState
 all_poked [] r = r
 all_poked (c ∷ cs) r = all_poked cs (poked_plain c r)
 
--- a sound pair with all its commits left; with some cells of data written the program isn't stuck on the way
+-- a sound pair with all of its commits left; even with these cells of data written, the program doesn't get stuck over the span
 pub record FromPair (p : Program) (Named : Place → Type 0) (e : Image) (pace : Pace) (r : PlainState) (k : ℕ) (z : ZcState) : Type 0 where
   pub commits : k ≡ pace.weight r.core
   pub sound : Sound p Named e r.core z
@@ -48,21 +48,21 @@ pub record FromLoad (p : Program) (e : Image) (k : ℕ) (z : ZcState) : Type 0 w
   pub bytes : All (λ b. b < 256) input
   pub loads : z ≡ first_state (loaded_core e) input
 
--- a state on the way from one of these to the end of its commits, of which so many are left: interrupts come, cells of data
--- are written, and commits are made
+-- a state between such a first state and the end of its commits, with this number of commits left: it comes by interrupts, by
+-- writes to cells of data, and by commits
 pub data OnWay (p : Program) (From : ℕ → ZcState → Type 0) : ℕ → ZcState → Type 0 where
   Starts : (k : ℕ) (z : ZcState) → From k z → OnWay p From k z
   Cuts : (k : ℕ) (z : ZcState) (c : Interrupt) → IsInterrupt c → OnWay p From (suc k) z → OnWay p From (suc k) (record z { core = interrupted c z.core })
   Pokes : (k : ℕ) (z : ZcState) (a b : ℕ) → IsCell p a → b < 256 → OnWay p From (suc k) z → OnWay p From (suc k) (poked a b z)
   Turns : (k : ℕ) (z z' : ZcState) → OnWay p From (suc k) z → zc_turn [] z ≡ Ok z' → OnWay p From k z'
 
--- on the way an interrupt does the same whatever data hold
+-- on the way each interrupt does the same whatever data hold
 abbrev pub CutsApart : Program → (ℕ → ZcState → Type 0) → Type 0
 CutsApart p From =
     (k : ℕ) (z : ZcState) → OnWay p From (suc k) z → (c : Interrupt) → IsInterrupt c → (a b : ℕ) → IsCell p a → b < 256
     → interrupted c (poked a b z).core ≡ (poked a b (record z { core = interrupted c z.core })).core
 
--- and so does a commit, which therefore leaves data as they are
+-- on the way each commit does the same whatever data hold, and so leaves data as they are
 abbrev pub CommitsApart : Program → (ℕ → ZcState → Type 0) → Type 0
 CommitsApart p From =
     (k : ℕ) (z z' : ZcState) → OnWay p From (suc k) z → zc_turn [] z ≡ Ok z' → (a b : ℕ) → IsCell p a → b < 256

@@ -28,11 +28,11 @@ listed_places L = flat_map (with_address L) (all_targets (parsed L.inputs).objec
 
 -- ---- data
 
--- what a word that holds a target's address is
+-- the value of a word that holds a target's address
 abbrev pub data_value : (Place → Option ℕ) → DataWord → ℕ
 data_value A w = unwrap_or (target_value A w.target) 0
 
--- the bytes from the map's start of data on, with such a word over those at its address
+-- the bytes of data, from the map's start of data on, with this word written over those at its address
 abbrev pub with_data_word : ParsedInputs → (Place → Option ℕ) → List ℕ → DataWord → List ℕ
 with_data_word inputs A bytes w = overlaid (w.at - inputs.map.data_low) (word_bytes (data_value A w)) bytes
 

@@ -1,5 +1,5 @@
--- A forward simulation: from each sound pair some steps of the program are some commits of the machine, whatever interrupts
--- come before them. So the image keeps step with the program.
+-- A forward simulation: from each sound pair, a number of steps of the program is matched by a number of commits of the machine,
+-- whatever interrupts come before them. So the image keeps step with the program.
 use Rattle.std.specs.Prelude.{◌≡◌, ℕ, ◌*◌, ◌<◌, ◌≤◌, ◌⊎◌, List, [], All, IsSome, None, Ok}
 use Rattle.zc_base.specs.declared.place.Place.{Place}
 use Rattle.interrupt_plan.specs.Plan.{AreInterrupts, Interrupt}
@@ -16,8 +16,7 @@ use Rattle.zc_link.specs.Sound.{Sound, Together}
 
 -- ---- where steps and commits lead
 
--- with these interrupts before them, k commits from z come to a state that belongs together with this one of the program, and
--- to the same events
+-- k commits from z, with these interrupts before them, end in a state that is together with r, after the same events
 pub record Comes (p : Program) (Named : Place → Type 0) (e : Image) (cuts : ℕ → List Interrupt) (k : ℕ) (z : ZcState) (r : PlainState) : Type 0 where
   pub after : ZcState
   pub runs : zc_turns cuts k z ≡ Ok after
@@ -35,23 +34,24 @@ pub record IsInside (e : Image) (r r' : PlainState) : Type 0 where
 pub record IsSimulation (p : Program) (Named : Place → Type 0) (e : Image) (pace : Pace) : Type 0 where
   pub some : (q : Place) → 0 < pace.span q
   pub few : (s : PlainCore) → pace.weight s ≤ 64 * pace.span s.place
-  -- from every sound pair the span's steps are the weight's commits
+  -- from every sound pair, the steps of the place's span are matched by the commits of the state's weight
   pub step :
       (r r' : PlainState) → iterate (plain_turn p) (pace.span r.core.place) r ≡ Ok r'
       → (cuts : ℕ → List Interrupt) → AreInterrupts cuts → (z : ZcState) → Sound p Named e r.core z → z.events ≡ r.events
       → Comes p Named e cuts (pace.weight r.core) z r'
-  -- on the way nothing is claimed but the events
+  -- within the span the program makes no events and doesn't exit, and its place isn't listed
   pub inside :
       (k : ℕ) (r r' : PlainState) → 0 < k → k < pace.span r.core.place → IsSome (e.address r.core.place) → r.core.exit ≡ None
       → iterate (plain_turn p) k r ≡ Ok r' → IsInside e r r'
-  -- the start is sound, after the stub if there is one
+  -- the machine comes to a state that is together with the program's start, by the stub's commits if there is a stub
   pub start :
       (input : List ℕ) → All (λ b. b < 256) input → (cuts : ℕ → List Interrupt) → AreInterrupts cuts
       → Comes p Named e cuts (lead_of p e) (first_state (loaded_core e) input) (record { core = first_plain p input; events = [] })
-  -- an interrupt does the same whatever data hold, and so does each commit if there are several, of steps or of commits
+  -- between sound pairs an interrupt does the same whatever data hold; so does each commit, if there are several steps or several
+  -- commits
   pub cuts_apart : (r : PlainState) → CutsApart p (FromPair p Named e pace r)
   pub commits_apart :
       (r : PlainState) → (1 < pace.span r.core.place) ⊎ (1 < pace.weight r.core) → CommitsApart p (FromPair p Named e pace r)
-  -- the same on the way to the start
+  -- before the program's start interrupts and commits do the same whatever data hold
   pub lead_cuts_apart : CutsApart p (FromLoad p e)
   pub lead_commits_apart : CommitsApart p (FromLoad p e)

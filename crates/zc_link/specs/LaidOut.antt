@@ -1,4 +1,5 @@
--- What a link needs of a layout: where the places of code lie, how many bytes what is written at each takes, and what stands in front.
+-- What a link needs of a layout: where the places of code lie, how many bytes each unit takes, and what comes before the first
+-- section.
 use Rattle.std.specs.Prelude.{◌≡◌, ℕ, ℤ, pos, ◌-ℤ◌, ◌+◌, ◌%◌, ◌<◌, ◌≤◌, ◌⊎◌, ◌&&◌, true, false, IsTrue, if◌then◌else◌, nat_lt, List, length, slice_get, Option, Some, None}
 use Rattle.std.specs.List.{fold}
 use Rattle.std.specs.Option.{is_some, option_map_or, unwrap_or}
@@ -29,15 +30,16 @@ use Rattle.zc_link.specs.Values.{way}
 
 -- ---- forms
 
--- an item of one instruction takes four bytes, or two if that doesn't depend on the layout and a halfword does what it does
+-- an item of one instruction takes four bytes, or two if the instruction doesn't depend on the layout and has a short form
 abbrev pub HasSize : Item → ℕ → Type 0
 HasSize i n = (n ≡ 4) ⊎ ((n ≡ 2) × IsTrue (option_map_or is_short (fixed_instr i) false))
 
--- a `jal` with this link register takes four bytes if it reaches, or two if a halfword does what it does
+-- a `jal` with this link register takes four bytes if its target is in range, or two if it has a short form
 abbrev pub HasJumpSize : ℕ → ℕ → ℤ → Type 0
 HasJumpSize rd n distance = ((n ≡ 4) × (jal_reach distance ≡ true)) ⊎ ((n ≡ 2) × IsTrue (is_short (instr.Jal rd distance)))
 
--- and a branch, by its distance; and if that doesn't reach it takes eight, of which the last four are a jump that does
+-- a branch takes four bytes if its target is in range, or two if it has a short form; or eight, of which the last four are a jump
+-- in whose range the target is
 abbrev pub HasBranchSize : (ℤ → Instr) → ℕ → ℤ → Type 0
 HasBranchSize branch n distance =
     ((n ≡ 4) × (branch_reach distance ≡ true))
@@ -47,11 +49,11 @@ HasBranchSize branch n distance =
 abbrev pub HasCallSize : ℕ → ℕ → ℤ → Type 0
 HasCallSize rd n distance = (n ≡ 8) ⊎ HasJumpSize rd n distance
 
--- this of the way from an address to a place, if that has an address
+-- P holds of the distance from an address to a place, if the place has an address
 abbrev pub OfWay : (Place → Option ℕ) → ℕ → Place → (ℤ → Type 0) → Type 0
 OfWay A a to P = (b : ℕ) → A to ≡ Some b → P (as_signed (way a b))
 
--- an item may take n bytes at an address, if A gives the addresses of places and the item has so many bytes of its own, which an
+-- an item may take n bytes at an address, if A gives the addresses of places and the item has `own` bytes in its object, which an
 -- instruction without relocation may keep
 abbrev pub HasForm : (Place → Option ℕ) → (a own n : ℕ) → Item → Type 0
 HasForm A a own n (Op i) = (n ≡ own) ⊎ HasSize (Op i) n
@@ -70,13 +72,12 @@ HasForm A a own n (RawPair first second) = n ≡ 8
 
 -- ---- units
 
--- the register that gets the next address: x0 in the slots of jumps, and ra in those of calls (RISC-V Zc specification 1.0,
--- "Zcmt")
+-- the register that a slot's jump links: x0 in the slots of jumps, and ra in those of calls (RISC-V Zc specification 1.0, "Zcmt")
 abbrev pub linked_by : ℕ → ℕ
 linked_by slot = if nat_lt slot 32 then 0 else 1
 
--- at a place stands a jump or call that links the register that jumps through a slot of the table link, and the slot leads where it
--- does, which has an address
+-- the item at a place is a jump or call that this slot of the table can serve: it links the slot's register, and goes to the
+-- place that the slot leads to, which has an address
 pub record IsSiteAt (L : TextLayout) (q : Place) (slot : ℕ) : Type 0 where
   pub item : Item
   pub is : item_at (parsed L.inputs) q ≡ Some item
@@ -85,13 +86,13 @@ pub record IsSiteAt (L : TextLayout) (q : Place) (slot : ℕ) : Type 0 where
   pub leads : slice_get L.slots slot ≡ Some (Some to)
   pub listed : is_some (L.address to) ≡ true
 
--- what is written at a place is the item that starts there, the group whose first item that is, or a jump through the table
+-- what is written at a place is the item there, the group whose first item that is, or a jump through the table
 abbrev pub IsUnitAt : TextLayout → Place → CodeUnit → Type 0
 IsUnitAt L q (OneItem i) = item_at (parsed L.inputs) q ≡ Some i
 IsUnitAt L q (OneGroup g) = role_at (parsed L.inputs) q ≡ Some (First g)
 IsUnitAt L q (OneSite slot) = IsSiteAt L q slot
 
--- it may take n bytes at an address, if the item there has so many of its own
+-- what is written may take n bytes at an address, if the item there has `own` bytes in its object
 abbrev pub UnitForm : (Place → Option ℕ) → (a own n : ℕ) → CodeUnit → Type 0
 UnitForm A a own n (OneItem i) = HasForm A a own n i
 UnitForm A a own n (OneGroup g) = n ≡ group_size g
@@ -103,8 +104,8 @@ UnitForm A a own n (OneSite slot) = n ≡ 2
 abbrev pub HasNoAddress : TextLayout → Place → Type 0
 HasNoAddress L q = (is_start_at (parsed L.inputs).objects q ≡ true) × (L.address q ≡ None)
 
--- what is written at a place takes the bytes up to the place behind it, in a form that it may have there; the places of its further
--- items have no addresses
+-- what is written at a place takes the bytes up to the place after it, in a form that it may have there; the places of its
+-- further items have no addresses
 pub record LiesAt (L : TextLayout) (q : Place) (a : ℕ) (u : CodeUnit) : Type 0 where
   pub is : IsUnitAt L q u
   pub size : ℕ
@@ -112,11 +113,11 @@ pub record LiesAt (L : TextLayout) (q : Place) (a : ℕ) (u : CodeUnit) : Type 0
   pub form : UnitForm L.address a (size_at (parsed L.inputs).objects q) size u
   pub inside : (k : ℕ) → 0 < k → k < unit_items u → HasNoAddress L (after_items (parsed L.inputs).objects k q)
 
--- where the code of a section ends, or what stands before it if it isn't code
+-- where the code of a section ends; if it isn't code, where the code before it ends
 abbrev pub laid_section_end : TextLayout → ℕ → IndexedSection → ℕ
 laid_section_end L end l = if is_code_section l.section then unwrap_or (L.address (place_of l (length l.section.bytes))) end else end
 
--- where the code of sections ends, which stand one after another behind what stands in front
+-- where the code of these sections ends, which come one after another, after the table and its stub
 abbrev pub code_end_after : TextLayout → List IndexedSection → ℕ
 code_end_after L sections = fold (laid_section_end L) (front_end L) sections
 
@@ -130,27 +131,26 @@ ListsLeaders inputs A = (q : Place) → is_target_at inputs.objects q ≡ true �
 
 -- what a link needs of a layout
 pub record IsLaidOut (L : TextLayout) : Type 0 where
-  -- of places where an item starts or a section of code ends, and of no others, there are addresses: at least of those that begin
-  -- a basic block
+  -- only places where an item starts or a section of code ends have addresses, and at least those that begin a basic block do
   pub only : (q : Place) → is_some (L.address q) ≡ true → is_target_at (parsed L.inputs).objects q ≡ true
   pub leaders : ListsLeaders (parsed L.inputs) L.address
-  -- where an item starts at a place with an address, something is written, and nowhere else
+  -- something is written where an item starts at a place with an address, and nowhere else
   pub written : (q : Place) → is_some (L.unit q) ≡ (is_some (L.address q) && is_start_at (parsed L.inputs).objects q)
-  -- the program's start has an address, and the table few slots
+  -- the program's start has an address, and the table has at most 256 slots
   pub start : L.address (entry_of (parsed L.inputs)) ≡ Some (start_address L)
   pub few : length L.slots ≤ 256
-  -- addresses are even, and lie in the text, which isn't too long
+  -- addresses are even, and lie in the text, which is short enough for every jump
   pub even : (q : Place) (a : ℕ) → L.address q ≡ Some a → a % 2 ≡ 0
   pub low : (q : Place) (a : ℕ) → L.address q ≡ Some a → front_end L ≤ a
   pub high : (q : Place) (a : ℕ) → L.address q ≡ Some a → a ≤ text_end L
   pub short : text_end L ≤ L.inputs.map.text + 0x9_0000
-  -- what is written lies between its place and the place behind it
+  -- what is written lies between its place and the place after it
   pub each : (q : Place) (a : ℕ) (u : CodeUnit) → L.unit q ≡ Some u → L.address q ≡ Some a → LiesAt L q a u
   -- a section begins no earlier than those before it end
   pub begins :
       (o i : ℕ) (s : SectionParts) → section_at (parsed L.inputs).objects o i ≡ Some s → is_code_section s ≡ true
       → code_end_after L (sections_before (parsed L.inputs).objects o i) ≤ unwrap_or (L.address (place_at o i 0)) 0
-  -- of two items with room of their own the addresses differ
+  -- two items that have room of their own have different addresses
   pub distinct :
       (q r : Place) (a : ℕ) → is_solid (item_at (parsed L.inputs) q) ≡ true → is_solid (item_at (parsed L.inputs) r) ≡ true
       → L.address q ≡ Some a → L.address r ≡ Some a → q ≡ r

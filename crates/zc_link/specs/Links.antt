@@ -73,7 +73,7 @@ pub record IsImageOf (L : TextLayout) (flags end : ℕ) (elf : List ℕ) : Type 
 abbrev pub empty_certificate : Certified
 empty_certificate = record { slots = []; prices = 0 ∷ 0 ∷ 0 ∷ []; net = 0 }
 
--- the places that the slots of a link's table lead to, of which some may be holes
+-- the places that the slots of a link's table lead to; some slots may be holes
 abbrev pub slots_of : Link → List (Option Place)
 slots_of link = slot_places link.savings link.certificate.slots
 
@@ -86,7 +86,7 @@ pub record HasBestTable (inputs : Inputs) (link : Link) : Type 0 where
 
 -- ---- links
 
--- the link that writes code as it is: its image has the plain layout, without a table, and so have the counts
+-- the link that writes code as it is: its image has the plain layout, without a table, and its counts are those of that layout
 pub record IsPlainLink (inputs : Inputs) (link : Link) : Type 0 where
   pub image : IsImageOf (plain_layout inputs) (plain_flags (parsed inputs)) (plain_end (parsed inputs)) link.elf
   pub open image use *
@@ -95,8 +95,8 @@ pub record IsPlainLink (inputs : Inputs) (link : Link) : Type 0 where
   pub plain : link.plain ≡ plain_counts (parsed inputs)
   pub zc : link.zc ≡ plain_counts (parsed inputs)
 
--- behind a table of these slots the layout is settled; if there is no ALIGN, and no code aligned above 4 bytes, the text is shorter
--- than without the table, by so many bytes at least
+-- the layout after a table of these slots is settled; if there is no ALIGN, and no code aligned above 4 bytes, the text is
+-- shorter than without the table, by at least `net` bytes
 pub record IsShortest (inputs : Inputs) (slots : List (Option Place)) (net : ℕ) : Type 0 where
   pub laid : IsLaidBehind (parsed inputs) slots
   pub saves : IsTrue (is_unaligned (parsed inputs)) → settled_end (parsed inputs) slots + net ≤ settled_end (parsed inputs) []

@@ -12,12 +12,12 @@ use Rattle.block_cut.specs.declared.item.Item.TheVariants.{Op, Hi, Lo, PcHi, PcL
 use Rattle.sym_machine.specs.AddressParts.{pc_target}
 use Rattle.zc_link.specs.Values.{target_value, way}
 
--- the way from the `auipc` at a place to what its relocation resolves to, if A gives the addresses of places
+-- the distance from the `auipc` at a place to what its relocation resolves to, if A gives the addresses of places
 abbrev pub way_on : (Place → Option ℕ) → (Place → Option Item) → Place → Option ℕ
 way_on A items from = option_and_then (λ a. option_map (way a) (option_and_then (target_value A) (pc_target (items from)))) (A from)
 
--- the one instruction that an item is at an address: a call one jump. None for what is padding, an address or copied unread, and for
--- what leads nowhere
+-- the one instruction that an item is at an address; for a call this is one jump. None for padding, for an address, for what is
+-- copied unread, and for what leads nowhere
 abbrev pub meant : (Place → Option ℕ) → (Place → Option Item) → ℕ → Item → Option Instr
 meant A items a (Op i) = Some i
 meant A items a (Hi i t) = option_map (λ x. with_upper i (hi20_of x)) (target_value A t)

@@ -1,4 +1,4 @@
--- How many steps of the program and how many commits of the machine go together.
+-- How many steps of the program are matched by how many commits of the machine.
 use Rattle.std.specs.Prelude.{ℕ, ◌+◌, ◌-◌, ◌/◌, ◌%◌, Bool, true, false, ◌==◌, if◌then◌else◌, Option, Some, None}
 use Rattle.zc_base.specs.declared.place.Place.{Place}
 use Rattle.rv_decode.specs.declared.instr.BranchOp.{BranchOp}
@@ -17,8 +17,8 @@ pub record Pace : Type 0 where
 
 -- ---- stretches
 
--- what starts at a place: an item that is one instruction; an ALIGN of so many; a call of two; a branch of two; a group of
--- so many items in so many instructions; or a jump or call through a slot of the jump table
+-- what starts at a place: an item that is one instruction; an ALIGN of `count` instructions; a call of two; a branch of two; a
+-- group of `items` items in `commits` instructions; or a jump or call through a slot of the jump table
 pub data Stretch : Type 0 where
   Alone : Stretch
   AlignOf : (count : ℕ) → Stretch
@@ -27,7 +27,7 @@ pub data Stretch : Type 0 where
   GroupOf : (items commits : ℕ) → Stretch
   TableOf : (slot : ℕ) → Stretch
 
--- its number of items
+-- the number of items of a stretch
 abbrev pub span_of : Stretch → ℕ
 span_of Alone = 1
 span_of (AlignOf count) = 1
@@ -36,13 +36,13 @@ span_of (LongOf op first second) = 1
 span_of (GroupOf items commits) = items
 span_of (TableOf slot) = 1
 
--- a branch of two instructions takes both if it is taken, and else goes over the second
+-- the commits of a branch of two instructions: both if it is taken, and else only the first, which goes over the second
 abbrev pub long_commits : Option Bool → ℕ
 long_commits None = 1
 long_commits (Some false) = 1
 long_commits (Some true) = 2
 
--- its number of commits, by the program's state
+-- the number of commits of a stretch, by the program's state
 abbrev pub commits_of : Program → PlainCore → Stretch → ℕ
 commits_of p s Alone = 1
 commits_of p s (AlignOf count) = count
@@ -57,21 +57,21 @@ pace_of p stretch = record { span = λ q. span_of (stretch q); weight = λ s. co
 
 -- ---- stretches of a layout
 
--- the bytes between two addresses
+-- the number of bytes between two addresses
 abbrev pub bytes_between : Option ℕ → Option ℕ → ℕ
 bytes_between None b = 0
 bytes_between (Some a) None = 0
 bytes_between (Some a) (Some b) = b - a
 
--- the instructions that fill n bytes of padding: words, and a halfword if words don't
+-- the number of instructions that fill n bytes of padding: words, and a halfword if words don't
 abbrev pub padding_commits : ℕ → ℕ
 padding_commits n = n / 4 + n % 4 / 2
 
--- the instructions of a group: one, or two if one doesn't move sp by all of its frame
+-- the number of instructions of a group: one, or two if one doesn't move sp by all of its frame
 abbrev pub commits_in : Group → ℕ
 commits_in g = if g.rest == 0 then 1 else 2
 
--- what is written in n bytes
+-- the stretch of what is written in n bytes
 abbrev pub stretch_of : ℕ → Option CodeUnit → Stretch
 stretch_of n (Some (OneItem (Branch op first second to))) = if n == 8 then LongOf op first second else Alone
 stretch_of n (Some (OneItem (Call rd temp to))) = if n == 8 then CallOf else Alone
@@ -82,7 +82,7 @@ stretch_of n _ = Alone
 
 -- ---- the start
 
--- the commits before the program's start: none if the image starts there, or else three, of the stub that sets jvt
+-- the number of commits before the program's start: none if the image starts there, or else the three of the stub that sets jvt
 abbrev pub lead_from : Option ℕ → ℕ → ℕ
 lead_from None entry = 3
 lead_from (Some start) entry = if start == entry then 0 else 3

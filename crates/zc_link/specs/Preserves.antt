@@ -11,8 +11,8 @@ use Rattle.zc_machine.specs.Run.{interrupts_by, machine_after}
 use Rattle.zc_link.specs.Image.{Image, image_in, loaded_core}
 use Rattle.zc_link.specs.Stands.{Stands}
 
--- the same environment calls so far; and if the place is listed, or the program has exited, each register and each byte of
--- data and stack is what the program has there, unless that is undefined
+-- both have made the same environment calls so far; and if the place is listed, or the program has exited, each register and each
+-- byte of data and stack is what the program has there, unless that is undefined
 pub record Follows (p : Program) (e : Image) (s : PlainState) (z : ZcState) : Type 0 where
   pub events : z.events ≡ s.events
   pub stands : IsSome (e.address s.core.place) ⊎ IsSome s.core.exit → Stands p e.address s.core z

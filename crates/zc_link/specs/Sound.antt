@@ -1,5 +1,5 @@
--- States of the two machines that belong together: Ready and Alike whatever the place, Sound at a listed place, Over after
--- the exit. Which places a program may name is handed to them.
+-- States of the two machines that correspond: Ready and Alike whatever the place, Sound at a listed place, Over after the exit.
+-- Which places a program may name is a parameter.
 use Rattle.std.specs.Prelude.{◌≡◌, ℕ, ◌<◌, ◌≤◌, ◌⊎◌, IsSome, IsTrue, true, Some, None}
 use Rattle.zc_base.specs.declared.place.Place.{Place}
 use Rattle.rv_decode.specs.Memory.{extents_of, is_text, lies_in}
@@ -32,20 +32,20 @@ NamesByte Named (Part (AbsHi q) i) = Unit {0}
 NamesByte Named (Part (PcHi q) i) = Unit {0}
 NamesByte Named Undef = Unit {0}
 
--- the same of each byte of a word
+-- each byte of a word that is part of a code address is part of that of a place that the program may name
 abbrev pub NamesWord : (Place → Type 0) → SymWord → Type 0
 NamesWord Named w = NamesByte Named w.b0 × NamesByte Named w.b1 × NamesByte Named w.b2 × NamesByte Named w.b3
 
--- and of all registers and all memory
+-- the same of all registers and all memory
 pub record NamesPlaces (p : Program) (Named : Place → Type 0) (s : PlainCore) : Type 0 where
   pub registers : (r : ℕ) → r < 32 → NamesWord Named (reg_of s r)
   pub memory : (a : ℕ) → IsMemory p a → NamesByte Named (cell_of s a)
 
 -- ---- states
 
--- neither has exited, and both are states; registers and memory stand for the machine's; the regions of both are as they were
--- at the start, and so is the machine's text; and if the text begins with a table of jumps, jvt is the text's start: then the
--- image doesn't start at the program's start
+-- neither machine has exited, and both are in a state; the program's registers and memory stand for the machine's; the regions of
+-- both are as they were at the start, and so is the machine's text; and jvt is the text's start if the image doesn't start at the
+-- program's start, which is so when the text begins with a table of jumps
 pub record Ready (p : Program) (Named : Place → Type 0) (e : Image) (s : PlainCore) (z : ZcCore) : Type 0 where
   pub running : s.exit ≡ None
   pub going : z.exit ≡ None
@@ -59,8 +59,8 @@ pub record Ready (p : Program) (Named : Place → Type 0) (e : Image) (s : Plain
   pub text : (a : ℕ) → lies_in is_text (extents_of (loaded_core e).memory) a 1 ≡ true → byte_in z a ≡ byte_in (loaded_core e) a
   pub table : (e.address p.entry ≡ Some e.entry → ⊥) → z.jvt ≡ e.map.text
 
--- and the program's sp is a number, the machine's, within the stack; and the bytes of the stack below it are undefined to the
--- program
+-- `Ready`; also, the program's sp is a number, the machine's, within the stack; and the bytes of the stack below it are undefined
+-- to the program
 pub record Alike (p : Program) (Named : Place → Type 0) (e : Image) (s : PlainCore) (z : ZcCore) : Type 0 where
   pub ready : Ready p Named e s z
   pub open ready use *
@@ -69,7 +69,7 @@ pub record Alike (p : Program) (Named : Place → Type 0) (e : Image) (s : Plain
   pub high : reg_in z 2 ≤ p.map.stack_high
   pub below : (a : ℕ) → p.map.stack_low ≤ a → a < reg_in z 2 → cell_of s a ≡ Undef
 
--- and the place is listed at pc, and the inputs that are left are equal
+-- `Alike`; also, pc is the address of the program's place, and the inputs that are left are equal
 pub record Sound (p : Program) (Named : Place → Type 0) (e : Image) (s : PlainCore) (z : ZcState) : Type 0 where
   pub alike : Alike p Named e s z.core
   pub input : s.input ≡ z.input
@@ -82,6 +82,6 @@ pub record Over (p : Program) (e : Image) (s : PlainCore) (z : ZcState) : Type 0
   pub ended : z.core.exit ≡ Some status
   pub stands : Stands p e.address s z
 
--- one of the two
+-- the two states correspond: at a listed place, or after the exit
 abbrev pub Together : Program → (Place → Type 0) → Image → PlainCore → ZcState → Type 0
 Together p Named e s z = Sound p Named e s z ⊎ Over p e s z

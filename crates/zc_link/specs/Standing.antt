@@ -1,4 +1,4 @@
--- What is known of an item where it stands in its object, before it is written at its address in a layout.
+-- What is known of an item at its place in its object, before it is written at its address in a layout.
 use Rattle.std.specs.Prelude.{◌≡◌, ℕ, ℤ, ◌+◌, ◌%◌, ◌^◌, ◌<◌, ◌≤◌, ◌⊎◌, ◌||◌, IsTrue, List, length, slice_get, slice_index, take, Bool, true, false, Option, Some, None}
 use Rattle.std.specs.List.{flat_map}
 use Rattle.std.specs.Option.{is_some}
@@ -32,23 +32,23 @@ use Rattle.zc_link.specs.TextLayout.{TextLayout, behind, size_in}
 use Rattle.zc_link.specs.Written.{IsSoFar, UnitWritten}
 use Rattle.zc_link.specs.Values.{target_value}
 
--- inputs that are linked: no fault stands in them, and the map is one that a link may be made for
+-- inputs that are linked: they have no fault, and the map is one that a link may be made for
 pub record IsReady (inputs : Inputs) : Type 0 where
   pub faultless : first_fault inputs ≡ None
   pub is_map : IsMap inputs.map
 
 -- ---- instructions
 
--- what is spelled is an instruction of a kind
+-- the bytes are an instruction of this kind
 pub record SpellsKind (is_kind : Option Instr → Bool) (spelled : Option Instr) (i : Instr) : Type 0 where
   pub spells : spelled ≡ Some i
   pub kind : is_kind (Some i) ≡ true
 
--- an `addi`, a load or a `jalr`; or a store
+-- an instruction that can take a lower part: an `addi`, a load or a `jalr`, or a store
 abbrev pub is_lower : Option Instr → Bool
 is_lower i = is_sum i || is_store i
 
--- it is this instruction with some distance, and the place that it leads to has an address
+-- the bytes are this instruction with some distance, and the place that it leads to has an address
 pub record SpellsWay (A : Place → Option ℕ) (spelled : Option Instr) (i : ℤ → Instr) (to : Place) : Type 0 where
   pub distance : ℤ
   pub spells : spelled ≡ Some (i distance)
@@ -57,15 +57,19 @@ pub record SpellsWay (A : Place → Option ℕ) (spelled : Option Instr) (i : �
 
 -- ---- targets
 
--- what a symbol resolves to has a value
+-- a place has an address
+abbrev pub HasAddress : (Place → Option ℕ) → Place → Type 0
+HasAddress A p = (b : ℕ) × (A p ≡ Some b)
+
+-- the target of a symbol has a value
 abbrev pub HasValue : (Place → Option ℕ) → Target → Type 0
 HasValue A t = (value : ℕ) × (target_value A t ≡ Some value)
 
--- the way from an `auipc` that a lower part goes with
+-- the `auipc` at a place, which a lower part goes with, has a distance to its target
 abbrev pub HasWay : (Place → Option ℕ) → (Place → Option Item) → Place → Type 0
 HasWay A items from = (w : ℕ) × (way_on A items from ≡ Some w)
 
--- the two instructions of a call
+-- the bytes are the two instructions of a call, and the place that it leads to has an address
 pub record SpellsCall (A : Place → Option ℕ) (one two : Option Instr) (rd temp : ℕ) (to : Place) : Type 0 where
   pub upper : ℕ
   pub lower : ℤ
@@ -76,7 +80,7 @@ pub record SpellsCall (A : Place → Option ℕ) (one two : Option Instr) (rd te
 
 -- ---- items
 
--- of an item, by the instructions that its bytes spell
+-- what is known of an item, by the instructions that its bytes are
 abbrev pub ItemStands : (Place → Option ℕ) → (Place → Option Item) → (one two : Option Instr) → Item → Type 0
 ItemStands A item one two (Op i) = one ≡ Some i
 ItemStands A item one two (Hi i t) = SpellsKind is_lui one i × HasValue A t
@@ -92,7 +96,7 @@ ItemStands A item one two (Raw copied) = Unit {0}
 ItemStands A item one two (RawShort copied) = Unit {0}
 ItemStands A item one two (RawPair first second) = Unit {0}
 
--- an item is written as its own word with what its relocation asks for, unless a halfword of it is known before the layout
+-- an item is written as its own word with its relocation's value, unless it has a halfword that is known before the layout
 abbrev pub is_patched : Item → Bool
 is_patched (Branch op first second to) = false
 is_patched (Jump rd to) = false
@@ -107,8 +111,8 @@ is_patched other = true
 abbrev pub IsInstrSize : ℕ → Type 0
 IsInstrSize own = (own ≡ 2) ⊎ (own ≡ 4)
 
--- the bytes that an item has in its object: those of an instruction without relocation, of a branch or of a jump; a call two words,
--- padding so many, what is copied unread a halfword or two words, and else one word
+-- the number of bytes that an item has in its object: two or four for an instruction without relocation, a branch or a jump; two
+-- words for a call; n for padding of n bytes; a halfword or two words where these are copied; and else one word
 abbrev pub HasOwnSize : Item → ℕ → Type 0
 HasOwnSize (Op i) own = IsInstrSize own
 HasOwnSize (Branch op first second to) own = IsInstrSize own
@@ -119,14 +123,14 @@ HasOwnSize (RawShort copied) own = own ≡ 2
 HasOwnSize (RawPair first second) own = own ≡ 8
 HasOwnSize other own = own ≡ 4
 
--- the halfword of an instruction that is known before the layout, which does what the instruction does; none if the layout keeps the
--- halfwords of the objects, and it has one there
+-- the halfword of an instruction that is known before the layout, which has the same effect; none if the layout keeps the
+-- halfwords of the objects, and the object has one for the item
 abbrev pub IsHalfHere : Bool → (own : ℕ) → Item → Option ℕ → Type 0
 IsHalfHere keeps own item None = (keeps ≡ true) × ((i : Instr) → fixed_instr item ≡ Some i → (own ≡ 2) × (item ≡ Op i))
 IsHalfHere keeps own item (Some half) =
     (keeps ≡ false) × (half < 2 ^ 16) × ((i : Instr) → fixed_instr item ≡ Some i → (encoded16 (Base i) ≡ Some half) × HasEffectOf i half)
 
--- an item stands at a place of code with these bytes, in which it lies, and is written by itself at an address in n bytes
+-- an item is at a place of code with these bytes, in which it lies, and is written by itself at an address in n bytes
 pub record StandsHere (L : TextLayout) (code : List ℕ) (q : Place) (item : Item) (a n : ℕ) : Type 0 where
   pub is : item_at (parsed L.inputs) q ≡ Some item
   pub unit : L.unit q ≡ Some (OneItem item)
@@ -141,11 +145,11 @@ pub record StandsHere (L : TextLayout) (code : List ℕ) (q : Place) (item : Ite
 
 -- ---- units
 
--- with a slot of the table or none, this is what is written for an item that is this to groups
+-- this is what is written for an item with this role in groups, through a slot of the table or not
 abbrev pub IsRoleUnit : Option CodeUnit → Option Item → Role → Type 0
 IsRoleUnit unit item role = (slot : Option ℕ) × (unit ≡ role_unit slot item role)
 
--- what no word spells
+-- this is none of the base instructions, so no word encodes it
 abbrev pub HasNoWord : Short → Type 0
 HasNoWord (Base i) = ⊥
 HasNoWord (Push list adjust) = Unit {0}
@@ -156,17 +160,18 @@ HasNoWord (MoveSa first second) = Unit {0}
 HasNoWord (MoveAs first second) = Unit {0}
 HasNoWord (TableJump index) = Unit {0}
 
--- a halfword alone spells it
+-- this instruction has a halfword, and no 32-bit form
 abbrev pub HasHalf : Short → Type 0
 HasHalf short = HasNoWord short × IsTrue (is_some (encoded16 short))
 
--- these bytes are what is written in one piece
+-- these bytes are what is written at a place as one unit
 pub record WrittenHere (L : TextLayout) (code : List ℕ) (q : Place) (u : CodeUnit) (a n : ℕ) (bytes : List ℕ) : Type 0 where
   pub long : length bytes ≡ n
   pub written : UnitWritten L (bytes_from code q.offset) a n u bytes
   pub octets : (k : ℕ) → slice_index bytes k < 256
 
--- an item starts at a place of a section of code with these bytes, which has this number among all
+-- an item starts at a place of a section of code with these bytes; `number` says which section among all that is, and which of
+-- its items
 pub record StartsHere (L : TextLayout) (number : PlaceNumber) (bytes : List ℕ) (q : Place) (item : Item) : Type 0 where
   pub section : IndexedSection
   pub listed : slice_get (all_sections (parsed L.inputs).objects) number.section ≡ Some section
@@ -177,7 +182,7 @@ pub record StartsHere (L : TextLayout) (number : PlaceNumber) (bytes : List ℕ)
   pub index : number.index ≡ index_on section.section offset
   pub is : item_at (parsed L.inputs) q ≡ Some item
 
--- these bytes are what is written at a place with an address, up to that of the place behind it
+-- these bytes are what is written at a place with an address, up to that of the place after it
 pub record UnitHere (L : TextLayout) (code : List ℕ) (q : Place) (a : ℕ) (bytes : List ℕ) : Type 0 where
   pub unit : CodeUnit
   pub is : L.unit q ≡ Some unit
@@ -187,7 +192,7 @@ pub record UnitHere (L : TextLayout) (code : List ℕ) (q : Place) (a : ℕ) (by
 
 -- ---- sections
 
--- the text is so far that a section of code begins, which has this number among all
+-- the text ends just where section k among all, which is code, begins
 pub record BeginsSection (L : TextLayout) (k : ℕ) (text : List ℕ) (places : List (Place × ℕ)) : Type 0 where
   pub section : IndexedSection
   pub at : slice_get (all_sections (parsed L.inputs).objects) k ≡ Some section

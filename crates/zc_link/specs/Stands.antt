@@ -28,7 +28,7 @@ pub record WordStands (V : Value → Option ℕ) (w : SymWord) (n : ℕ) : Type 
 abbrev pub IsMemory : Program → ℕ → Type 0
 IsMemory p a = ((p.map.data_low ≤ a) × (a < data_high p)) ⊎ ((p.map.stack_low ≤ a) × (a < p.map.stack_high))
 
--- the registers, the memory and the input stand for the machine's, and so does the place, unless the program has exited
+-- the program's registers, memory and input stand for the machine's, and so does its place, unless the program has exited
 pub record Stands (p : Program) (A : Place → Option ℕ) (s : PlainCore) (z : ZcState) : Type 0 where
   pub registers : (r : ℕ) → r < 32 → WordStands (value_in p A) (reg_of s r) (reg_in z.core r)
   pub memory : (a : ℕ) → IsMemory p a → ByteStands (value_in p A) (cell_of s a) (byte_in z.core a)

@@ -10,9 +10,9 @@ use Rattle.shrink_layout.specs.Settled.{settled_address}
 use Rattle.shrink_layout.specs.Units.{CodeUnit, OneItem, front_size, unit_items}
 use Rattle.zc_link.specs.Pace.{Stretch, bytes_between, stretch_of}
 
--- the objects, the addresses of places, what is written at a place in one piece, whether an instruction without relocation keeps the
--- halfword that the object has for it, and the slots of the table with which the text begins, each a hole or the place that it leads to;
--- without slots there is no table
+-- the objects, the addresses of places, what is written at a place in one piece, whether an instruction without relocation keeps
+-- the halfword that the object has for it, and the slots of the table with which the text begins, each a hole or the place that
+-- it leads to; without slots there is no table
 pub record TextLayout : Type 0 where
   pub inputs : Inputs
   pub address : Place → Option ℕ
@@ -30,7 +30,7 @@ plain_layout inputs = record {
   slots = [];
 }
 
--- code made smaller, behind a table of these slots
+-- code made smaller, after a table of these slots
 abbrev pub zc_layout : Inputs → List (Option Place) → TextLayout
 zc_layout inputs slots = record {
   inputs = inputs;
@@ -40,7 +40,7 @@ zc_layout inputs slots = record {
   slots = slots;
 }
 
--- where the first section may begin: behind the table and its stub
+-- where the first section may begin: after the table and its stub
 abbrev pub front_end : TextLayout → ℕ
 front_end L = L.inputs.map.text + front_size L.slots
 
@@ -48,7 +48,7 @@ front_end L = L.inputs.map.text + front_size L.slots
 abbrev pub behind : TextLayout → Place → Place
 behind L q = after_items (parsed L.inputs).objects (option_map_or unit_items (L.unit q) 1) q
 
--- the bytes of what is written at a place: up to the address of the place behind it
+-- the number of bytes that are written at a place: up to the address of the place after it
 abbrev pub size_in : TextLayout → Place → ℕ
 size_in L q = bytes_between (L.address q) (L.address (behind L q))
 

@@ -11,18 +11,19 @@ use Rattle.sym_machine.specs.declared.word.Value.TheVariants.{Code, AbsHi, PcHi}
 use Rattle.sym_machine.specs.AddressParts.{pc_target}
 use Rattle.sym_machine.specs.Program.{Program}
 
--- the address of what a symbol resolves to
+-- the address of a symbol's target
 abbrev pub target_value : (Place → Option ℕ) → Target → Option ℕ
 target_value A (target.Code q) = A q
 target_value A (target.Number n) = Some n
 target_value A (target.Absent n) = Some n
 target_value A target.Nowhere = None
 
--- the way from an address to another, modulo 2^32
+-- the distance from an address to another, modulo 2^32
 abbrev pub way : ℕ → ℕ → ℕ
 way a t = (t + (2 ^ 32 - a)) % 2 ^ 32
 
--- what a value is: a place's address, the upper part of one, or what an `auipc` at a place gives on the way to where it leads
+-- the number that a value is: a place's address, the upper part of one, or what an `auipc` at a place gives for where it leads:
+-- its own address plus the upper part of the distance, modulo 2^32
 abbrev pub value_in : Program → (Place → Option ℕ) → Value → Option ℕ
 value_in p A (Code q) = A q
 value_in p A (AbsHi q) = option_map (λ x. hi20_of x * 2 ^ 12) (A q)

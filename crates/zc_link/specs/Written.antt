@@ -1,5 +1,6 @@
--- What is written in a layout: each item in so many bytes, with what its relocation asks for (RISC-V ELF psABI, "Relocations"), a
--- group of items as a push, a pop or two moves, or a jump or call through the table (RISC-V Zc specification 1.0, "Zcmp" and "Zcmt").
+-- What is written in a layout: each item in the number of bytes that the layout gives it, with the value that its relocation asks
+-- for (RISC-V ELF psABI, "Relocations"); a group of items as a push, a pop or two moves; or a jump or call through the table
+-- (RISC-V Zc specification 1.0, "Zcmp" and "Zcmt").
 use Rattle.std.specs.Prelude.{◌≡◌, ℕ, ℤ, pos, ◌-ℤ◌, ◌+◌, ◌-◌, ◌/◌, ◌%◌, ◌^◌, ◌<◌, ◌≤◌, ◌⊎◌, ◌==◌, if◌then◌else◌, List, [], ◌++◌, Bool, true, false, length, replicate, slice_index, take, All, Option, Some}
 use Rattle.std.specs.List.{flat_map}
 use Rattle.zc_base.specs.Fields.{half_bytes, word_bytes}
@@ -35,14 +36,14 @@ use Rattle.zc_link.specs.Values.{target_value, way}
 
 -- ---- words and halfwords
 
--- the four bytes of a word that spells an instruction
+-- the four bytes of a 32-bit instruction
 pub record SpellsWord (bytes : List ℕ) (i : Instr) : Type 0 where
   pub word : ℕ
   pub small : word < 2 ^ 32
   pub are : bytes ≡ word_bytes word
   pub spells : decoded word ≡ Some i
 
--- the two bytes of the halfword that is its short form, which has its effect
+-- the two bytes of an instruction's short form, which has its effect
 pub record SpellsShort (bytes : List ℕ) (i : Instr) : Type 0 where
   pub half : ℕ
   pub small : half < 2 ^ 16
@@ -50,7 +51,7 @@ pub record SpellsShort (bytes : List ℕ) (i : Instr) : Type 0 where
   pub first : encoded16 (Base i) ≡ Some half
   pub same : HasEffectOf i half
 
--- the two bytes of the first halfword that spells something
+-- the two bytes of a short instruction, in the first of its encodings
 pub record SpellsHalf (bytes : List ℕ) (short : Short) : Type 0 where
   pub half : ℕ
   pub small : half < 2 ^ 16
@@ -58,7 +59,7 @@ pub record SpellsHalf (bytes : List ℕ) (short : Short) : Type 0 where
   pub first : encoded16 short ≡ Some half
   pub spells : decoded16 half ≡ Some short
 
--- the two bytes that the object has for an instruction: it is the normal form of what their halfword spells
+-- the two bytes that the object has for an instruction, whose normal form is this one
 pub record IsCopied (own : ℕ → List ℕ) (bytes : List ℕ) (i : Instr) : Type 0 where
   pub copies : bytes ≡ own 2
   pub half : ℕ
@@ -68,7 +69,7 @@ pub record IsCopied (own : ℕ → List ℕ) (bytes : List ℕ) (i : Instr) : Ty
   pub spells : decoded16 half ≡ Some (Base spelled)
   pub normal : normal_of spelled ≡ i
 
--- n bytes of a word or a short form
+-- an instruction in n bytes: its word or its short form
 abbrev pub IsSpelled : ℕ → List ℕ → Instr → Type 0
 IsSpelled n bytes i = ((n ≡ 4) × SpellsWord bytes i) ⊎ ((n ≡ 2) × SpellsShort bytes i)
 
@@ -79,7 +80,7 @@ nop = 0x13
 abbrev pub short_nop : ℕ
 short_nop = 0x1
 
--- so many of a word
+-- `count` copies of a word
 abbrev pub copies : ℕ → ℕ → List ℕ
 copies word count = flat_map word_bytes (replicate count word)
 
@@ -89,14 +90,14 @@ padding n = (if n % 4 == 2 then half_bytes short_nop else []) ++ copies nop (n /
 
 -- ---- items
 
--- these n bytes spell the instruction that an item is at an address
+-- these n bytes are the instruction that an item is at an address
 pub record SpellsMeant (L : TextLayout) (a n : ℕ) (item : Item) (bytes : List ℕ) : Type 0 where
   pub instr : Instr
   pub is : meant L.address (item_at (parsed L.inputs)) a item ≡ Some instr
   pub spelled : IsSpelled n bytes instr
 
--- the n bytes of an instruction without relocation, in a layout that keeps halfwords of the objects or not: a word; or two bytes, which
--- are the object's own, or its short form
+-- the n bytes of an instruction without relocation: a word; or two bytes, which are the object's own if the layout keeps those,
+-- or else the short form
 abbrev pub IsOpWritten : Bool → (ℕ → List ℕ) → ℕ → Instr → List ℕ → Type 0
 IsOpWritten true own n i bytes = ((n ≡ 4) × SpellsWord bytes i) ⊎ ((n ≡ 2) × IsCopied own bytes i)
 IsOpWritten false own n i bytes = IsSpelled n bytes i
@@ -111,7 +112,7 @@ pub record IsLongBranch (op : BranchOp) (one two : ℕ) (distance : ℤ) (bytes 
   pub over : SpellsWord first (instr.Branch other one two (pos 8))
   pub jump : SpellsWord second (instr.Jal 0 (distance -ℤ pos 4))
 
--- an `auipc` and a `jalr` with the parts of a way
+-- an `auipc` and a `jalr` with the two parts of a distance
 pub record IsLongCall (rd temp w : ℕ) (bytes : List ℕ) : Type 0 where
   pub first : List ℕ
   pub second : List ℕ
@@ -119,11 +120,11 @@ pub record IsLongCall (rd temp w : ℕ) (bytes : List ℕ) : Type 0 where
   pub upper : SpellsWord first (instr.Upper Auipc temp (hi20_of w))
   pub lower : SpellsWord second (instr.Jalr rd temp (lo12_of w))
 
--- this of the way from an address to a place
+-- P holds of the distance from an address to a place, which has an address
 abbrev pub WithWay : (Place → Option ℕ) → ℕ → Place → (ℕ → Type 0) → Type 0
 WithWay A a to P = (b : ℕ) × (A to ≡ Some b) × P (way a b)
 
--- these n bytes are what is written for an item at an address; `own` gives the object's own
+-- these n bytes are what is written for an item at an address; `own` gives the first bytes that the object has for it
 abbrev pub IsWritten : TextLayout → (own : ℕ → List ℕ) → (a n : ℕ) → Item → List ℕ → Type 0
 IsWritten L own a n (Op i) bytes = IsOpWritten L.keeps_halfwords own n i bytes
 IsWritten L own a n (Branch op one two to) bytes =
@@ -138,7 +139,8 @@ IsWritten L own a n item bytes = SpellsMeant L a n item bytes
 
 -- ---- groups
 
--- the n bytes of a push or pop in two instructions: its halfword, and what moves sp by the rest of its frame, behind a push and before a pop
+-- the n bytes of a push or pop in two instructions: its halfword, and what moves sp by the rest of its frame, after a push and
+-- before a pop
 pub record IsSplit (n : ℕ) (g : Group) (bytes : List ℕ) : Type 0 where
   pub half : List ℕ
   pub other : List ℕ
@@ -160,7 +162,7 @@ UnitWritten L own a n (OneSite slot) bytes = SpellsHalf bytes (TableJump slot)
 
 -- ---- text
 
--- what the text holds of what is written at a place: it stands at its address, up to that of the place behind it
+-- what the text holds of a unit: it is written at its place's address, up to that of the place after it
 pub record HoldsUnit (L : TextLayout) (text : List ℕ) (e : Place × ℕ) (u : CodeUnit) : Type 0 where
   pub size : ℕ
   pub next : L.address (behind L e.0) ≡ Some (e.1 + size)
@@ -174,23 +176,23 @@ pub record HoldsUnit (L : TextLayout) (text : List ℕ) (e : Place × ℕ) (u : 
 abbrev pub HoldsPlace : TextLayout → List ℕ → Place × ℕ → Type 0
 HoldsPlace L text e = (u : CodeUnit) → L.unit e.0 ≡ Some u → HoldsUnit L text e u
 
--- the text begins with what stands in front
+-- the text begins with the table and its stub, if there is a table
 abbrev pub HoldsFront : TextLayout → List ℕ → Type 0
 HoldsFront L text = IsFront L (take (front_size L.slots) text)
 
--- nothing that is written takes the byte at an address
+-- nothing is written over the byte at an address
 abbrev pub IsGap : TextLayout → ℕ → Type 0
 IsGap L a =
     (q : Place) (u : CodeUnit) (b n : ℕ) → L.unit q ≡ Some u → L.address q ≡ Some b → L.address (behind L q) ≡ Some (b + n)
     → (a < b) ⊎ (b + n ≤ a)
 
--- such bytes of a text, behind what stands in front, are 0
+-- all bytes of a text after the table and its stub that nothing is written over are 0
 abbrev pub GapsAreZero : TextLayout → List ℕ → Type 0
 GapsAreZero L text =
     (k : ℕ) → front_size L.slots ≤ k → k < length text → IsGap L (L.inputs.map.text + k) → slice_index text k ≡ 0
 
--- the text so far: it lists these places, it ends at this address, it holds what stands in front and what is written at the places,
--- and all else of it is 0
+-- the text up to an address: it lists these places, it ends there, it begins with the table and its stub, it holds what is
+-- written at the places, and all other bytes are 0
 pub record IsSoFar (L : TextLayout) (targets : List Place) (end : ℕ) (text : List ℕ) (places : List (Place × ℕ)) : Type 0 where
   pub listed : places ≡ flat_map (with_address L) targets
   pub ends : L.inputs.map.text + length text ≡ end

@@ -7,10 +7,10 @@ ghost use Rattle.zc_link.specs.Written.{padding};
 
 use std::alloc::AllocError;
 
-// `addi x0,x0,0`.
+// The word of `addi x0,x0,0`.
 const NOP: u32 = 0x13;
 
-// The same as a halfword.
+// The halfword of `addi x0,x0,0`.
 const SHORT_NOP: u16 = 0x1;
 
 /// What is written for a unit.
@@ -21,10 +21,10 @@ const SHORT_NOP: u16 = 0x1;
 /// | `Word` | a word |
 /// | `Pair` | two words |
 /// | `Halves` | two halfwords |
-/// | `HalfWord` | a halfword, and a word behind it |
-/// | `WordHalf` | a word, and a halfword behind it |
+/// | `HalfWord` | a halfword, and then a word |
+/// | `WordHalf` | a word, and then a halfword |
 /// | `Own` | the object's own bytes |
-/// | `Padding` | so many bytes of instructions that do nothing |
+/// | `Padding` | this number of bytes of instructions that do nothing |
 #[derive(Clone, Copy)]
 pub enum Code<'a> {
     Half(u16),
@@ -68,7 +68,7 @@ impl<'a> Code<'a> {
     }
 }
 
-// Adds so many bytes of instructions that do nothing.
+// Adds `count` bytes of instructions that do nothing.
 fn add_padding(text: &mut Vec<u8>, size: u32) -> Result<(), AllocError>
     ensures { OnOk result (text.new.items ≡ text.old.items ++ padding size) }
 {

@@ -1,4 +1,4 @@
-// What stands in front of the first section: the table of jumps and calls, and the stub that sets jvt to it.
+// What comes before the first section: the table of jumps and calls, and the stub that sets jvt to it.
 
 ghost use Rattle.std.specs.Prelude.{◌≡◌, ◌++◌, [], OnOk};
 ghost use Rattle.psabi_sym.specs.Inputs.{parsed};
@@ -25,7 +25,7 @@ pub fn program_start(settled: &Settled) -> u32
         .unwrap_or(cut.objects().map().text)
 }
 
-/// The address of the stub, which stands behind the table.
+/// The address of the stub, which comes after the table.
 pub fn stub_address(settled: &Settled) -> u32
     requires ready { IsReady settled.now.inputs }
     requires laid { IsLaidOut (zc_layout settled.now.inputs settled.now.slots) }

@@ -44,10 +44,10 @@ pub fn group_code<'a>(group: &Group) -> Code<'a>
     }
 }
 
-// The halfword of what isn't an instruction with a word.
+// The halfword of an instruction that has no 32-bit form.
 fn half_of(kind: Short) -> u16
     requires { HasHalf kind }
     ensures { SpellsHalf (half_bytes result) kind }
 {
-    encode16(kind).unwrap_or(0)
+    encode16(kind).unwrap()
 }

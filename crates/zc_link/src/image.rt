@@ -62,7 +62,7 @@ fn data_bytes<L: Layout>(alloc: Global, layout: &L) -> Result<Vec<u8>, AllocErro
     Ok(bytes)
 }
 
-// How many zeros follow the bytes of data that the image holds.
+// The number of zeros after the bytes of data that the image holds.
 fn zeros_after(objects: &Objects, bytes: &[u8]) -> u32
     requires { length bytes.now ≡ data_file_end (parsed objects.now) - objects.now.map.data_low }
     ensures value { result ≡ data_end (parsed objects.now) - data_file_end (parsed objects.now) }

@@ -1,7 +1,7 @@
 // Layouts of code, as links see them.
 
 ghost use Rattle.std.specs.Prelude.{◌≡◌, [], ℕ, OnOk, Some, true};
-ghost use Rattle.block_cut.specs.Items.{is_start_at, is_target_at, item_at, size_at};
+ghost use Rattle.block_cut.specs.Items.{is_start_at, is_target_at, item_at, size_at as own_size_at};
 ghost use Rattle.block_cut.specs.Places.{IsPlaceNumber};
 ghost use Rattle.block_cut.specs.declared.item.Item.{Item};
 ghost use Rattle.frame_match.specs.Invariants.Marks.{HasItem};
@@ -23,7 +23,7 @@ use shrink_layout::settled::Settled;
 use std::alloc::AllocError;
 use zc_base::place::Place;
 
-/// What is written where.
+/// A layout of code: what is written where.
 ///
 /// | Layout | Of |
 /// |---|---|
@@ -38,6 +38,11 @@ pub trait Layout {
         ensures ready { IsReady (layout self.now).inputs }
         ensures laid { IsLaidOut (layout self.now) };
 
+    /// Says what holds of every layout, for the proof of a caller that needs no value of it. Nothing runs.
+    fn recall_laid_out(&self)
+        ensures ready { IsReady (layout self.now).inputs }
+        ensures laid { IsLaidOut (layout self.now) };
+
     /// The address of a place, if it has one.
     fn address(&self, p: Place) -> Option<u32>
         ensures { result ≡ (layout self.now).address p };
@@ -48,14 +53,14 @@ pub trait Layout {
         ensures { (q : Place) (address : ℕ) → (layout self.now).address q ≡ Some address
             → IsPlaceNumber (parsed (layout self.now).inputs).objects q number → result ≡ address };
 
-    /// The bytes of what is written at a place where an item starts, by where the place stands among all. It takes
-    /// constant time.
-    fn size_at(&self, number: PlaceNumber) -> u32
+    /// The number of bytes that are written at a place where an item starts, by where the place stands among all. It
+    /// takes constant time.
+    fn written_size(&self, number: PlaceNumber) -> u32
         requires { HasItem (parsed (layout self.now).inputs).objects number }
         ensures { (q : Place) (unit : CodeUnit) → (layout self.now).unit q ≡ Some unit
             → IsPlaceNumber (parsed (layout self.now).inputs).objects q number → result ≡ size_in (layout self.now) q };
 
-    /// What an item is to the layout's groups, by where its place stands among all.
+    /// The role of an item in the layout's groups, by where its place stands among all.
     fn role_at(&self, number: PlaceNumber) -> Role
         requires { HasItem (parsed (layout self.now).inputs).objects number }
         ensures { (q : Place) → is_start_at (parsed (layout self.now).inputs).objects q ≡ true
@@ -76,9 +81,9 @@ pub trait Layout {
         ensures { (q : Place) (item : Item) → (layout self.now).unit q ≡ Some (OneItem item)
             → IsPlaceNumber (parsed (layout self.now).inputs).objects q number → size_in (layout self.now) q ≡ 2
             → IsHalfHere (layout self.now).keeps_halfwords
-            (size_at (parsed (layout self.now).inputs).objects q) item result };
+            (own_size_at (parsed (layout self.now).inputs).objects q) item result };
 
-    /// Begins a text with what stands in front of the first section. It takes time linear in the slots of the table.
+    /// Begins a text with what comes before the first section. It takes time linear in the slots of the table.
     fn add_front(&self, text: &mut Vec<u8>) -> Result<(), AllocError>
         requires { text.old.items ≡ [] }
         ensures { OnOk result (IsFront (layout self.now) text.new.items) };
@@ -92,9 +97,13 @@ impl Layout for Cut {
     ghost layout = { λ cut. plain_layout cut };
 
     fn cut(&self) -> &Cut {
-        // What a link needs of its map is known from this call.
-        let _map = self.objects().map();
+        self.recall_invariant();
         self
+    }
+
+    #[inline]
+    fn recall_laid_out(&self) {
+        let _cut = Layout::cut(self);
     }
 
     fn address(&self, p: Place) -> Option<u32> {
@@ -102,14 +111,12 @@ impl Layout for Cut {
     }
 
     fn address_at(&self, number: PlaceNumber) -> u32 {
-        // This call says that the cut is ready for a link.
-        let cut = Layout::cut(self);
-        cut.places(number.section)[number.index as usize].address
+        self.recall_laid_out();
+        self.places(number.section)[number.index as usize].address
     }
 
-    fn size_at(&self, number: PlaceNumber) -> u32 {
-        // So does this one.
-        let _cut = Layout::cut(self);
+    fn written_size(&self, number: PlaceNumber) -> u32 {
+        self.recall_laid_out();
         let next = PlaceNumber {
             section: number.section,
             index: number.index + 1,
@@ -126,8 +133,8 @@ impl Layout for Cut {
     }
 
     fn half_at(&self, _number: PlaceNumber) -> Option<u16> {
-        // This call says that the cut is ready for a link: so an instruction takes two bytes only if it has two.
-        let _cut = Layout::cut(self);
+        // The cut is ready for a link, so an instruction takes two bytes only if it has two.
+        self.recall_laid_out();
         None
     }
 
@@ -145,9 +152,14 @@ impl Layout for Settled {
     ghost layout = { λ settled. zc_layout settled.inputs settled.slots };
 
     fn cut(&self) -> &Cut {
-        // These calls say that the table has few slots, and that a cut is ready for a link.
-        let _slots = self.slots();
+        // The table has few slots.
+        self.recall_invariant();
         Layout::cut(self.planned().cut())
+    }
+
+    #[inline]
+    fn recall_laid_out(&self) {
+        let _cut = Layout::cut(self);
     }
 
     fn address(&self, p: Place) -> Option<u32> {
@@ -158,9 +170,8 @@ impl Layout for Settled {
         Settled::address_at(self, number)
     }
 
-    fn size_at(&self, number: PlaceNumber) -> u32 {
-        // This call says that no fault stands between the objects.
-        let _cut = Layout::cut(self);
+    fn written_size(&self, number: PlaceNumber) -> u32 {
+        self.recall_laid_out();
         Settled::size_at(self, number)
     }
 
@@ -173,20 +184,19 @@ impl Layout for Settled {
     }
 
     fn half_at(&self, number: PlaceNumber) -> Option<u16> {
-        // This call says that the layout is one that a link may have: so what takes two bytes has a halfword.
-        let _cut = Layout::cut(self);
+        // What takes two bytes has a halfword.
+        self.recall_laid_out();
         Some(Settled::half_at(self, number))
     }
 
     fn add_front(&self, text: &mut Vec<u8>) -> Result<(), AllocError> {
-        // This call says that the layout is one that a link may have: so the stub reaches the program's start.
-        let _cut = Layout::cut(self);
+        // The stub reaches the program's start.
+        self.recall_laid_out();
         add_front(self, text)
     }
 
     fn entry(&self) -> u32 {
-        // So does this one.
-        let _cut = Layout::cut(self);
+        self.recall_laid_out();
         if self.slots().is_empty() {
             program_start(self)
         } else {

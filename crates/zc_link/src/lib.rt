@@ -2,11 +2,11 @@
 #![tactic(auto)]
 
 mod code;
-mod extent;
 mod front;
 mod group;
 mod image;
 mod item;
+mod item_start;
 mod layout;
 pub mod linked;
 pub mod plain;

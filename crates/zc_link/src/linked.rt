@@ -6,7 +6,7 @@ use std::marker::Model;
 use zc_base::counts::Counts;
 
 /// What a link gives: the file of the image, what a table of jumps could save, the certificate of the table that it
-/// has, and what the plain layout and the image count.
+/// has, and what the plain layout and the image count. A plain link's image has the plain layout, so both are the same.
 #[derive(Drop)]
 pub struct Linked {
     pub elf: Vec<u8>,

@@ -38,7 +38,7 @@ pub fn link_plain(alloc: Global, objects: Objects) -> Result<Linked, LinkFault>
     ensures err { IfErr result (λ fault. IsRefusal (first_fault objects) fault) }
 {
     let cut = Cut::new(alloc, objects)?;
-    let counts = cut.counts();
+    let image_counts = cut.counts();
     let parts = image_parts(alloc, &cut, plain_flags(cut.objects()))?;
     // The file is made in the memory that the items had.
     drop(cut);
@@ -52,7 +52,7 @@ pub fn link_plain(alloc: Global, objects: Objects) -> Result<Linked, LinkFault>
         elf,
         savings: Vec::new(alloc),
         certificate,
-        plain: counts,
-        zc: counts,
+        plain: image_counts,
+        zc: image_counts,
     })
 }

@@ -6,7 +6,7 @@ ghost use Rattle.psabi_sym.specs.Indexed.{all_sections};
 ghost use Rattle.zc_link.specs.Standing.{BeginsSection};
 ghost use Rattle.zc_link.specs.Written.{IsTextOf};
 
-use crate::extent::ItemStart;
+use crate::item_start::ItemStart;
 use crate::layout::Layout;
 use crate::unit::unit_code;
 use block_cut::place_number::PlaceNumber;
@@ -21,9 +21,9 @@ pub struct Text {
 }
 
 impl Text {
-    /// The text of a layout's code, with all its places: what stands in front, and then the sections. It takes time
-    /// linear in the code and the number of sections, beside that of an address for each section and for each place that
-    /// an item leads to.
+    /// The text of a layout's code, with all its places: first what comes before the sections, and then each section.
+    /// It takes time linear in the code and the number of sections, beside that of an address for each section and for
+    /// each place that an item leads to.
     pub fn lay<L: Layout>(alloc: Global, layout: &L) -> Result<Text, AllocError>
         ensures { IfOk result (λ laid. IsTextOf (L.layout layout.now)
             (all_sections (parsed (L.layout layout.now).inputs).objects) laid.text.items laid.places.items) }
@@ -32,7 +32,7 @@ impl Text {
         let counts = cut.counts();
         let sections = cut.objects().section_count();
         let mut laid = Text {
-            // Few layouts take more than the plain one.
+            // The plain layout's size suffices for most layouts.
             text: Vec::with_capacity(alloc, counts.text as usize)?,
             places: Vec::with_capacity(alloc, counts.items as usize + sections as usize)?,
         };
@@ -110,7 +110,7 @@ impl Text {
     }
 }
 
-// Adds so many zeros.
+// Adds `count` zeros.
 fn add_zeros(text: &mut Vec<u8>, count: u32) -> Result<(), AllocError>
     ensures { OnOk result (text.new.items ≡ text.old.items ++ replicate count 0) }
 {

@@ -39,12 +39,12 @@ struct Table {
     certificate: Certificate,
 }
 
-// The file of an image, and what the plain layout and this one count.
+// The file of an image, and the counts of the plain layout and of the image's.
 #[derive(Drop)]
 struct Counted {
     elf: Vec<u8>,
-    plain: Counts,
-    zc: Counts,
+    plain_counts: Counts,
+    image_counts: Counts,
 }
 
 /// The link of the objects, or why they aren't linked. Pushes, pops and moves are written as one instruction
@@ -76,7 +76,7 @@ fn tableless(alloc: Global, objects: Objects) -> Result<Settled, LinkFault>
     Ok(first)
 }
 
-// The link of the objects behind the table that is picked, by their layout without one.
+// The link of the objects with the table that is picked, by their layout without one.
 fn small_link(alloc: Global, first: Settled) -> Result<Linked, AllocError>
     requires faultless { first_fault first.inputs ≡ None }
     requires tableless { first.slots ≡ [] }
@@ -93,15 +93,15 @@ fn joined(image: Counted, table: Table) -> Linked
     ensures elf { result.elf ≡ image.elf.items }
     ensures savings { result.savings ≡ table.savings.items }
     ensures certificate { result.certificate ≡ table.certificate }
-    ensures plain { result.plain ≡ image.plain }
-    ensures zc { result.zc ≡ image.zc }
+    ensures plain { result.plain ≡ image.plain_counts }
+    ensures zc { result.zc ≡ image.image_counts }
 {
     Linked {
         elf: image.elf,
         savings: table.savings,
         certificate: table.certificate,
-        plain: image.plain,
-        zc: image.zc,
+        plain: image.plain_counts,
+        zc: image.image_counts,
     }
 }
 
@@ -122,7 +122,7 @@ fn pick_table(alloc: Global, first: &Settled) -> Result<Table, AllocError>
     })
 }
 
-// The image of the layout behind the table of a certificate, and what it counts.
+// The image of the layout after the table of a certificate, and its counts.
 fn counted_image(
     alloc: Global,
     first: Settled,
@@ -137,18 +137,22 @@ fn counted_image(
     ensures image { IfOk result (λ image.
         IsImageOf (zc_layout first.inputs (slots.slot_places savings.now certificate.now.slots)) 1
         (settled_end (parsed first.inputs) (slots.slot_places savings.now certificate.now.slots)) image.elf.items) }
-    ensures plain { IfOk result (λ image. image.plain ≡ plain_counts (parsed first.inputs)) }
-    ensures zc { IfOk result (λ image. image.zc
+    ensures plain { IfOk result (λ image. image.plain_counts ≡ plain_counts (parsed first.inputs)) }
+    ensures counts { IfOk result (λ image. image.image_counts
         ≡ settled_counts (parsed first.inputs) (slots.slot_places savings.now certificate.now.slots)) }
 {
     let settled = with_table(alloc, first, savings, certificate)?;
-    let plain = settled.planned().cut().counts();
-    let zc = settled.counts();
+    let plain_counts = settled.planned().cut().counts();
+    let image_counts = settled.counts();
     let elf = image_file(alloc, settled)?;
-    Ok(Counted { elf, plain, zc })
+    Ok(Counted {
+        elf,
+        plain_counts,
+        image_counts,
+    })
 }
 
-// The layout behind the table of a certificate; if that has no slots, it is the one without a table.
+// The layout after the table of a certificate; if that has no slots, it is the layout without a table.
 fn with_table(
     alloc: Global,
     first: Settled,

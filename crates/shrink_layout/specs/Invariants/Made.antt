@@ -1,5 +1,5 @@
--- Pieces and halfwords as they are made, and as those behind a table are put in their place: section by section, and of a
--- section place by place.
+-- Pieces and halfwords as they are made, and as those of a layout with a table are put in their place: section by section, and
+-- within a section place by place.
 use Rattle.std.specs.Prelude.{◌≡◌, ℕ, ◌+◌, ◌<◌, ◌^◌, true, false, if◌then◌else◌, List, [], ◌∷◌, ◌++◌, drop, length, map, take, slice_get, Option, Some, None}
 use Rattle.std.specs.List.{flat_map}
 use Rattle.elf32_read.specs.Parts.{is_code_section}
@@ -18,7 +18,7 @@ use Rattle.shrink_layout.specs.declared.piece.Piece.TheVariants.{Align, Fixed}
 use Rattle.shrink_layout.specs.declared.pieces.Pieces.{Pieces}
 use Rattle.shrink_layout.specs.declared.pieces.SectionPlaces.{SectionPlaces}
 
--- places of a section
+-- the places of a section, by what is kept of them
 abbrev pub places_held : IndexedSection → List CodePlace → List Place
 places_held l places = map (λ p. place_of l p.offset) places
 
@@ -42,24 +42,24 @@ pub record AreStartsOf (inputs : ParsedInputs) (s : SectionPlaces) : Type 0 wher
   pub are : places_held s.section s.places.now ≡ places_of s.section
   pub few : length s.places.now < 2 ^ 32
 
--- the section with a number among all is no code
+-- the section with this number among all isn't code
 abbrev pub IsNoCode : ParsedInputs → ℕ → Type 0
 IsNoCode inputs k =
     (l : IndexedSection) → slice_get (all_sections inputs.objects) k ≡ Some l → is_code_section l.section ≡ false
 
--- what is written for each piece of a section; its padding is for nothing
+-- what each piece of a section is written for; its padding is written for nothing
 abbrev pub section_owners : ParsedInputs → (Place → Option ℕ) → IndexedSection → List (Option CodeUnit)
 section_owners inputs slot l = if is_code_section l.section then None ∷ map (unit_by inputs slot) (places_of l) else []
 
--- for those of sections one after another
+-- what each piece of these sections is written for
 abbrev pub owners_in : ParsedInputs → (Place → Option ℕ) → List IndexedSection → List (Option CodeUnit)
 owners_in inputs slot sections = flat_map (section_owners inputs slot) sections
 
--- for all
+-- what each piece is written for; the first one is the table with its stub
 abbrev pub all_owners : ParsedInputs → List (Option Place) → List (Option CodeUnit)
 all_owners inputs slots = None ∷ owners_in inputs (slot_at inputs slots) (all_sections inputs.objects)
 
--- a halfword for each
+-- for each piece the halfword of what it is written for
 abbrev pub AreHalvesOf : List (Option CodeUnit) → List ℕ → Type 0
 AreHalvesOf [] [] = Unit {0}
 AreHalvesOf [] (half ∷ halves) = ⊥
@@ -71,7 +71,7 @@ pub record ArePiecesOf (inputs : ParsedInputs) (slots : List (Option Place)) (ma
   pub pieces_are : made.pieces.items ≡ pieces_of inputs slots
   pub halves_are : AreHalvesOf (all_owners inputs slots) made.halves.items
 
--- those up to the section with a number among all, without a table
+-- the pieces of the sections before number k, and their halfwords, without a table
 pub record AreMade (inputs : ParsedInputs) (k : ℕ) (made : Pieces) : Type 0 where
   pub pieces_are : made.pieces.items
       ≡ Fixed 0 ∷ pieces_in inputs (slot_at inputs []) (take k (all_sections inputs.objects))
@@ -80,8 +80,7 @@ pub record AreMade (inputs : ParsedInputs) (k : ℕ) (made : Pieces) : Type 0 wh
 
 -- ---- behind a table
 
--- all pieces and their halfwords: up to the section with a number among all with a table of these slots, and from there
--- on without it
+-- all pieces and their halfwords: up to section k with a table of these slots, and from there on without it
 pub record ArePut (inputs : ParsedInputs) (slots : List (Option Place)) (k : ℕ) (made : Pieces) : Type 0 where
   pub pieces_are : made.pieces.items
       ≡ Fixed (front_size slots) ∷ (pieces_in inputs (slot_at inputs slots) (take k (all_sections inputs.objects))
@@ -90,7 +89,8 @@ pub record ArePut (inputs : ParsedInputs) (slots : List (Option Place)) (k : ℕ
       AreHalvesOf (None ∷ (owners_in inputs (slot_at inputs slots) (take k (all_sections inputs.objects))
       ++ owners_in inputs (slot_at inputs []) (drop k (all_sections inputs.objects)))) made.halves.items
 
--- the same in the midst of this section of code: up to the last of some places, and from the first of the others on
+-- all pieces and their halfwords, within section k, which is code: up to the places `before` with the table, and from the places
+-- `after` on without it
 pub record ArePutIn (inputs : ParsedInputs) (slots : List (Option Place)) (k : ℕ) (l : IndexedSection)
     (before after : List Place) (made : Pieces) : Type 0 where
   pub pieces_are : made.pieces.items

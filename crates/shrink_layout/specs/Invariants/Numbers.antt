@@ -19,16 +19,15 @@ use Rattle.shrink_layout.specs.Units.{CodeUnit, OneGroup, OneItem, OneSite}
 
 -- ---- numbers
 
--- how many pieces the sections before the one with a number among all have
+-- the number of pieces of the sections before section k among all
 abbrev pub section_pieces_before : List ObjectParts → ℕ → ℕ
 section_pieces_before objects k = sum_by piece_count (take k (all_sections objects))
 
--- how many pieces stand before the first place of that section: what is in front of all code, the sections before it,
--- and its padding
+-- the number of pieces before the first place of section k: the table with its stub, the sections before it, and its padding
 abbrev pub first_number : List ObjectParts → ℕ → ℕ
 first_number objects k = 1 + section_pieces_before objects k + 1
 
--- those of all sections
+-- the numbers of the first places of all sections
 abbrev pub AreFirstNumbers : List ObjectParts → List ℕ → Type 0
 AreFirstNumbers objects starts = starts ≡ map (first_number objects) (range_with_len 0 (length (all_sections objects)))
 
@@ -38,12 +37,12 @@ HasPlace objects number = (q : Place) × (is_target_at objects q ≡ true) × Is
 
 -- ---- halfwords
 
--- a jump or call through the table
+-- an instruction is a jump or call through the table
 abbrev pub is_table_jump : Option Short → Bool
 is_table_jump (Some (TableJump index)) = true
 is_table_jump _ = false
 
--- what a halfword spells is one
+-- a halfword is a jump or call through the table
 abbrev pub is_table_half : ℕ → Bool
 is_table_half half = is_table_jump (decoded16 half)
 
@@ -55,7 +54,7 @@ IsHalfAt (Some (OneItem i)) half = IsHalfOf i half × (is_table_half half ≡ fa
 IsHalfAt (Some (OneGroup g)) half = is_table_half half ≡ false
 IsHalfAt (Some (OneSite slot)) half = encoded16 (TableJump slot) ≡ Some half
 
--- a halfword for each piece
+-- there is a halfword for each piece, which is that of what is written at the place
 abbrev pub AreHalves : ParsedInputs → List (Option Place) → List ℕ → Type 0
 AreHalves inputs slots halves =
     (length halves ≡ length (pieces_of inputs slots))

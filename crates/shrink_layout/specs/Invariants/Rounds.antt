@@ -18,11 +18,11 @@ pub record LaidPieces : Type 0 where
   pub pieces : List Piece
   pub sizes : List ℕ
 
--- at their shortest forms
+-- the pieces at their shortest forms
 abbrev pub shortest_pieces : ℕ → List Piece → LaidPieces
 shortest_pieces text pieces = record { text = text; pieces = pieces; sizes = map shortest pieces }
 
--- after one more round
+-- the pieces after one more round
 abbrev pub next_pieces : LaidPieces → LaidPieces
 next_pieces l = record { text = l.text; pieces = l.pieces; sizes = next_sizes l.text l.pieces l.sizes }
 
@@ -54,8 +54,8 @@ pub record ArePlaced (pieces : List Piece) (sizes : List ℕ) (w : Widths) : Typ
   pub starts : AreStarts (addresses_of (slice_index w.starts.items 0) pieces sizes) (length pieces) w.starts.items
   pub counted : AreCounted w
 
--- before a round: a piece fits if neither it nor one between it and its target changed in the last round; and if none
--- changed in the blocks that are kept of a block, these are all on which it depends whether its pieces fit
+-- before a round: a piece fits if neither it nor one between it and its target changed in the last round; and the blocks that are
+-- kept for a block, if no piece in them changed, are all on which it depends whether its pieces fit
 pub record AreLaid (pieces : List Piece) (sizes : List ℕ) (w : Widths) (blocks : Blocks) : Type 0 where
   pub placed : ArePlaced pieces sizes w
   pub blocks_are : AreBlocks pieces blocks

@@ -1,4 +1,4 @@
--- Savings as they are counted: each target of code with the sites that were found so far.
+-- Savings as they are counted: each target of code with the number of sites that were found so far.
 use Rattle.std.specs.Prelude.{◌≡◌, ℕ, ◌≤◌, Bool, false, ◌&&◌, ◌==◌, nat_lt, List, length, map, take, Option, None, Some}
 use Rattle.std.specs.List.{flat_map}
 use Rattle.std.specs.Option.{option_to_list}
@@ -12,11 +12,11 @@ use Rattle.shrink_layout.specs.Pieces.{site_at}
 use Rattle.shrink_layout.specs.Savings.{saving_of}
 use Rattle.shrink_layout.specs.declared.site.Site.{Site}
 
--- a site by the register that it links and its target
+-- a site as a pair: the register that it links, and its target
 abbrev pub site_pair : Site → ℕ × Place
 site_pair s = (s.rd, s.to)
 
--- so many bytes are four
+-- the number of bytes is four
 abbrev pub is_four : Option ℕ → Bool
 is_four None = false
 is_four (Some n) = n == 4
@@ -25,7 +25,7 @@ is_four (Some n) = n == 4
 abbrev pub is_served : Option ℕ → Site → Bool
 is_served size s = is_four size && nat_lt s.rd 2
 
--- the targets in the first so many sections, and the places where items start
+-- the targets in the first k sections, and the places where their items start
 abbrev pub targets_before : List ObjectParts → ℕ → List Place
 targets_before objects k = flat_map targets_of (take k (all_sections objects))
 
@@ -36,10 +36,10 @@ places_before objects k = flat_map places_of (take k (all_sections objects))
 abbrev pub sites_in : ParsedInputs → List Place → List (ℕ × Place)
 sites_in inputs qs = flat_map (λ q. option_to_list (site_at inputs q)) qs
 
--- all targets, each with those of the sites at these places that lead to it
+-- the savings of all targets, counted over the sites at these places
 abbrev pub AreSavings : ParsedInputs → List Place → List Saving → Type 0
 AreSavings inputs qs savings = savings ≡ map (saving_of (sites_in inputs qs)) (all_targets inputs.objects)
 
--- the places are some, and few
+-- these are the savings over the sites at some places, of which there are at most 65,536
 abbrev pub AreOfPlaces : ParsedInputs → List Saving → Type 0
 AreOfPlaces inputs savings = (qs : List Place) × (length qs ≤ 0x1_0000) × AreSavings inputs qs savings

@@ -13,7 +13,8 @@ use Rattle.shrink_layout.specs.declared.slots.Numbered.{Numbered}
 use Rattle.shrink_layout.specs.declared.slots.PieceSource.{PieceSource}
 use Rattle.shrink_layout.specs.declared.slots.Slots.{Slots}
 
--- the first slot of each place, by the number of its piece, in a part of the slots whose first has this number
+-- for the number of each place's piece, the first slot that leads to the place, in a part of the slots whose first has this
+-- number
 abbrev pub AreFirstSlots : List ObjectParts → ℕ → List (Option Place) → List (Option ℕ) → Type 0
 AreFirstSlots objects first part firsts =
     (q : Place) → slice_index_or firsts (piece_number_at objects q) None ≡ slot_from first q part
@@ -36,26 +37,26 @@ pub record AreNumbered (of : Numbered) : Type 0 where
   pub faultless : gather_fault of.planned.now ≡ None
   pub starts : AreFirstNumbers (parsed of.planned.now).objects of.starts.now
 
--- what is written at a place without a table, and its piece
+-- what is written at a place in the layout without a table, and its piece
 abbrev pub first_unit : ParsedInputs → Place → Option CodeUnit
 first_unit inputs q = unit_at inputs [] q
 
 abbrev pub first_piece : ParsedInputs → Place → Piece
 first_piece inputs q = piece_at inputs (slot_at inputs []) q
 
--- what is written with a table, by the slot of the jump or call there
+-- what is written at a place with the table, by the slot of the jump or call there
 abbrev pub put_unit : Option ℕ → Option CodeUnit → Option CodeUnit
 put_unit None unit = unit
 put_unit (Some slot) unit = Some (OneSite slot)
 
--- what pieces behind a table are made from: inputs, and the slots
+-- what the pieces of a layout with a table are made from: inputs, and the slots
 abbrev pub source_inputs : PieceSource → ParsedInputs
 source_inputs of = parsed of.planned.now
 
 abbrev pub source_slots : PieceSource → List (Option Place)
 source_slots of = of.slots.now.slots.now
 
--- they are objects without a fault, with the number of each section's first place, and slots by where they lead
+-- the source is objects without a fault, with the number of each section's first place, and slots by where they lead
 pub record IsSource (of : PieceSource) : Type 0 where
   pub faultless : gather_fault of.planned.now ≡ None
   pub starts : AreFirstNumbers (source_inputs of).objects of.starts.now

@@ -20,7 +20,7 @@ addresses_by at (width ∷ widths) = at ∷ addresses_by (at + width) widths
 abbrev pub addresses_in : Widths → List ℕ
 addresses_in w = addresses_by (slice_index w.starts.items 0) w.sums
 
--- the address of the first of so many pieces in each block, and of the end
+-- the address of the first piece of each block, among `count` pieces, and of the end
 pub record AreStarts (addresses : List ℕ) (count : ℕ) (starts : List ℕ) : Type 0 where
   pub long : length starts ≡ count / block_size + 2
   pub each : (b : ℕ) → b ≤ count / block_size + 1
@@ -28,7 +28,7 @@ pub record AreStarts (addresses : List ℕ) (count : ℕ) (starts : List ℕ) : 
 
 -- ---- pieces that changed
 
--- how many pieces before the one with number k changed
+-- the number of changed pieces before the piece with number k
 abbrev pub changed_before : Widths → ℕ → ℕ
 changed_before w k = slice_index w.changes.items (k / block_size) + slice_index w.within.items k
 
@@ -49,13 +49,13 @@ pub record AreCounted (w : Widths) : Type 0 where
 abbrev pub IsUntouched : Widths → Piece → ℕ → Type 0
 IsUntouched w p k = changed_before w (min (target p) k) ≡ changed_before w (max (target p) (k + 1))
 
--- such pieces fit, from number first on
+-- from number `first` on, pieces fit that are untouched in this sense
 abbrev pub OthersFitFrom : ℕ → List Piece → List ℕ → Widths → Type 0
 OthersFitFrom first pieces sizes w =
     (k : ℕ) → first ≤ k → k < length pieces → IsUntouched w (nth_piece pieces k) k
     → block_fits (addresses_in w) pieces sizes k ≡ true
 
--- each piece and each target has an address below 2^32, and these are near
+-- pieces can be tested: each of them and each target has an address below 2^32, and these are near each other
 pub record CanBeTested (pieces : List Piece) (w : Widths) : Type 0 where
   pub long : length w.sums ≡ length pieces
   pub starts : AreStarts (addresses_in w) (length pieces) w.starts.items
@@ -66,27 +66,27 @@ pub record CanBeTested (pieces : List Piece) (w : Widths) : Type 0 where
 
 -- ---- a block after a round
 
--- counts in a block of which the first piece has this number rise
+-- the counts within a block, whose first piece has this number, don't fall
 abbrev pub IsAscending : List ℕ → ℕ → Type 0
 IsAscending within first =
     (i j : ℕ) → first ≤ i → i ≤ j → j < first + block_size → j < length within
     → slice_index within i ≤ slice_index within j
 
--- they are 0 now, and counts of other blocks are as before
+-- the counts within this block are 0 now, and those within other blocks are as before
 pub record IsCleared (old new : List ℕ) (first : ℕ) : Type 0 where
   pub same : length new ≡ length old
   pub none : (k : ℕ) → first ≤ k → k < first + block_size → k < length new → slice_index new k ≡ 0
   pub before : (k : ℕ) → k < first → slice_index new k ≡ slice_index old k
   pub after : (k : ℕ) → first + block_size ≤ k → slice_index new k ≡ slice_index old k
 
--- a block was moved as a whole, which takes so many bytes
+-- a block that takes `taken` bytes was moved as a whole
 pub record IsBlockMoved (old new : Widths) (block taken : ℕ) : Type 0 where
   pub sums : new.sums ≡ old.sums
   pub starts : new.starts.items ≡ slice_set old.starts.items (block + 1) (slice_index old.starts.items block + taken)
   pub changes : new.changes.items ≡ slice_set old.changes.items (block + 1) (slice_index old.changes.items block)
   pub within : IsCleared old.within.items new.within.items (block * block_size)
 
--- the pieces of a block can be laid anew at these sizes: those before it are
+-- the pieces of a block can be laid anew at these sizes, since those before it are laid
 pub record CanBeLaidAnew (pieces : List Piece) (sizes : List ℕ) (w : Widths) (block : ℕ) : Type 0 where
   pub alignments : All HasAlignment pieces
   pub forms : AreForms pieces sizes

@@ -1,4 +1,4 @@
--- What is needed of a program: it names only places that it may name, which are handed to this.
+-- What is needed of a program: it names only places that it may name; which ones these are is a parameter.
 use Rattle.std.specs.Prelude.{◌≡◌, true, Some}
 use Rattle.zc_base.specs.declared.place.Place.{Place}
 use Rattle.psabi_sym.specs.declared.target.Target.{Target}
@@ -15,7 +15,7 @@ NamesTarget Named (Number n) = Unit {0}
 NamesTarget Named (Absent n) = Unit {0}
 NamesTarget Named Nowhere = Unit {0}
 
--- where an item leads, or whose address it gives; a lower part gives what the `auipc` leads to that it names
+-- an item names only such places: where it leads, or whose address it gives; a lower part counts by the `auipc` that it goes with
 abbrev pub NamesItem : (Place → Type 0) → Item → Type 0
 NamesItem Named (Op i) = Unit {0}
 NamesItem Named (Hi i t) = NamesTarget Named t
@@ -31,7 +31,7 @@ NamesItem Named (Raw word) = Unit {0}
 NamesItem Named (RawShort half) = Unit {0}
 NamesItem Named (RawPair first second) = Unit {0}
 
--- of each item, and of the place after each that ends a basic block
+-- each item names only such places, and the place after an item that ends a basic block is one
 pub record Leads (p : Program) (Named : Place → Type 0) : Type 0 where
   pub item : (q : Place) (i : Item) → p.item q ≡ Some i → NamesItem Named i
   pub next : (q : Place) (i : Item) → p.item q ≡ Some i → ends_block i ≡ true → Named (p.next q)

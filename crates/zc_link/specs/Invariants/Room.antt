@@ -26,7 +26,7 @@ pub record Room (p : Program) (e : Image) : Type 0 where
       (a : ℕ) → lies_in is_text (extents_of (loaded_core e).memory) a 1 ≡ true → lies_in is_data (extents_of (loaded_core e).memory) a 1 ≡ false
   -- places have even addresses above 0
   pub even : (q : Place) (a : ℕ) → e.address q ≡ Some a → (a % 2 ≡ 0) × (0 < a) × (a < 2 ^ 32)
-  -- of two that have room of their own the addresses differ
+  -- two items that have room of their own have different addresses
   pub distinct :
       (q r : Place) (a : ℕ) → is_solid (p.item q) ≡ true → is_solid (p.item r) ≡ true → e.address q ≡ Some a
       → e.address r ≡ Some a → q ≡ r

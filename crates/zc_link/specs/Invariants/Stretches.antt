@@ -1,4 +1,4 @@
--- What is laid for what starts at a listed place: its instructions stand at the place's address.
+-- What is written for the stretch that starts at a listed place: its instructions, from the place's address on.
 use Rattle.std.specs.Prelude.{◌≡◌, ℕ, zero, suc, ℤ, pos, ◌+◌, ◌*◌, ◌/◌, ◌%◌, ◌^◌, ◌<◌, ◌⊎◌, true, List, [], ◌∷◌, length, Option, Some, None}
 use Rattle.zc_base.specs.declared.place.Place.{Place}
 use Rattle.rv_decode.specs.declared.instr.Instr.{Instr}
@@ -28,18 +28,18 @@ use Rattle.zc_link.specs.Pace.{Stretch, Alone, AlignOf, CallOf, GroupOf, LongOf,
 
 -- ---- instructions
 
--- an instruction stands at an address, in so many bytes
+-- this instruction is at an address, in `size` bytes
 pub record OneAt (e : Image) (a : ℕ) (short : Short) : Type 0 where
   pub size : ℕ
   pub here : fetched_at (loaded_core e) a ≡ Found short size
   pub small : a + size < 2 ^ 32
 
--- two stand there, one after the other
+-- two instructions are at an address, one after the other
 pub record TwoAt (e : Image) (a : ℕ) (first second : Short) : Type 0 where
   pub one : OneAt e a first
   pub two : OneAt e (a + one.size) second
 
--- an instruction alone, or one with the same effect, and the next place after it; `ecall` has no short form
+-- an instruction or one with the same effect is at an address, and the next place comes after it; `ecall` has no short form
 pub record AloneLaid (p : Program) (e : Image) (q : Place) (a : ℕ) (i : Instr) : Type 0 where
   pub registers : HasRegisters i
   pub here : Instr
@@ -56,13 +56,13 @@ pub record OneLaid (p : Program) (e : Image) (q : Place) (a : ℕ) (item : Item)
   pub is : meant e.address p.item a item ≡ Some instr
   pub laid : AloneLaid p e q a instr
 
--- what a halfword of the objects spells, and the next place after it
+-- the instruction of one of the objects' halfwords is at an address, and the next place comes after it
 pub record ShortLaid (p : Program) (e : Image) (q : Place) (a : ℕ) (short : Short) : Type 0 where
   pub at : OneAt e a short
   pub next : e.address (p.next q) ≡ Some (a + at.size)
 
--- an item that is one instruction; of what the symbolic machine is stuck at, and of a section's end, nothing is owed, and padding
--- isn't one instruction
+-- an item that is one instruction; where the symbolic machine is stuck or a section ends, nothing is owed, and padding isn't one
+-- instruction
 abbrev pub ItemLaid : Program → Image → Place → ℕ → Option Item → Type 0
 ItemLaid p e q a None = Unit {0}
 ItemLaid p e q a (Some (Word t)) = Unit {0}
@@ -73,7 +73,7 @@ ItemLaid p e q a (Some item) = OneLaid p e q a item
 
 -- ---- items of several instructions
 
--- so many instructions that do nothing (`addi x0,x0,0`) stand one after another from an address to another
+-- `count` instructions that do nothing (`addi x0,x0,0`) come one after another, from address a to address b
 abbrev pub Nops : Image → ℕ → ℕ → ℕ → Type 0
 Nops e a zero b = b ≡ a
 Nops e a (suc count) b = (at : OneAt e a (Base (WithImm Addi 0 0 (pos 0)))) × Nops e (a + at.size) count b
@@ -116,7 +116,7 @@ pub record LongLaid (p : Program) (e : Image) (q : Place) (a : ℕ) (op : Branch
 
 -- ---- groups
 
--- the place so many items on
+-- the place k items on
 abbrev pub place_items_on : Program → Place → ℕ → Place
 place_items_on p q zero = q
 place_items_on p q (suc k) = place_items_on p (p.next q) k
@@ -136,31 +136,32 @@ pub record FormAt (e : Image) (a : ℕ) (i : Instr) : Type 0 where
 abbrev pub RestAt : Image → ℕ → ℕ → Instr → ℕ → Type 0
 RestAt e a rest i end = ((rest ≡ 0) × (end ≡ a)) ⊎ ((0 < rest) × (form : FormAt e a i) × (end ≡ a + form.at.size))
 
--- a push stands there: a halfword, and then the rest of its frame
+-- a push: its halfword at address a, and then what moves sp by the rest of its frame, up to the address `end`
 pub record PushAt (e : Image) (a list frame end : ℕ) : Type 0 where
   pub half : OneAt e a (Push list (frame_adjust list frame))
   pub rest : RestAt e (a + half.size) (rest_of list frame) (lower_sp (rest_of list frame)) end
 
--- a pop stands there: the rest of its frame, and then a halfword
+-- a pop: what moves sp by the rest of its frame, from address a on, and then its halfword, up to the address `end`
 pub record PopAt (e : Image) (a : ℕ) (ending : Ending) (list frame end : ℕ) : Type 0 where
   pub middle : ℕ
   pub rest : RestAt e a (rest_of list frame) (raise_sp (rest_of list frame)) middle
   pub half : OneAt e middle (pop_kind ending list (frame_adjust list frame))
   pub ends : end ≡ middle + half.size
 
--- one halfword stands there
+-- one halfword, from address a to the address `end`
 pub record HalfAt (e : Image) (a : ℕ) (short : Short) (end : ℕ) : Type 0 where
   pub half : OneAt e a short
   pub ends : end ≡ a + half.size
 
--- a group stands there
+-- a group, from address a to the address `end`
 abbrev pub GroupAt : Image → ℕ → GroupKind → ℕ → Type 0
 GroupAt e a (PushOf list frame order) end = PushAt e a list frame end
 GroupAt e a (PopOf ending list frame order) end = PopAt e a ending list frame end
 GroupAt e a (MovesToSaved order first second) end = HalfAt e a (MoveSa first second) end
 GroupAt e a (MovesFromSaved order first second) end = HalfAt e a (MoveAs first second) end
 
--- so many items are a group, which stands in so many instructions; the places inside it aren't listed, and the one behind it is
+-- from a place on, `items` items are a group, which is written as `commits` instructions; the places inside it aren't listed, and
+-- the one after it is
 pub record GroupLaid (p : Program) (e : Image) (q : Place) (a items commits : ℕ) : Type 0 where
   pub kind : GroupKind
   pub is : IsGroup kind

@@ -10,7 +10,7 @@ use Rattle.shrink_layout.proofs.HalfLaws.{halves-append}
 use Rattle.shrink_layout.proofs.SectionLaws.{no_owners_next, none_next, owners_next, some_at, some_next}
 use Rattle.shrink_layout.proofs.pieces.add_section.Goals as goal
 
--- what holds of what was given holds also in another way
+-- if one fact follows from two, it holds of a result of which both hold
 if_ok : {X E : Type 0} (result : Result X E) (P Q R : Type 0) → (P → Q → R) → IfOk result (λ x. P) → IfOk result (λ x. Q) → IfOk result (λ x. R)
 if_ok (Ok x) P Q R f p q = f p q
 if_ok (Err e) P Q R f p q = tt

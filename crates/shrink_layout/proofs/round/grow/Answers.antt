@@ -4,7 +4,7 @@ use Rattle.std.proofs.lemmas.Bool.{and_parts, true≢false}
 use Rattle.shrink_layout.specs.declared.blocks.Blocks.{Blocks}
 use Rattle.shrink_layout.specs.Invariants.Blocks.{HaveGrownIn, IsStill, block_size, nth_piece}
 use Rattle.shrink_layout.specs.Invariants.Widths.{addresses_in}
-use Rattle.shrink_layout.specs.Layout.{holds_at}
+use Rattle.shrink_layout.specs.Layout.{form_reaches_at}
 use Rattle.shrink_layout.proofs.ChangeLaws.{index_is, placed_long}
 use Rattle.shrink_layout.proofs.LaidLaws.{are_next, have_grown, laid_others, placed_testable, were_fit}
 use Rattle.shrink_layout.proofs.RoundLaws.{length_forms}
@@ -62,7 +62,7 @@ pub grow_block-tested-requires-clause-others : goal.grow_block-tested-requires-c
 grow_block-tested-requires-clause-others c k ge lt same =
     let a = addresses_in c.args.widths.now in
     let kept = c.loop-block.invariant.grown.rest k (omega (arith, ge)) in
-    ap (holds_at a k (nth_piece c.args.pieces.now k)) kept ∙ c.requires.laid.others k (omega arith) lt same
+    ap (form_reaches_at a k (nth_piece c.args.pieces.now k)) kept ∙ c.requires.laid.others k (omega arith) lt same
 
 pub loop-block-preserved : goal.loop-block-preserved
 loop-block-preserved c =

@@ -5,8 +5,8 @@ use Rattle.shrink_layout.specs.declared.piece.Piece.TheVariants.{Fixed}
 use Rattle.shrink_layout.specs.declared.widths.Widths.{Widths}
 use Rattle.shrink_layout.specs.Invariants.Blocks.{HaveGrownIn, IsSpanned, ReachesAll, block_size, nth_piece}
 use Rattle.shrink_layout.specs.Invariants.Widths.{AreStarts, CanBeTested, IsUntouched, addresses_in, changed_before}
-use Rattle.shrink_layout.specs.Forms.{holds, near_limit, target}
-use Rattle.shrink_layout.specs.Layout.{holds_at}
+use Rattle.shrink_layout.specs.Forms.{form_reaches, near_limit, target}
+use Rattle.shrink_layout.specs.Layout.{form_reaches_at}
 use Rattle.shrink_layout.proofs.ChangeLaws.{by_long, by_next, by_top}
 use Rattle.shrink_layout.proofs.TestLaws.{IsTested, test_fits, test_grows, tested_more}
 use Rattle.shrink_layout.proofs.round.grow_block.Goals as goal
@@ -73,17 +73,17 @@ loop-k-preserved c =
         | then-changed+then-not-reaches u ↦
             let reached = sym u.reaches.ensures ∙ u.if-not-reaches.true in
             test_grows a pieces old sizes all k c.loop-k.fitted fitted' (omega (arith, now.same, c.requires.sized, in_pieces)) kept
-            (ap (λ x. holds p (slice_index sizes k) x (slice_index a (target p))) (sym at_is) ∙ reached)
+            (ap (λ x. form_reaches p (slice_index sizes k) x (slice_index a (target p))) (sym at_is) ∙ reached)
             (v.sizes-is ∙ u.sizes-is ∙ ap (set sizes k) u.longer.ensures) (v.fitted-is ∙ u.fitted-is)
         | else-changed u ↦
-            let fits : holds_at a k p (slice_index sizes k) ≡ true = elim u.else-changed.branch [
+            let fits : form_reaches_at a k p (slice_index sizes k) ≡ true = elim u.else-changed.branch [
               | else-changed-via-then-changed+else-not-reaches x ↦
-                  ap (λ y. holds p (slice_index sizes k) y (slice_index a (target p))) (sym at_is) ∙ sym x.reaches.ensures ∙ x.if-not-reaches.false
+                  ap (λ y. form_reaches p (slice_index sizes k) y (slice_index a (target p))) (sym at_is) ∙ sym x.reaches.ensures ∙ x.if-not-reaches.false
               | else-changed-via-else-changed x ↦
                   let low : v.min.result ≡ min (target p) k = omega (arith, v.min.ensures, v.target-to.ensures) in
                   let high : v.max.result ≡ max (target p) (k + 1) = omega (arith, v.max.ensures, v.target-to.ensures) in
                   let untouched : IsUntouched w p k = ap (changed_before w) (sym low) ∙ v.changed.ensures x.if-changed.false ∙ ap (changed_before w) high in
-                  ap (holds_at a k p) kept ∙ c.requires.others k from_first in_pieces untouched
+                  ap (form_reaches_at a k p) kept ∙ c.requires.others k from_first in_pieces untouched
             ] in
             test_fits a pieces old sizes all k c.loop-k.fitted fitted' kept fits (v.sizes-is ∙ u.sizes-is) (v.fitted-is ∙ u.fitted-is)
       ]

@@ -1,12 +1,11 @@
 -- The site at a place is counted at its target (`site_counted`), which is found by its number.
 use Rattle.std.proofs.Common.{◌∙◌, ◌+◌, ◌-◌, ◌++◌, ◌∷◌, [], cond, eqb, slice_index_or, slice_set, sym, ap, subst, arith}
 use Rattle.std.specs.Prelude.{option_map}
+use Rattle.psabi_sym.specs.Faults.{gather_fault}
 use Rattle.psabi_sym.specs.Inputs.{parsed}
 use Rattle.pick_check.specs.declared.saving.Saving.{Saving}
-use Rattle.block_cut.specs.Faults.{first_fault}
 use Rattle.shrink_layout.specs.Invariants.Sites.{AreSavings, site_pair}
 use Rattle.shrink_layout.proofs.SavingLaws.{count_low, site_counted, target_saving, target_within}
-use Rattle.shrink_layout.proofs.TargetLaws.{no_gather_fault}
 use Rattle.shrink_layout.proofs.savings.count_place.Goals as goal
 
 -- what stands for a saving where there is none
@@ -16,8 +15,7 @@ no_saving = record { target = record { object = 0; section = 0; offset = 0 }; ju
 pub bounds-savings-number : goal.bounds-savings-number
 bounds-savings-number c =
     let inputs = c.args.settled.now.inputs in
-    let cut = c.cut-cut.ensures.same ∙ c.planned.ensures.same in
-    let none = no_gather_fault inputs (ap first_fault (sym cut) ∙ c.objects-objects.ensures.faultless) in
+    let none = ap gather_fault (sym (c.cut.ensures.same ∙ c.planned.ensures.same)) ∙ c.recall_invariant.ensures.gathered in
     let is = sym c.site_at.ensures.value ∙ ap (option_map site_pair) c.in-Some.is in
     let number = c.piece_number_at-number.ensures in
     let few = c.requires.few in
@@ -26,8 +24,7 @@ bounds-savings-number c =
 pub count_site-requires : goal.count_site-requires
 count_site-requires c =
     let inputs = c.args.settled.now.inputs in
-    let cut = c.cut-cut.ensures.same ∙ c.planned.ensures.same in
-    let none = no_gather_fault inputs (ap first_fault (sym cut) ∙ c.objects-objects.ensures.faultless) in
+    let none = ap gather_fault (sym (c.cut.ensures.same ∙ c.planned.ensures.same)) ∙ c.recall_invariant.ensures.gathered in
     let to = c.in-Some.site.to in
     let is = sym c.site_at.ensures.value ∙ ap (option_map site_pair) c.in-Some.is in
     let number = c.piece_number_at-number.ensures in
@@ -42,8 +39,7 @@ count_site-requires c =
 pub returns-in-Some : goal.returns-in-Some
 returns-in-Some c = λ qs are.
     let inputs = c.args.settled.now.inputs in
-    let cut = c.cut-cut.ensures.same ∙ c.planned.ensures.same in
-    let none = no_gather_fault inputs (ap first_fault (sym cut) ∙ c.objects-objects.ensures.faultless) in
+    let none = ap gather_fault (sym (c.cut.ensures.same ∙ c.planned.ensures.same)) ∙ c.recall_invariant.ensures.gathered in
     let rd = c.in-Some.site.rd in
     let is = sym c.site_at.ensures.value ∙ ap (option_map site_pair) c.in-Some.is in
     let target = c.in-Some.ensures.target in

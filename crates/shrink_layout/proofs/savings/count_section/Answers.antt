@@ -26,8 +26,8 @@ count_place-requires-clause-few c =
     let l = there.0 in
     let own = same_Some c.section-own.result l (sym c.section-own.ensures ∙ ap (λ x. slice_get (all_sections (parsed x).objects) k) (c.objects.ensures.same ∙ cut) ∙ there.1) in
     let places = c.places.ensures l (ap (λ x. slice_get (all_sections (parsed x).objects) k) cut ∙ there.1) ∙ ap (λ x. code_places (parsed x) l) cut in
-    let starts = c.starts_of-places.ensures ∙ ap (λ ps. take (length ps - 1) ps) places in
-    let ps = c.starts_of-places.result.now in
+    let starts = c.item_places-places.ensures ∙ ap (λ ps. take (length ps - 1) ps) places in
+    let ps = c.item_places-places.result.now in
     let few : length ps ≤ length (code_places given l) = omega (arith, ap length starts, take_most (length (code_places given l) - 1) (code_places given l)) in
     let n = c.loop-place.place-index in
     let before = places_before given.objects k in (
@@ -40,7 +40,7 @@ pub loop-place-preserved : goal.loop-place-preserved
 loop-place-preserved c =
     let given = parsed c.args.settled.now.inputs in
     let l = c.section-own.result in
-    let ps = c.starts_of-places.result.now in
+    let ps = c.item_places-places.result.now in
     let n = c.loop-place.place-index in
     let p = c.place-item.result in
     let q : Place = record { object = c.object.result; section = c.index.result; offset = p.offset } in
@@ -63,8 +63,8 @@ returns c =
     let l = there.0 in
     let own = same_Some c.section-own.result l (sym c.section-own.ensures ∙ ap (λ x. slice_get (all_sections (parsed x).objects) k) (c.objects.ensures.same ∙ cut) ∙ there.1) in
     let places = c.places.ensures l (ap (λ x. slice_get (all_sections (parsed x).objects) k) cut ∙ there.1) ∙ ap (λ x. code_places (parsed x) l) cut in
-    let starts = c.starts_of-places.ensures ∙ ap (λ ps. take (length ps - 1) ps) places in
-    let all = take_all c.loop-place.place-index c.starts_of-places.result.now (omega (arith, c.loop-place-test.false)) ∙ starts in
+    let starts = c.item_places-places.ensures ∙ ap (λ ps. take (length ps - 1) ps) places in
+    let all = take_all c.loop-place.place-index c.item_places-places.result.now (omega (arith, c.loop-place-test.false)) ∙ starts in
     let before = places_before given.objects k in
     subst (λ qs. AreSavings given qs c.loop-place.savings)
     ((λ j. before ++ places_held (own j) (all j)) ∙ ap (λ qs. before ++ qs) (held_starts inputs none l k there.1) ∙ sym (places_next inputs none k l there.1))

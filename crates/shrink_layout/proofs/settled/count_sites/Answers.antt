@@ -1,4 +1,4 @@
--- Without slots there are none, and otherwise as many as halfwords of such.
+-- Without slots there are no such jumps and calls, and otherwise as many as halfwords of such.
 use Rattle.std.proofs.Common.{sym, ◌∙◌}
 use Rattle.shrink_layout.proofs.SiteCounts.{empty_sites, sites_counted}
 use Rattle.shrink_layout.proofs.settled.count_sites.Goals as goal

@@ -1,6 +1,7 @@
 -- A place has a site just if its item is a jump or call that takes four bytes and links no register or ra (`site_by_size`).
 use Rattle.std.proofs.Common.{◌∙◌, None, Some, cond, ltb, sym, ap}
 use Rattle.std.specs.Prelude.{◌&&◌, option_map}
+use Rattle.psabi_sym.specs.Faults.{gather_fault}
 use Rattle.psabi_sym.specs.Inputs.{parsed}
 use Rattle.block_cut.specs.Faults.{first_fault}
 use Rattle.block_cut.specs.Items.{item_at}
@@ -25,7 +26,7 @@ pub returns-then-not-is_served-clause-value : goal.returns-then-not-is_served-cl
 returns-then-not-is_served-clause-value c =
     let inputs = c.args.settled.now.inputs in
     let cut = c.cut-cut.ensures.same ∙ c.planned.ensures.same in
-    let none = no_gather_fault inputs (ap first_fault (sym cut) ∙ c.objects-objects.ensures.faultless) in
+    let none = ap gather_fault (sym cut) ∙ c.recall_invariant.ensures.gathered in
     let is = ap (λ x. item_at (parsed x) c.args.p) (sym cut) ∙ sym c.item.ensures.item ∙ c.in-Some.is in
     let site = c.in-Some-jump_of.site in
     let size = c.size.ensures ∙ ap (λ s. settled_size (parsed inputs) s c.args.p) c.requires in
@@ -37,7 +38,7 @@ pub returns : goal.returns
 returns c =
     let inputs = c.args.settled.now.inputs in
     let cut = c.cut-cut.ensures.same ∙ c.planned.ensures.same in
-    let faultless = ap first_fault (sym cut) ∙ c.objects-objects.ensures.faultless in
+    let faultless = ap first_fault (sym cut) ∙ c.recall_invariant.ensures.faultless in
     let is = ap (λ x. item_at (parsed x) c.args.p) (sym cut) ∙ sym c.item.ensures.item ∙ c.in-Some.is in
     let site = c.in-Some-jump_of.site in
     let leads = sym c.jump_of.ensures ∙ ap (option_map site_pair) c.in-Some-jump_of.is in

@@ -4,7 +4,7 @@ use Rattle.zc_base.specs.Fields.{word_bytes}
 use Rattle.zc_link.specs.Written.{copies, nop}
 use Rattle.zc_link.proofs.code.add_padding.Goals as goal
 
--- one word more
+-- one word of padding more
 added : (n m : ℕ) (text text' all : List ℕ) → n ≡ suc m → text' ≡ text ++ word_bytes nop → text ++ copies nop n ≡ all → text' ++ copies nop m ≡ all
 added n m text text' all is more before =
     ap (λ t. t ++ copies nop m) more ∙ append_assoc text (word_bytes nop) (copies nop m) ∙ sym (ap (λ k. text ++ copies nop k) is) ∙ before

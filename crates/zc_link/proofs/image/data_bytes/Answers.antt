@@ -1,6 +1,7 @@
 -- Each word lies among the bytes, and is put over them.
 use Rattle.std.proofs.Common.{◌≡◌, ℕ, ◌+◌, ◌-◌, ◌<◌, ◌≤◌, ◌++◌, List, Option, None, length, take, drop, get_or, sym, ap, ◌∙◌, arith}
 use Rattle.std.specs.List.{fold}
+use Rattle.std.specs.Option.{unwrap_or}
 use Rattle.std.proofs.lemmas.Grind.{common_steps}
 use Rattle.std.proofs.lemmas.List.{take_all}
 use Rattle.zc_base.specs.Fields.{with_word}
@@ -14,7 +15,7 @@ use Rattle.block_cut.specs.DataWords.{data_words}
 use Rattle.block_cut.specs.Faults.{first_fault}
 use Rattle.block_cut.specs.declared.data_word.DataWord.{DataWord}
 use Rattle.zc_link.specs.ImageParts.{data_value, image_data, with_data_word}
-use Rattle.zc_link.proofs.ImageData.{length-filled, word_put, word_there}
+use Rattle.zc_link.proofs.ImageData.{length-filled, value_there, word_put, word_there}
 use Rattle.zc_link.proofs.image.data_bytes.Given as given
 use Rattle.zc_link.proofs.image.data_bytes.Goals as goal
 use Rattle.zc_link.proofs.image.data_bytes.Goals.{After-data_words-word-items}
@@ -50,7 +51,7 @@ module _ (inputs : Inputs) (none : first_fault inputs ≡ None) (A : Place → O
       let long = ap length (same ∙ so_far) ∙ length-filled p A (take k (data_words p)) (data_contents p) ∙ length-data_contents p in
       omega (arith, low, within.0, within.1, long)
 
-  -- after it the words so far are one more
+  -- with one word more put over the bytes
   put_more : (v : ℕ) (more whole : List ℕ) → whole ≡ more → v ≡ data_value A (get_or ws k none_here) → more ≡ with_word bytes ((get_or ws k none_here).at - start) v
       → whole ≡ fold (with_data_word p A) (data_contents p) (take (k + 1) (data_words p))
   put_more v more whole back is put =
@@ -70,6 +71,11 @@ overflow_sub-at g c =
     let a = (goal.at.overflow_sub-at g c).After-data_words-word-items in
     above (of g a) a.cut.ensures.ready.faultless c.data_words-word-items.result.now (words_are g a) c.loop-word.word-index c.loop-word-test.true c.map-start.result.data_low (starts g a)
 
+pub target_value-requires : goal.target_value-requires
+target_value-requires g c =
+    let a = (goal.at.target_value-requires g c).After-data_words-word-items in
+    value_there (of g a) a.cut.ensures.ready.faultless (g.L.Layout.layout c.args.layout.now).address a.cut.ensures.laid.leaders c.data_words-word-items.result.now c.loop-word.word-index none_here (words_are g a) c.loop-word-test.true
+
 pub put_u32-requires : goal.put_u32-requires
 put_u32-requires g c =
     let a = (goal.at.put_u32-requires g c).After-data_words-word-items in
@@ -81,7 +87,7 @@ loop-word-preserved g c =
     let a = (goal.at.loop-word-preserved g c).After-data_words-word-items in
     let back : take c.loop-word.bytes.len (c.put_u32.new.bytes ++ drop (length c.put_u32.new.bytes) c.loop-word.bytes.items) ≡ c.put_u32.new.bytes = grind (arith, common_steps) in
     put_more (of g a) a.cut.ensures.ready.faultless (g.L.Layout.layout c.args.layout.now).address c.data_words-word-items.result.now (words_are g a) c.loop-word.word-index c.loop-word-test.true c.map-start.result.data_low (starts g a)
-    c.as_mut_slice.result.now c.loop-word.bytes.items c.as_mut_slice.ensures.value c.loop-word.invariant c.target_value.result c.put_u32.new.bytes _ back c.target_value.ensures c.put_u32.ensures
+    c.as_mut_slice.result.now c.loop-word.bytes.items c.as_mut_slice.ensures.value c.loop-word.invariant c.target_value.result c.put_u32.new.bytes _ back (sym (ap (λ o. unwrap_or o 0) c.target_value.ensures)) c.put_u32.ensures
 
 pub returns : goal.returns
 returns g c =

@@ -19,7 +19,7 @@ returns-clause-link c =
     let flags : c.plain_flags.result ≡ plain_flags (parsed inputs) = c.plain_flags.ensures.value ∙ ap (λ (x : Inputs). plain_flags (parsed x)) (c.objects.ensures.same ∙ same) in
     let laid = subst₂ (λ (x : Inputs) (bytes : List ℕ). IsImageOf (plain_layout x) c.plain_flags.result (text_end (plain_layout x)) bytes) same (sym c.in_ok-elf.ensures.bytes) c.in_ok-parts.ensures.image in
     let image = subst (λ f. IsImageOf (plain_layout inputs) f (text_end (plain_layout inputs)) elf) flags laid in
-    let counts = c.counts-counts.ensures ∙ ap (λ (x : Inputs). plain_counts (parsed x)) same in
+    let counts = c.counts-image_counts.ensures ∙ ap (λ (x : Inputs). plain_counts (parsed x)) same in
     record {
       image = subst (λ n. IsImageOf (plain_layout inputs) (plain_flags (parsed inputs)) n elf) (plain_end_is inputs ready) image;
       savings = search rules;

@@ -15,7 +15,7 @@ use Rattle.zc_link.proofs.plain.plain_flags.Goals as goal
 abbrev is_compressed : ObjectParts → Bool
 is_compressed object = has_rvc object.flags
 
--- so it is by the flags of its file
+-- an object is compressed by the flags of its file
 by_file : (files : List (List ℕ)) (i : ℕ) → i < length files → is_compressed (get_or (map object_parts files) i (object_parts [])) ≡ has_rvc (file_flags (get_or files i []))
 unfolding object_parts
 by_file files i within = ap is_compressed (get_or-map object_parts files i [] (object_parts []) within)

@@ -32,10 +32,10 @@ returns-clause-image c =
 
 pub returns-clause-plain : goal.returns-clause-plain
 returns-clause-plain c =
-    c.counts-plain.ensures ∙ ap (λ (x : Inputs). plain_counts (parsed x)) (c.cut.ensures.same ∙ c.planned.ensures.same ∙ c.in_ok-settled.ensures.same)
+    c.counts-plain_counts.ensures ∙ ap (λ (x : Inputs). plain_counts (parsed x)) (c.cut.ensures.same ∙ c.planned.ensures.same ∙ c.in_ok-settled.ensures.same)
 
-pub returns-clause-zc : goal.returns-clause-zc
-returns-clause-zc c =
+pub returns-clause-counts : goal.returns-clause-counts
+returns-clause-counts c =
     let same = c.in_ok-settled.ensures.same in
     let slots = c.in_ok-settled.ensures.slots in
-    c.counts-zc.ensures ∙ (λ i. settled_counts (parsed (same i)) (slots i))
+    c.counts-image_counts.ensures ∙ (λ i. settled_counts (parsed (same i)) (slots i))

@@ -22,7 +22,7 @@ returns-clause-link c =
     let known : IsAccepted (savings_of (parsed inputs)) certificate = subst (λ (s : List Saving). IsAccepted s certificate) savings accepted in
     let ready = c.in_ok-image.ensures.ready in
     let same = c.deref.ensures.value in
-    let parts : IsZcLink inputs (record { elf = elf; savings = own; certificate = certificate; plain = c.in_ok-image.image.plain; zc = c.in_ok-image.image.zc }) =
+    let parts : IsZcLink inputs (record { elf = elf; savings = own; certificate = certificate; plain = c.in_ok-image.image.plain_counts; zc = c.in_ok-image.image.image_counts }) =
     record {
       table = record { savings = savings; is_picked = c.in_ok-table.ensures.is_picked; accepted = accepted; best = c.in_ok-table.ensures.best };
       layout = subst (λ (s : List Saving). IsShortest inputs (slot_places s certificate.slots) certificate.net) (sym savings)
@@ -30,7 +30,7 @@ returns-clause-link c =
       image = subst (λ (s : List Saving). IsImageOf (zc_layout inputs (slot_places s certificate.slots)) 1 (settled_end (parsed inputs) (slot_places s certificate.slots)) elf)
           same c.in_ok-image.ensures.image;
       plain = c.in_ok-image.ensures.plain;
-      zc = c.in_ok-image.ensures.zc ∙ ap (λ (s : List Saving). settled_counts (parsed inputs) (slot_places s certificate.slots)) same;
+      zc = c.in_ok-image.ensures.counts ∙ ap (λ (s : List Saving). settled_counts (parsed inputs) (slot_places s certificate.slots)) same;
     } in
     let all = c.joined.ensures in
     subst (λ (l : Link). IsZcLink inputs l)

@@ -25,7 +25,7 @@ returns-clause-some c =
     let own : c.section.result ≡ l = cc (there.1, c.section.ensures, c.objects.ensures.same) in
     let places = c.places-places.ensures l there.1 in
     let code = some_code inputs none k l there.1 (ap (λ ps. eqb (length ps) 0) (sym places) ∙ sym c.is_empty.ensures ∙ c.if-is_empty.false) in
-    let starts = c.starts_of.ensures ∙ ap (λ ps. take (length ps - 1) ps) places in
+    let starts = c.item_places.ensures ∙ ap (λ ps. take (length ps - 1) ps) places in
     record {
       at = there.1 ∙ ap Some (sym own);
       code = ap (λ m. is_code_section m.section) own ∙ code;
@@ -33,7 +33,7 @@ returns-clause-some c =
       are = (λ i. places_held (own i) (starts i)) ∙ held_all inputs none k l there.1 code ∙ ap places_of (sym own);
       few = omega (
         arith,
-        ap length c.starts_of.ensures,
+        ap length c.item_places.ensures,
         take_most (length c.places-places.result.now - 1) c.places-places.result.now,
         ap length places,
         places_count inputs none k l there.1,

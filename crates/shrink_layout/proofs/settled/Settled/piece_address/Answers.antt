@@ -1,6 +1,7 @@
 -- The address of a piece is its block's and the bytes from there on, and isn't far from where the text begins.
-use Rattle.std.proofs.Common.{◌≡◌, ◌∙◌, ◌+◌, ◌*◌, ◌/◌, ◌≤◌, List, Option, length, slice_index, take, ap, arith}
+use Rattle.std.proofs.Common.{◌≡◌, ◌∙◌, ◌+◌, ◌*◌, ◌/◌, ◌≤◌, List, Option, length, slice_index, take, ap, subst, arith}
 use Rattle.std.specs.List.{sum}
+use Rattle.zc_base.specs.MemMap.{IsMap}
 use Rattle.zc_base.specs.declared.place.Place.{Place}
 use Rattle.psabi_sym.specs.Inputs.{Inputs, parsed}
 use Rattle.shrink_layout.specs.Invariants.Blocks.{block_size}
@@ -55,11 +56,10 @@ pub overflow_add-result : goal.overflow_add-result
 overflow_add-result c =
     let a = (goal.at.overflow_add-result c).After-in_block in
     let own = c.self.inside in
-    let map = c.map-map.ensures.is_map in
+    let map = subst IsMap (ap (λ (x : Inputs). x.map) c.cut.ensures.same) c.recall_invariant.ensures.is_map in
     omega (
       arith,
       address a,
-      ap (λ m. m.text) c.map-map.ensures.value ∙ ap (λ (x : Inputs). x.map.text) (c.objects.ensures.same ∙ c.cut.ensures.same),
       address_few own.planned c.self.invariant.faultless own.slots.items c.self.invariant.targets.few c.args.k (most a),
       map.code,
       map.data_room,

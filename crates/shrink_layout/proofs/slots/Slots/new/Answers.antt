@@ -20,7 +20,7 @@ overflow_add-count c =
       pieces_few inputs c.requires.numbered.faultless [],
     )
 
--- so there is an entry for each piece, and for the end
+-- there is an entry for each piece, and one for the end
 all : (c : After-min-middle) → c.count-count.result + 1 ≡ length (pieces_of (parsed c.args.of.now.planned.now) []) + 1
 all c = omega (arith, c.count-count.ensures, ap length c.requires.first, widths_long (parsed c.args.of.now.planned.now) [])
 

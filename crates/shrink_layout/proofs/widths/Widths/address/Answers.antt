@@ -8,7 +8,7 @@ use Rattle.shrink_layout.specs.Invariants.Widths.{AreStarts, addresses_in}
 use Rattle.shrink_layout.proofs.ChangeLaws.{block_start, by_sum, by_top, index_is}
 use Rattle.shrink_layout.proofs.widths.Widths.address.Goals as goal
 
--- the address of the piece is so many bytes after its block's
+-- the address of the piece is its block's address and the bytes of the block's pieces before it
 piece_at : (w : Widths) (k start inside : ℕ) → AreStarts (addresses_in w) (length w.sums) w.starts.items → k ≤ length w.sums → start ≡ slice_index w.starts.items (k / block_size)
     → sum (take (k / block_size * block_size) w.sums) + inside ≡ sum (take k w.sums) → start + inside ≡ slice_index (addresses_in w) k
 piece_at w k start inside starts within read more = omega (

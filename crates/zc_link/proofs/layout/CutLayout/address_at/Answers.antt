@@ -1,5 +1,5 @@
 -- The section with the number is code, which has a place with the index: so that place's address is kept there.
-use Rattle.std.proofs.Common.{◌≡◌, ℕ, ◌<◌, List, Some, true, length, get_or, slice_get, sym, ap, ◌∙◌}
+use Rattle.std.proofs.Common.{◌≡◌, ℕ, ◌<◌, List, Some, true, length, get_or, slice_get, refl, sym, ap, ◌∙◌}
 use Rattle.std.specs.Option.{is_some, unwrap_or}
 use Rattle.std.proofs.lemmas.Option.{get_or_from_slice_get, slice_get_within}
 use Rattle.zc_base.specs.declared.place.Place.{Place}
@@ -42,20 +42,20 @@ module _ (inputs cut : Inputs) (same : cut ≡ inputs) (ready : IsReady inputs) 
 
 pub places-requires : goal.places-requires
 places-requires c =
-    section_below c.args.self.now c.cut-cut.result.now c.cut-cut.ensures.same c.cut-cut.ensures.ready c.requires.0 c.args.number c.requires.1 c.requires.2
+    section_below c.args.self.now c.args.self.now refl c.recall_laid_out.ensures.ready c.requires.0 c.args.number c.requires.1 c.requires.2
 
 pub bounds-places-number : goal.bounds-places-number
 bounds-places-number c =
-    index_below c.args.self.now c.cut-cut.result.now c.cut-cut.ensures.same c.cut-cut.ensures.ready c.requires.0 c.args.number c.requires.1 c.requires.2
+    index_below c.args.self.now c.args.self.now refl c.recall_laid_out.ensures.ready c.requires.0 c.args.number c.requires.1 c.requires.2
     c.places.result.now c.places.ensures
 
 pub bounds-places-number-2 : goal.bounds-places-number-2
 bounds-places-number-2 c =
-    index_below c.args.self.now c.cut-cut.result.now c.cut-cut.ensures.same c.cut-cut.ensures.ready c.requires.0 c.args.number c.requires.1 c.requires.2
+    index_below c.args.self.now c.args.self.now refl c.recall_laid_out.ensures.ready c.requires.0 c.args.number c.requires.1 c.requires.2
     c.places.result.now c.places.ensures
 
 pub returns : goal.returns
 returns c = λ q a known is.
     let target = sym (plain_listed (parsed c.args.self.now) q) ∙ ap is_some known in
-    address_is c.args.self.now c.cut-cut.result.now c.cut-cut.ensures.same c.cut-cut.ensures.ready q c.args.number target is
+    address_is c.args.self.now c.args.self.now refl c.recall_laid_out.ensures.ready q c.args.number target is
     c.places.result.now c.places.ensures c.index-places-number.result a known

@@ -8,4 +8,4 @@ use Rattle.zc_link.proofs.layout.CutLayout.half_at.Goals as goal
 pub returns : goal.returns
 returns c = λ q item is number two.
     let own = item_unit (parsed c.args.self.now) q item is in
-    (refl, copied_alone c.args.self.now c.cut-cut.ensures.ready q item own two)
+    (refl, copied_alone c.args.self.now c.recall_laid_out.ensures.ready q item own two)

@@ -7,4 +7,4 @@ use Rattle.zc_link.proofs.layout.SettledLayout.cut.Goals as goal
 pub returns-clause-laid : goal.returns-clause-laid
 returns-clause-laid c =
     let ready = subst IsReady (c.cut.ensures.same ∙ c.planned.ensures.same) c.cut-2.ensures.ready in
-    settled_is_laid_out c.args.self.now.inputs ready.faultless ready.is_map c.args.self.now.slots c.slots-slots.ensures.targets.few
+    settled_is_laid_out c.args.self.now.inputs ready.faultless ready.is_map c.args.self.now.slots c.recall_invariant.ensures.targets.few

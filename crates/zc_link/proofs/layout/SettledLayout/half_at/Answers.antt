@@ -10,7 +10,7 @@ pub returns : goal.returns
 returns c = λ q item is number two.
     let inputs = c.args.self.now.inputs in
     let slots = c.args.self.now.slots in
-    let cut = c.cut-cut.ensures in
+    let cut = c.recall_laid_out.ensures in
     let at = unit_address (zc_layout inputs slots) cut.laid q (OneItem item) is in (
       refl,
       c.half_at.type_inv,

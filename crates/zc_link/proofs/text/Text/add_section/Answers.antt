@@ -56,7 +56,7 @@ module _ (g : given.Over) (c : Else-is_empty g) where
       (places_are L c.args.k c.requires.section c.cut-cut.result.now c.cut-cut.ensures.same c.places.result.now c.places.ensures)
       (eqb-false (length c.places.result.now) 0 (sym c.is_empty.ensures ∙ c.if-is_empty.false))
 
-  -- it begins there, which isn't before the text's end
+  -- the section begins at an address that isn't before the text's end
   module _
       (begin : ℕ) (found : GivesAddress L c.args.k 0 begin) where
     first : L.address (place_of here 0) ≡ Some begin

@@ -19,7 +19,7 @@ use Rattle.zc_link.proofs.LaidLaws.{unit_address}
 use Rattle.zc_link.proofs.PlaceNumbers.{starts_by}
 use Rattle.zc_link.proofs.Standing.{gathered}
 use Rattle.zc_link.proofs.Walk.{GivesAddress}
-use Rattle.zc_link.proofs.layout.CutLayout.size_at.Goals as goal
+use Rattle.zc_link.proofs.layout.CutLayout.written_size.Goals as goal
 
 module _ (inputs : Inputs) (ready : IsReady inputs) (laid : IsLaidOut (plain_layout inputs)) (number : PlaceNumber) (q : Place) (item : Item)
     (is : item_at (parsed inputs) q ≡ Some item) (has : IsPlaceNumber (parsed inputs).objects q number) where
@@ -55,23 +55,23 @@ item_of p q unit is = by (item_at p q) is
 pub overflow_add-next : goal.overflow_add-next
 overflow_add-next c =
     let inputs = c.args.self.now in
-    let ready = c.cut-cut.ensures.ready in
+    let ready = c.recall_laid_out.ensures.ready in
     let q = c.requires.0 in
     let item = start_item (parsed inputs) q c.requires.1 in
     omega (
       arith,
-      alone_few (plain_layout inputs) (gathered inputs ready.faultless) ready c.cut-cut.ensures.laid c.args.number c.requires.2.section.bytes q item.0
-          (starts inputs ready c.cut-cut.ensures.laid c.args.number q item.0 item.1 c.requires.2),
+      alone_few (plain_layout inputs) (gathered inputs ready.faultless) ready c.recall_laid_out.ensures.laid c.args.number c.requires.2.section.bytes q item.0
+          (starts inputs ready c.recall_laid_out.ensures.laid c.args.number q item.0 item.1 c.requires.2),
     )
 
 pub address_at-requires : goal.address_at-requires
 address_at-requires c =
     let inputs = c.args.self.now in
-    let ready = c.cut-cut.ensures.ready in
+    let ready = c.recall_laid_out.ensures.ready in
     let q = c.requires.0 in
     let item = start_item (parsed inputs) q c.requires.1 in
-    alone_has (plain_layout inputs) (gathered inputs ready.faultless) ready c.cut-cut.ensures.laid c.args.number c.requires.2.section.bytes q item.0
-    (starts inputs ready c.cut-cut.ensures.laid c.args.number q item.0 item.1 c.requires.2)
+    alone_has (plain_layout inputs) (gathered inputs ready.faultless) ready c.recall_laid_out.ensures.laid c.args.number c.requires.2.section.bytes q item.0
+    (starts inputs ready c.recall_laid_out.ensures.laid c.args.number q item.0 item.1 c.requires.2)
 
 pub address_at-requires-2 : goal.address_at-requires-2
 address_at-requires-2 c =
@@ -86,7 +86,7 @@ overflow_sub-result c =
     let item = start_item (parsed inputs) q c.requires.1 in
     omega (
       arith,
-      next_is inputs c.cut-cut.ensures.ready c.cut-cut.ensures.laid c.args.number q item.0 item.1 c.requires.2 c.address_at.result c.address_at-2.result
+      next_is inputs c.recall_laid_out.ensures.ready c.recall_laid_out.ensures.laid c.args.number q item.0 item.1 c.requires.2 c.address_at.result c.address_at-2.result
           c.address_at.ensures c.address_at-2.ensures,
     )
 
@@ -96,6 +96,6 @@ returns c = λ q unit is has.
     let item = item_of (parsed inputs) q unit is in
     omega (
       arith,
-      next_is inputs c.cut-cut.ensures.ready c.cut-cut.ensures.laid c.args.number q item.0 item.1 has c.address_at.result c.address_at-2.result
+      next_is inputs c.recall_laid_out.ensures.ready c.recall_laid_out.ensures.laid c.args.number q item.0 item.1 has c.address_at.result c.address_at-2.result
           c.address_at.ensures c.address_at-2.ensures,
     )

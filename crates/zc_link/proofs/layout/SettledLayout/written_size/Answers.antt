@@ -13,7 +13,7 @@ use Rattle.shrink_layout.proofs.PlaceAddressLaws.{size_there}
 use Rattle.zc_link.specs.Pace.{bytes_between}
 use Rattle.zc_link.specs.TextLayout.{behind, size_in, zc_layout}
 use Rattle.zc_link.proofs.Standing.{gathered}
-use Rattle.zc_link.proofs.layout.SettledLayout.size_at.Goals as goal
+use Rattle.zc_link.proofs.layout.SettledLayout.written_size.Goals as goal
 
 size_is :
     (inputs : Inputs) → gather_fault inputs ≡ None → (slots : List (Option Place)) (q : Place) (u : CodeUnit) → unit_at (parsed inputs) slots q ≡ Some u
@@ -32,4 +32,4 @@ pub returns : goal.returns
 returns c = λ q unit is has.
     let inputs = c.args.self.now.inputs in
     let slots = c.args.self.now.slots in
-    c.size_at.ensures q (size_in (zc_layout inputs slots) q) (size_is inputs (gathered inputs c.cut-cut.ensures.ready.faultless) slots q unit is) has
+    c.size_at.ensures q (size_in (zc_layout inputs slots) q) (size_is inputs (gathered inputs c.recall_laid_out.ensures.ready.faultless) slots q unit is) has
