@@ -115,7 +115,7 @@ module _ (s : Shape) (command : Text) (options : List OptionSyntax) (words : Lis
   given_now : (name : Text) (given : Given) (vs : List Text) → lookup name given ≡ Some vs → is_given name (rows_for given) ≡ true
   given_now name given vs is = is_given-given name given ∙ ap is_some is
 
-  -- one or more words of one name
+  -- a positional argument of one or more words
   pub several_found : (name : Text) (more : List Rule) → Leaf s options (name ∷ []) more → SeveralFits s.rules name → length words ≤ usize_max
       → (positional : List Text) → spelled_words (form (several name ∷ [])) words ≡ Some (Words values positional)
       → (given : Given) × Finds s options words values given × (lookup name given ≡ Some positional)
@@ -137,7 +137,7 @@ module _ (s : Shape) (command : Text) (options : List OptionSyntax) (words : Lis
         new,
       )
 
-  -- one word
+  -- a positional argument of one word
   pub one_found : (name : Text) (more : List Rule) → Leaf s options (name ∷ []) more → SingleFits s.rules 1 name
       → (positional : List Text) → spelled_words (form (one name ∷ [])) words ≡ Some (Words values positional)
       → (given : Given) × (word : Text) × Finds s options words values given × (lookup name given ≡ Some (word ∷ [])) × (positional ≡ word ∷ [])

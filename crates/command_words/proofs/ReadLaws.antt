@@ -33,7 +33,7 @@ unfolding read_by_clap
 refuses words e (inl memory) other = absurd (other memory)
 refuses words e (inr among) other = among_some e (fault_of program_app words) (subcommand_of program_app words) among
 
--- so with an error for another cause than memory nothing is read
+-- with an error of another cause than memory nothing is read
 pub err_reads_none : (app : App) (words : List Text) (e : Error) → app ≡ program_app
     → (is_simple_and_free app ≡ true → FailsBy {T = ArgMatches} (fault_of app words) (Err e)) → (kind_of e ≡ OutOfMemory → ⊥)
     → read_by_clap program_app words ≡ None

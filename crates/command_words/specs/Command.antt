@@ -1,4 +1,4 @@
--- The command that the words of the command line spell, by clap's own definition of how such a command reads words.
+-- The command that the words of the command line are, by clap's own definition of how such a command reads words.
 use Rattle.std.specs.Prelude.{ℕ, ⊤, ◌-◌, ◌^◌, if◌then◌else◌, List, [], ◌∷◌, ◌++◌, map, find, Option, Some, None, String, unwrap_or}
 use Rattle.std.specs.Option.{option_and_then, option_copied, option_map}
 use Rattle.std.specs.Str.{bytes_eq}
@@ -13,7 +13,10 @@ use Rattle.command_words.specs.declared.command_line.TheConstants.{MOST_FUNCTION
 use Rattle.command_words.specs.declared.command_line.CommandLine.{CommandLine}
 use Rattle.command_words.specs.declared.command_line.CommandLine.TheVariants as line
 use Rattle.command_words.specs.declared.command_line.MakeArgs.{MakeArgs}
+use Rattle.command_words.specs.declared.command_line.PlainArgs.{PlainArgs}
 use Rattle.command_words.specs.declared.command_line.RunArgs.{RunArgs}
+use Rattle.command_words.specs.declared.command_line.TraceArgs.{TraceArgs}
+use Rattle.command_words.specs.declared.command_line.ZcArgs.{ZcArgs}
 use Rattle.command_words.specs.MapWords.{map_given}
 use Rattle.command_words.specs.Number.{number_up_to}
 use Rattle.command_words.specs.Table.{OptionSyntax, PositionalSyntax, Syntax, check_syntax, make_syntax, plain_syntax, program_app, run_syntax, trace_syntax, zc_syntax}
@@ -124,7 +127,7 @@ meaning_named name = find (λ m. bytes_eq name m.form.name) meanings
 abbrev pub meaning : Text → List Row → Option Command
 meaning name rows = option_and_then (λ m. m.command (found_in m.form rows)) (meaning_named name)
 
--- the command that words spell
+-- the command that words are, if they are one
 abbrev pub command_of : List Text → Option Command
 command_of words = option_and_then (λ found. meaning found.0 found.1) (read_by_clap program_app words)
 
@@ -134,28 +137,40 @@ command_of words = option_and_then (λ found. meaning found.0 found.1) (read_by_
 abbrev pub texts : {A : Type 0} → List (String A) → List Text
 texts words = map string_bytes words
 
--- the words of `run`
+-- the command that the words of `plain` mean
+abbrev pub plain_meant : PlainArgs → Command
+plain_meant args = Plain args.map args.out.now (texts args.objects.items)
+
+-- the command that the words of `zc` mean
+abbrev pub zc_meant : ZcArgs → Command
+zc_meant args = Zc args.map args.out.now args.cert.now (texts args.objects.items)
+
+-- the command that the words of `run` mean
 abbrev pub run_meant : RunArgs → Command
 run_meant args = Run args.map (option_copied args.plan) args.steps args.image.now
 
--- the words of `make`
+-- the command that the words of `trace` mean
+abbrev pub trace_meant : TraceArgs → Command
+trace_meant args = Trace args.map args.steps (texts args.objects.items)
+
+-- the command that the words of `make` mean
 abbrev pub make_meant : MakeArgs → Command
 make_meant args = Make (option_copied args.prefix) args.number args.functions
 
 -- a command
 abbrev pub meant_command : CommandLine → Command
-meant_command (line.Plain memory out objects) = Plain memory out.now (texts objects.items)
-meant_command (line.Zc memory out cert objects) = Zc memory out.now cert.now (texts objects.items)
+meant_command (line.Plain args) = plain_meant args
+meant_command (line.Zc args) = zc_meant args
 meant_command (line.Run args) = run_meant args
-meant_command (line.Trace memory steps objects) = Trace memory steps (texts objects.items)
+meant_command (line.Trace args) = trace_meant args
 meant_command (line.Check cert) = Check cert.now
 meant_command (line.Make args) = make_meant args
 
 -- a command's map, if it has one, is one that a link may be made for
 abbrev pub HasMap : CommandLine → Type 0
-HasMap (line.Plain memory out objects) = IsMap memory
-HasMap (line.Zc memory out cert objects) = IsMap memory
+HasMap (line.Plain args) = IsMap args.map
+HasMap (line.Zc args) = IsMap args.map
 HasMap (line.Run args) = IsMap args.map
-HasMap (line.Trace memory steps objects) = IsMap memory
+HasMap (line.Trace args) = IsMap args.map
 HasMap (line.Check cert) = ⊤
 HasMap (line.Make args) = ⊤

@@ -40,7 +40,7 @@ spelled_from form values (option ∷ value ∷ words) =
 abbrev pub has_required : Syntax → List (Option Text) → Bool
 has_required form values = list_all (λ (option, value). not option.required || is_some value) (zip form.options values)
 
--- there are as many positional words as the command has, or more if there may be several of one
+-- there are as many positional words as the command has, or more if one of them may come several times
 abbrev pub takes_words : List PositionalSyntax → ℕ → Bool
 takes_words positionals count =
     if list_any (λ positional. positional.several) positionals then nat_le (length positionals) count
@@ -50,7 +50,7 @@ takes_words positionals count =
 abbrev pub has_no_option : List Text → Bool
 has_no_option words = list_all (λ word. not (begins_with_dash word)) words
 
--- no option is missing, and the positional words are as many as they should be, and none of them is an option
+-- no option is missing, the number of positional words is right, and none of them is an option
 unfoldable pub is_complete : Syntax → Spelled → Bool
 is_complete form (Words values positional) =
     has_required form values && takes_words form.positionals (length positional) && has_no_option positional

@@ -33,11 +33,11 @@ required name = record { name = name; required = true }
 abbrev pub optional : Text → OptionSyntax
 optional name = record { name = name; required = false }
 
--- one positional word
+-- a positional argument of one word
 abbrev pub one : Text → PositionalSyntax
 one name = record { name = name; several = false }
 
--- one or more positional words
+-- a positional argument of one word or more
 abbrev pub several : Text → PositionalSyntax
 several name = record { name = name; several = true }
 

@@ -1,4 +1,4 @@
-// A command with its memory map, its files and its numbers, as words spell it.
+// A command with its memory map, its files and its numbers, as the words say.
 
 use zc_base::mem_map::MemMap;
 
@@ -11,8 +11,26 @@ pub const USUAL_STEPS: u64 = 10_000_000;
 /// The most functions that a word may ask for: as many as `load_maker` makes at most.
 pub const MOST_FUNCTIONS: u64 = 1_600;
 
-/// What `run` runs: an image that lies in the map, and the plan of its interrupts if there is one, by their
-/// names, for at most so many commits.
+/// What `plain` links: the objects, at least one, to an image of the map under the name `out`.
+#[derive(Drop)]
+pub struct PlainArgs<'a> {
+    pub map: MemMap,
+    pub out: &'a str,
+    pub objects: Vec<String>,
+}
+
+/// What `zc` links: the objects, at least one, to an image of the map under the name `out`, with the certificate of
+/// its table under `cert`. The two names differ.
+#[derive(Drop)]
+pub struct ZcArgs<'a> {
+    pub map: MemMap,
+    pub out: &'a str,
+    pub cert: &'a str,
+    pub objects: Vec<String>,
+}
+
+/// What `run` runs: an image that lies in the map, and the plan of its interrupts if there is one, by their names, for
+/// at most `steps` commits.
 #[derive(Clone, Copy)]
 pub struct RunArgs<'a> {
     pub map: MemMap,
@@ -21,8 +39,16 @@ pub struct RunArgs<'a> {
     pub image: &'a str,
 }
 
-/// What `make` makes: objects with so many functions, the same for the same number. Their files' names
-/// begin with the prefix; without one they aren't put.
+/// What `trace` runs: the objects, at least one, with data and stack in the map, for at most `steps` steps.
+#[derive(Drop)]
+pub struct TraceArgs {
+    pub map: MemMap,
+    pub steps: u64,
+    pub objects: Vec<String>,
+}
+
+/// What `make` makes: objects with `functions` functions, the same for the same number. Their files' names begin with
+/// the prefix; without one they aren't put.
 #[derive(Clone, Copy)]
 pub struct MakeArgs<'a> {
     pub prefix: Option<&'a str>,
@@ -30,32 +56,13 @@ pub struct MakeArgs<'a> {
     pub functions: u32,
 }
 
-/// A command, with the names of its files. `map` is where the program's memory lies, and `steps` how many
-/// steps the machine may make.
+/// A command, with the names of its files.
 #[derive(Drop)]
 pub enum CommandLine<'a> {
-    /// At least one object.
-    Plain {
-        map: MemMap,
-        out: &'a str,
-        objects: Vec<String>,
-    },
-    /// `out` and `cert` differ, and there is at least one object.
-    Zc {
-        map: MemMap,
-        out: &'a str,
-        cert: &'a str,
-        objects: Vec<String>,
-    },
+    Plain(PlainArgs<'a>),
+    Zc(ZcArgs<'a>),
     Run(RunArgs<'a>),
-    /// At least one object.
-    Trace {
-        map: MemMap,
-        steps: u64,
-        objects: Vec<String>,
-    },
-    Check {
-        cert: &'a str,
-    },
+    Trace(TraceArgs),
+    Check { cert: &'a str },
     Make(MakeArgs<'a>),
 }

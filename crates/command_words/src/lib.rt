@@ -1,4 +1,4 @@
-//! The words of the command line, read with `clap`: the command that they spell, if they spell one.
+//! The words of the command line, read with `clap`: the command that they are, if they are one.
 #![tactic(auto)]
 
 mod app;

@@ -8,7 +8,7 @@ ghost use Rattle.command_words.specs.Number.{is_number as spells_number, number_
 /// The most digits of a number.
 pub const MOST_DIGITS: usize = 20;
 
-/// The number that a word spells, if it is at most `most`. Leading zeros count as digits.
+/// The number that a word is, if it is at most `most`. Leading zeros count as digits.
 pub fn number_in(word: &str, most: u64) -> Option<u64>
     ensures value { result ≡ number_up_to most word.now }
     ensures below { IfSome result (λ number. number ≤ most) }

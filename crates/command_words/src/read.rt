@@ -1,4 +1,4 @@
-// The command that words spell.
+// The command that words are.
 
 ghost use Rattle.std.specs.Prelude.{◌≡◌, IfOk, IfSome, [], codes, map, option_map, unwrap_or};
 ghost use Rattle.std.specs.Option.{option_and_then, option_copied};
@@ -13,7 +13,8 @@ ghost use Rattle.zc_base.specs.MemMap.{IsMap};
 
 use crate::app::program_app;
 use crate::command_line::{
-    CommandLine, MOST_FUNCTIONS, MOST_STEPS, MakeArgs, RunArgs, USUAL_STEPS,
+    CommandLine, MOST_FUNCTIONS, MOST_STEPS, MakeArgs, PlainArgs, RunArgs, TraceArgs, USUAL_STEPS,
+    ZcArgs,
 };
 use crate::number::number_in;
 use clap::ArgMatches;
@@ -22,8 +23,8 @@ use std::alloc::{AllocError, Global};
 use text_lines::hex::read_hex_word;
 use zc_base::mem_map::MemMap;
 
-/// The command that the words spell, if they spell one. The words are those after the program's own name. Memory
-/// may run out before it is known whether they spell one.
+/// The command that the words are, if they are one. The words are those after the program's own name. Memory may run
+/// out before it is known whether they are a command.
 #[tactic(auto, using(crate::proofs::PlainLaws::read_as_plain))]
 pub fn read(alloc: Global, words: &[String]) -> Result<Option<CommandLine<'_>>, AllocError>
     ensures spells { IfOk result (λ c. option_map meant_command c ≡ command_of (texts words.now)) }
@@ -96,7 +97,7 @@ fn plain<'a>(alloc: Global, found: &ArgMatches<'a>) -> Result<Option<CommandLine
         return Ok(None);
     };
     let objects = object_names(alloc, found)?;
-    Ok(Some(CommandLine::Plain { map, out, objects }))
+    Ok(Some(CommandLine::Plain(PlainArgs { map, out, objects })))
 }
 
 // `zc`, unless the two files that it writes are one.
@@ -118,12 +119,12 @@ fn zc<'a>(alloc: Global, found: &ArgMatches<'a>) -> Result<Option<CommandLine<'a
         return Ok(None);
     }
     let objects = object_names(alloc, found)?;
-    Ok(Some(CommandLine::Zc {
+    Ok(Some(CommandLine::Zc(ZcArgs {
         map,
         out,
         cert,
         objects,
-    }))
+    })))
 }
 
 fn run<'a>(found: &ArgMatches<'a>) -> Option<CommandLine<'a>>
@@ -153,11 +154,11 @@ fn trace<'a>(alloc: Global, found: &ArgMatches<'a>) -> Result<Option<CommandLine
         return Ok(None);
     };
     let objects = object_names(alloc, found)?;
-    Ok(Some(CommandLine::Trace {
+    Ok(Some(CommandLine::Trace(TraceArgs {
         map,
         steps,
         objects,
-    }))
+    })))
 }
 
 fn check<'a>(found: &ArgMatches<'a>) -> Option<CommandLine<'a>>

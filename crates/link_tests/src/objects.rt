@@ -99,7 +99,7 @@ fn put_reloc(file: &mut [u8], numbers: &[i64]) -> Result<(), Fail> {
     write_word(file, at + 8, addend)
 }
 
-// Adds so many bytes of a number, the low one first.
+// Adds `count` bytes of a number, the low one first.
 fn add_number(file: &mut Vec<u8>, number: u32, count: usize) -> Result<(), AllocError> {
     let mut rest = number;
     for _ in 0..count {

@@ -28,7 +28,7 @@ handed_on r P last is given =
 -- ---- what the two links of objects are, once their program has exited
 
 module _ (inputs : Inputs) (plain zc : Link) (links : AreLinks inputs plain zc) where
-  -- they are links of it
+  -- both links of the objects
   abbrev pub both : BothLinks inputs
   both = record { plain = plain; zc = zc; is_plain = links.is_plain; is_zc = links.is_zc }
 
@@ -45,7 +45,7 @@ module _ (inputs : Inputs) (plain zc : Link) (links : AreLinks inputs plain zc) 
   pub zc_faultless : image_fault zc.elf standard_map ≡ None
   zc_faultless = image_faultless zc.elf standard_map zc_kept.image zc_kept.read
 
-  -- and exit under each plan of bytes
+  -- both images exit under each plan of bytes
   module _ (count : ℕ) (exit : Exit) (traced : IsTraced inputs count exit) (plan : List Entry) (is_plan : IsPlan plan) where
     pub plain_exits : EventuallyExits plain.elf plan
     plain_exits = eventually_exits links.files plain.elf plain_kept count exit (subst (λ i. IsTraced i count exit) links.are traced) plan is_plan

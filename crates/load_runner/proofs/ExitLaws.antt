@@ -41,7 +41,7 @@ use Rattle.load_runner.specs.Runs.{EventuallyExits, IsTraced, image_run, standar
 
 -- ---- refusals
 
--- a fault that stands between objects is their first, so objects without a fault are refused for want of memory alone
+-- a fault between objects is their first one, so objects without a fault are refused only when memory runs out
 pub none_refused : (inputs : Inputs) (fault : LinkFault) → first_fault inputs ≡ None → IsRefusal (gather_fault inputs) fault → IsRefusal None fault
 unfolding first_fault
 none_refused inputs (Object index fault) none is =
@@ -56,7 +56,7 @@ module _ (elf : List ℕ) (map : MemMap) (image : Image) where
   abbrev given : Image
   given = record { entry = entry_address elf; segments = segments_of elf; address = listed_address (place_list elf); map = map }
 
-  -- it has no fault
+  -- the image has no fault
   pub image_faultless : image_in elf map ≡ Some image → image_fault elf map ≡ None
   unfolding image_in
   image_faultless read = by (image_fault elf map) refl read
@@ -65,7 +65,7 @@ module _ (elf : List ℕ) (map : MemMap) (image : Image) where
       by None is some = is
       by (Some fault) is none = absurd (none-some image none)
 
-  -- and the machine starts in its first state
+  -- the machine starts in the image's first state
   image_core : image_in elf map ≡ Some image → loaded_core image ≡ first_core_of elf map
   unfolding image_in
   image_core read = by (is_some (image_fault elf map)) read
@@ -100,7 +100,7 @@ module _ (elf : List ℕ) (plan : List Entry) (first : ZcCore) (is : first ≡ f
       let same : after.out ≡ counted.0 = counted.2 ∙ ap (λ out. out ++ counted.0) empty in
       subst (λ bytes. ExitsAt (image_run elf plan) now.commits (record { bytes = bytes; status = status })) (sym same) counted.1
 
-  -- with an exit there is no stop
+  -- a run with an exit doesn't stop before it
   pub run_goes_on :
       (reason : Reason) (now : ZcCore) (before after : Desk) → EventuallyExits elf plan
       → Ran (interrupts_by plan) (zc_course first [] plan LOAD_STEPS) (end.Stopped reason) now before after → ⊥
@@ -126,7 +126,7 @@ eventually_exits files elf preserves count exit traced plan is_plan =
 
 -- ---- the program's exit
 
--- it comes at the last step, over a console that was empty
+-- the exit comes at the last step, over a console that was empty
 pub trace_exits :
     (inputs : Inputs) (s : PlainCore) (last : TraceEnd) (status count : ℕ) (before after : ConsoleState)
     → s ≡ first_plain (program_of (parsed inputs)) [] → last ≡ trace.Exited status → before.out ≡ []

@@ -24,7 +24,7 @@ ImageCause elf plan (Stuck place why) = ⊥
 ImageCause elf plan Spent = IsSpent (image_run elf plan)
 ImageCause elf plan OutOfMemory = ⊤
 
--- one of two runs of an image does: that without interrupts, or, once that exits, that under a plan
+-- one of two runs of an image makes all its commits: the run without interrupts, or, if that exits, the run under a plan
 abbrev pub BothCause : List ℕ → List Entry → LoadEnd → Type 0
 BothCause elf plan (Stuck place why) = ⊥
 BothCause elf plan Spent = IsSpent (image_run elf []) ⊎ (Exits (image_run elf []) × IsSpent (image_run elf plan))

@@ -15,15 +15,15 @@ pub record BothLinks (inputs : Inputs) : Type 0 where
   pub is_plain : IsPlainLink inputs plain
   pub is_zc : IsZcLink inputs zc
 
--- these are the two links of the objects in some files
+-- the two links of the objects in some files
 pub record AreLinks (inputs : Inputs) (plain zc : Link) : Type 0 where
   pub files : List (List ℕ)
   pub are : inputs ≡ standard_inputs files
   pub is_plain : IsPlainLink inputs plain
   pub is_zc : IsZcLink inputs zc
 
--- the numbers are those of the links, and so many steps and commits come to the exits: the program's, the plain
--- image's, the Zc image's, and the Zc image's under the plan that is made from a number
+-- the numbers are those of the links and of the exits: of the program after `steps` steps, of the plain image, of the Zc image
+-- after `commits` commits, and of the Zc image under the plan that is made from a number
 pub record IsLoad (inputs : Inputs) (number : ℕ) (load : Load) : Type 0 where
   pub links : BothLinks inputs
   pub plain_text : load.plain_text ≡ links.plain.plain.text

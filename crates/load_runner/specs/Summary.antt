@@ -20,7 +20,7 @@ number_lines load =
     line_with (codes "commits") (load.commits ∷ []) ∷
     []
 
--- its exits, by the machines in the order of their runs
+-- the lines of a load's exits, by the machines in the order of their runs
 abbrev pub exit_lines : Load → List (List ℕ)
 exit_lines load =
     exit_line (codes "trace") load.trace ∷
@@ -29,7 +29,7 @@ exit_lines load =
     exit_line (codes "cuts") load.cuts ∷
     []
 
--- all lines, of so many functions in so many objects
+-- all lines of the summary, with the number of functions and of objects
 unfoldable pub summary_text : ℕ → ℕ → Load → List ℕ
 summary_text functions objects load =
     text_of (

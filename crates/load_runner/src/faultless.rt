@@ -23,7 +23,7 @@ pub fn cut_files(alloc: Global, files: &[Vec<u8>]) -> Result<Cut, LoadEnd>
     ensures ok { IfOk result (λ cut. cut ≡ standard_inputs (contents_of files.now)) }
     ensures err { IfErr result (λ end. end ≡ LoadEnd.OutOfMemory) }
 {
-    match Cut::new(alloc, gather(alloc, files)?) {
+    match Cut::new(alloc, faultless_objects(alloc, files)?) {
         Ok(cut) => Ok(cut),
         Err(fault) => Err(want_of_memory(fault)),
     }
@@ -35,7 +35,7 @@ pub fn plain_link(alloc: Global, files: &[Vec<u8>]) -> Result<Linked, LoadEnd>
     ensures ok { IfOk result (λ linked. IsPlainLink (standard_inputs (contents_of files.now)) linked) }
     ensures err { IfErr result (λ end. end ≡ LoadEnd.OutOfMemory) }
 {
-    match link_plain(alloc, gather(alloc, files)?) {
+    match link_plain(alloc, faultless_objects(alloc, files)?) {
         Ok(linked) => Ok(linked),
         Err(fault) => Err(want_of_memory(fault)),
     }
@@ -47,14 +47,14 @@ pub fn zc_link(alloc: Global, files: &[Vec<u8>]) -> Result<Linked, LoadEnd>
     ensures ok { IfOk result (λ linked. IsZcLink (standard_inputs (contents_of files.now)) linked) }
     ensures err { IfErr result (λ end. end ≡ LoadEnd.OutOfMemory) }
 {
-    match link_zc(alloc, gather(alloc, files)?) {
+    match link_zc(alloc, faultless_objects(alloc, files)?) {
         Ok(linked) => Ok(linked),
         Err(fault) => Err(want_of_memory(fault)),
     }
 }
 
 // The objects in these files.
-fn gather(alloc: Global, files: &[Vec<u8>]) -> Result<Objects, LoadEnd>
+fn faultless_objects(alloc: Global, files: &[Vec<u8>]) -> Result<Objects, LoadEnd>
     requires { first_fault (standard_inputs (contents_of files.now)) ≡ None }
     ensures ok { IfOk result (λ objects. objects ≡ standard_inputs (contents_of files.now)) }
     ensures err { IfErr result (λ end. end ≡ LoadEnd.OutOfMemory) }

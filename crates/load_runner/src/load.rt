@@ -20,8 +20,8 @@ impl Model for Exit {
 /// The lengths of both texts in bytes, what the Zc image's table of jumps and calls saves by its certificate, and how
 /// the program exited.
 ///
-/// `trace` is the exit in the symbolic machine, after so many `steps`. The others are those of images: `plain` that of
-/// the plain image, `zc` that of the Zc image, after so many `commits`, and `cuts` that of the Zc image under
+/// `trace` is the exit in the symbolic machine, after `steps` steps. The others are those of images: `plain` that of
+/// the plain image, `zc` that of the Zc image, after `commits` commits, and `cuts` that of the Zc image under
 /// interrupts. An exit is the last of its steps or commits.
 #[derive(Drop)]
 pub struct Load {

@@ -26,7 +26,7 @@ use zc_link::linked::Linked;
 /// The most steps or commits of a run.
 pub const LOAD_STEPS: u64 = 100_000_000;
 
-/// How many interrupts come in the last run.
+/// The number of interrupts in the last run.
 pub const LOAD_CUTS: u32 = 200;
 
 /// Links these objects as they are and with short code, traces their program, runs the plain image, the Zc image, and
@@ -82,8 +82,10 @@ fn load_of(alloc: Global, number: u64, objects: &[Vec<u8>], links: &Links) -> Re
 fn run_all(alloc: Global, cut: &Cut, cuts: &Plan, links: &Links) -> Result<Load, LoadEnd>
     requires links { AreLinks cut.now links.now.plain.now links.now.zc.now }
     requires plan { IsPlan cuts.now }
-    ensures ok { IfOk result (λ load. (number : ℕ) → cuts.now ≡ made_plan number LOAD_CUTS → IsLoad cut.now number load) }
-    ensures err { IfErr result (λ end. (number : ℕ) → cuts.now ≡ made_plan number LOAD_CUTS → LoadCause cut.now number end) }
+    ensures ok { IfOk result (λ load. (number : ℕ) → cuts.now ≡ made_plan number LOAD_CUTS
+        → IsLoad cut.now number load) }
+    ensures err { IfErr result (λ end. (number : ℕ) → cuts.now ≡ made_plan number LOAD_CUTS
+        → LoadCause cut.now number end) }
 {
     let traced = trace(alloc, cut)?;
     let plain = run_uncut(alloc, links.plain)?;

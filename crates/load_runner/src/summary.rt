@@ -9,7 +9,7 @@ use crate::load::{Exit, Load};
 use pick_check::push_lines::push_line;
 use std::alloc::{AllocError, Global};
 
-/// The summary of a load of so many functions in so many objects.
+/// The summary of a load, with the number of its functions and of its objects.
 pub fn summary(
     alloc: Global,
     functions: u32,

@@ -33,7 +33,7 @@ fn load_with(alloc: Global, text: &str, data: &str) -> Result<Machine, Fail>
     Ok(Machine::load(alloc, &image)?)
 }
 
-// The same without data.
+// Loads an image without data.
 fn load(alloc: Global, text: &str) -> Result<Machine, Fail>
     ensures { IfOk result (λ machine. (machine.exit ≡ None) × (machine.commits ≡ 0)) }
 {
@@ -116,7 +116,7 @@ fn pushes_and_pops_leave_what_the_model_says(rt: HostRuntime) -> Result<(), Fail
     Ok(())
 }
 
-// Makes so many steps.
+// Makes `steps` steps.
 fn go(machine: &mut Machine, steps: u32) {
     for _k in 0..steps {
         if machine.commits() < 99 {
@@ -140,8 +140,9 @@ fn frame_text(alloc: Global, machine: &Machine) -> Result<String, Fail> {
 // {ra, s0}, -16; c.li a0,9; c.li ra,0; c.li s0,0; cm.popretz {ra, s0}, 16.
 const FRAME: &str = "000100B7 01008093 11223437 34440413 B852 4525 4081 4401 BC52";
 
-// After so many steps, and if an access is done, after an interrupt that then writes these bytes from 0FFFFFFC on: a push is
-// interrupted after its first access, by what then overwrites that word; and then a pop is, once after each access.
+// After `steps` steps, and if an access is done, after an interrupt that then writes these bytes from 0FFFFFFC on: a
+// push is interrupted after its first access, by what then overwrites that word; and then a pop is, once after each
+// access.
 const CUTS: &str = "
 steps 4 | done 00 | dirt EEEEEEEE | left 10010 10000000 10010 11223344 0 [0, 0, 0, 0, 238, 238, 238, 238]
 steps 1 | left 10012 ffffff0 10010 11223344 0 [16, 0, 1, 0, 68, 51, 34, 17]

@@ -19,7 +19,7 @@ fn fault_text(alloc: Global, fault: ConsoleFault) -> Result<String, Fail> {
     Ok(format!(in alloc; "{fault}")?)
 }
 
-// Takes into so much room of a buffer of four: how many bytes came, and the buffer.
+// Takes input into the first `room` bytes of a buffer of four: the number of bytes that came, and the buffer.
 fn taken<C: Console>(alloc: Global, console: &mut C, room: &str) -> Result<String, Fail> {
     let mut buf = *b"....";
     match console.take(&mut buf[..room.parse::<usize>()?.min(4)]) {

@@ -26,7 +26,7 @@ impl Drip {
         }
     }
 
-    // How many of so many bytes move now.
+    // The number of bytes that move now, out of `len`.
     fn step(&mut self, len: usize) -> io::Result<usize>
         ensures { IfOk result (λ n. n ≤ len) }
     {

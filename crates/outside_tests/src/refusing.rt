@@ -18,7 +18,7 @@ const SYNC: u32 = 3;
 
 const RENAME: u32 = 4;
 
-/// How many calls may be refused.
+/// The number of calls that may be refused.
 pub const CALLS: u32 = 5;
 
 /// The system's files, or one of them, but that the call of this number is refused for this reason. What a

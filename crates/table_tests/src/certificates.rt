@@ -207,7 +207,7 @@ fn a_line_is_refused(rt: HostRuntime) -> Result<(), Fail> {
     expect(&rt, "line 2", LINES)
 }
 
-// What is printed of a text of so many line feeds.
+// What is printed of a text of `length` line feeds.
 fn told_of(alloc: Global, length: usize) -> Result<String, Fail> {
     let mut text = Vec::new(alloc);
     text.resize(length, b'\n')?;
@@ -217,7 +217,7 @@ fn told_of(alloc: Global, length: usize) -> Result<String, Fail> {
     }
 }
 
-// What should be printed of so many line feeds.
+// Checks what is printed of `length` line feeds.
 fn expect_feeds<R: Abort + AllocGlobal>(rt: &R, length: usize, want: &str) -> Result<(), Fail> {
     let found = told_of(rt.alloc(), length)?;
     same(rt, found.as_str(), want, "text", "of line feeds");

@@ -14,7 +14,7 @@ use std::alloc::{AllocError, Global};
 use std::test::Fail;
 use zc_base::place::Place;
 
-// So many further savings with these sites, at offsets four apart.
+// Adds `count` savings with these sites, at offsets four apart.
 fn add(
     savings: &mut Vec<Saving>,
     count: u32,

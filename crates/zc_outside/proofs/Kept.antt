@@ -22,7 +22,7 @@ pub KeepsFiles-refl : (a : Option Files) → KeepsFiles a a
 KeepsFiles-refl None = tt
 KeepsFiles-refl (Some f) = λ q. refl
 
--- and over two calls that keep them
+-- files stay over two calls that keep them
 pub KeepsFiles-trans : (a b c : Option Files) → KeepsFiles a b → KeepsFiles b c → KeepsFiles a c
 KeepsFiles-trans None b c first second = tt
 KeepsFiles-trans (Some f) None c first second = absurd first
@@ -70,7 +70,7 @@ pub KeepsBytes-refl : (xs : Option (List ℕ)) → KeepsBytes xs xs
 KeepsBytes-refl None = tt
 KeepsBytes-refl (Some xs) = refl
 
--- and over two calls that keep them
+-- bytes stay over two calls that keep them
 pub KeepsBytes-trans : (xs ys zs : Option (List ℕ)) → KeepsBytes xs ys → KeepsBytes ys zs → KeepsBytes xs zs
 KeepsBytes-trans None ys zs first second = tt
 KeepsBytes-trans (Some xs) None zs first second = absurd first

@@ -15,12 +15,12 @@ use Rattle.zc_outside.proofs.Kept.{KeepsFiles-refl, KeepsFiles-trans, KeepsFiles
 
 -- ---- which names are held, and which files are too long
 
--- of names that are held, the first are held
+-- if files are held, the first of them are
 AreHeld-front : (files : Option Files) (first rest : List Wanted) → AreHeld files (first ++ rest) → AreHeld files first
 AreHeld-front files [] rest held = tt
 AreHeld-front files (file ∷ first) rest held = (held.0, AreHeld-front files first rest held.1)
 
--- and so are the others
+-- if files are held, the others after the first are
 AreHeld-rest : (files : Option Files) (first rest : List Wanted) → AreHeld files (first ++ rest) → AreHeld files rest
 AreHeld-rest files [] rest held = held
 AreHeld-rest files (file ∷ first) rest held = AreHeld-rest files first rest held.1
@@ -35,7 +35,7 @@ IsOneLong-front : (files : Option Files) (first rest : List Wanted) → IsOneLon
 IsOneLong-front files [] rest long = absurd long
 IsOneLong-front files (file ∷ first) rest long = elim long [ inl here ↦ inl here | inr later ↦ inr (IsOneLong-front files first rest later) ]
 
--- and so is one among the others
+-- one file among the others is too long
 IsOneLong-rest : (files : Option Files) (first rest : List Wanted) → IsOneLong files rest → IsOneLong files (first ++ rest)
 IsOneLong-rest files [] rest long = long
 IsOneLong-rest files (file ∷ first) rest long = inr (IsOneLong-rest files first rest long)
@@ -70,9 +70,9 @@ AreRead-append files (file ∷ first) rest (x ∷ bytes) others read next = (rea
 
 -- nothing was read
 pub ReadsAll-none : (s : Shelf) → ReadsAll [] s s
-ReadsAll-none s = record { files = KeepsFiles-refl s.files; reads = omega arith; longs = omega arith; writes = refl; sure = refl; counted = λ sure held. (refl, inl refl) }
+ReadsAll-none s = record { files = KeepsFiles-refl s.files; reads = omega arith; longs = omega arith; writes = refl; write_memory = refl; sure = refl; counted = λ sure held. (refl, inl refl) }
 
--- one file was read
+-- a read of one file
 pub ReadsAll-one : (file : Wanted) {a b : Shelf} → OnlyReads file.name file.limit a b → ReadsAll (file ∷ []) a b
 ReadsAll-one file reads = grind arith
 
@@ -84,6 +84,7 @@ ReadsAll-append {first = first} {rest = rest} {a = a} {b = b} {c = c} read next 
   reads = omega arith;
   longs = omega arith;
   writes = next.writes ∙ read.writes;
+  write_memory = next.write_memory ∙ read.write_memory;
   sure = next.sure ∙ read.sure;
   counted = λ sure held.
       let before = read.counted sure (AreHeld-front a.files first rest held) in
@@ -106,6 +107,7 @@ ReadsAll-front {first = first} rest {a = a} {b = b} reads = record {
   reads = reads.reads;
   longs = reads.longs;
   writes = reads.writes;
+  write_memory = reads.write_memory;
   sure = reads.sure;
   counted = λ sure held.
       let counted = reads.counted sure (AreHeld-front a.files first rest held) in
@@ -114,7 +116,7 @@ ReadsAll-front {first = first} rest {a = a} {b = b} reads = record {
 
 -- ---- why files can't be had
 
--- one can't
+-- one file can't be read
 pub AreUnread-one :
     (file : Wanted) (a b : Shelf) (fault : StoreFault) → fault ≢ OutOfMemory → GetCause file.name file.limit a b fault → AreUnread (file ∷ []) a b
 AreUnread-one file a b Failed other cause = inl (cause.0, λ sure held. cause.1 sure held.0)
@@ -144,7 +146,7 @@ AreUnread-rest first rest a b c read unread = elim unread [
 
 -- ---- files that are told
 
--- they have one list of bytes
+-- the files have one list of bytes
 pub AreRead-same :
     (f : Files) (wanted : List Wanted) (xs ys : List (List ℕ)) → AreRead (Some f) wanted xs → AreRead (Some f) wanted ys → xs ≡ ys
 AreRead-same f [] [] [] read again = refl
@@ -157,13 +159,13 @@ AreRead-same f (file ∷ wanted) (x ∷ xs) (y ∷ ys) read again =
     let rest = AreRead-same f wanted xs ys read.1 again.1 in
     cc
 
--- those that can be read are held
+-- files that can be read are held
 pub AreRead-AreHeld : (f : Files) (wanted : List Wanted) (xs : List (List ℕ)) → AreRead (Some f) wanted xs → AreHeld (Some f) wanted
 AreRead-AreHeld f [] xs read = tt
 AreRead-AreHeld f (file ∷ wanted) [] read = absurd read
 AreRead-AreHeld f (file ∷ wanted) (x ∷ xs) read = ((x, read.0.held), AreRead-AreHeld f wanted xs read.1)
 
--- and none of them is too long
+-- no file that can be read is too long
 pub AreRead-not-long : (f : Files) (wanted : List Wanted) (xs : List (List ℕ)) → AreRead (Some f) wanted xs → ¬ IsOneLong (Some f) wanted
 AreRead-not-long f [] xs read long = absurd long
 AreRead-not-long f (file ∷ wanted) [] read long = absurd read
@@ -195,7 +197,7 @@ module _ (limit : ℕ) (names : List (String Global)) (i : ℕ) (name : String G
   abbrev file : Wanted
   file = record { name = string_bytes name; limit = limit }
 
-  -- it joins those before it
+  -- the next file joins those before it
   each_within-more : each_within limit (map string_bytes (take (i + 1) names)) ≡ each_within limit (map string_bytes (take i names)) ++ file ∷ []
   each_within-more = ap (λ front. each_within limit (map string_bytes front)) (take_more names i name within ∙ ap (λ x. take i names ++ x ∷ []) (sym is)) ∙ simp map-append
 
@@ -208,19 +210,19 @@ module _ (limit : ℕ) (names : List (String Global)) (i : ℕ) (name : String G
       let front = each_within limit (map string_bytes (take i names)) in
       rw each_within-more (AreRead-append a front (file ∷ []) bytes (next ∷ []) read (KeepsFiles-AreRead a b (file ∷ []) (next ∷ []) kept (last, tt)))
 
-  -- and so does its read
+  -- its read joins the reads before it
   pub ReadsAll-more :
       {a b c : Shelf} → ReadsAll (each_within limit (map string_bytes (take i names))) a b → ReadsAll (file ∷ []) b c →
       ReadsAll (each_within limit (map string_bytes (take (i + 1) names))) a c
   ReadsAll-more read next = rw each_within-more (ReadsAll-append read next)
 
-  -- and the loop may stop there
+  -- the loop may stop at a file that can't be read
   pub ReadsAll-stop :
       {a b c : Shelf} → ReadsAll (each_within limit (map string_bytes (take i names))) a b → ReadsAll (file ∷ []) b c →
       ReadsAll (each_within limit (map string_bytes names)) a c
   ReadsAll-stop read next = rw (each_within-split limit names (i + 1)) (ReadsAll-front _ (ReadsAll-more read next))
 
-  -- with the cause that this file has
+  -- the loop stops with the cause that this file has
   pub ReadCause-stop :
       (a b c : Shelf) (fault : ReadFault) → ReadsAll (each_within limit (map string_bytes (take i names))) a b → ReadCause (file ∷ []) b c fault →
       ReadCause (each_within limit (map string_bytes names)) a c fault

@@ -5,6 +5,6 @@ use Rattle.std.specs.Prelude.{ℕ, ◌+◌, ◌-◌, ◌^◌, min}
 abbrev pub next_call : ℕ → ℕ
 next_call calls = min (calls + 1) (2 ^ 32 - 1)
 
--- so many more, as far as 64 bits have room for them
+-- a count that rises by n, up to the largest number of 64 bits
 abbrev pub more : ℕ → ℕ → ℕ
 more count n = count + min n (2 ^ 64 - 1 - count)

@@ -3,8 +3,8 @@ use Rattle.std.specs.Prelude.{◌≡◌, ℕ, ◌+◌, ◌<◌, ◌≤◌, ◌==
 use Rattle.zc_outside.specs.Desk.{Desk, WriteCause, Wrote}
 use Rattle.zc_outside.specs.declared.console.ConsoleFault.{ConsoleFault}
 
--- a run: the state after so many steps, or what stopped the machine before; of a state, the exit's status and the bytes that were
--- written so far to the stream with a number (1 is the output, 2 the output for errors); and how many steps it may make
+-- a run: the state after each number of steps, or what stopped the machine before; of a state, the exit's status and the bytes
+-- that were written so far to the stream with a number (1 is the output, 2 the output for errors); and how many steps it may make
 pub record Course (State Stop : Type 0) : Type 0 where
   pub after : ℕ → Result State Stop
   pub exit : State → Option ℕ
@@ -17,11 +17,11 @@ pub record Course (State Stop : Type 0) : Type 0 where
 abbrev pub sent : ℕ → List ℕ → ℕ → List ℕ
 sent stream bytes number = if stream == number then bytes else []
 
--- these bytes stand on the stream, and nothing on the other
+-- these bytes were written to the stream, and nothing to the other one
 abbrev pub WroteTo : ℕ → List ℕ → Desk → Desk → Type 0
 WroteTo stream bytes before after = Wrote (sent stream bytes 1) (sent stream bytes 2) before after
 
--- the first of them do, and not all
+-- the first of these bytes were written to the stream, but not all
 pub record WrotePart (stream : ℕ) (bytes : List ℕ) (before after : Desk) : Type 0 where
   pub count : ℕ
   pub part : count < length bytes
@@ -29,7 +29,7 @@ pub record WrotePart (stream : ℕ) (bytes : List ℕ) (before after : Desk) : T
 
 -- ---- ends
 
--- the program exited with this status within the steps, and all that it wrote stands
+-- the program exited with this status within the steps, and all that it wrote is on the streams
 pub record EndsWithExit {State Stop : Type 0} (run : Course State Stop) (status : ℕ) (before after : Desk) : Type 0 where
   pub count : ℕ
   pub within : count ≤ run.steps
@@ -38,26 +38,26 @@ pub record EndsWithExit {State Stop : Type 0} (run : Course State Stop) (status 
   pub exit : run.exit last ≡ Some status
   pub wrote : Wrote (run.written last 1) (run.written last 2) before after
 
--- so many steps were made, after which the program hasn't exited, and all that it wrote stands
+-- `count` steps were made, after which the program hasn't exited, and all that it wrote is on the streams
 pub record EndsAfter {State Stop : Type 0} (run : Course State Stop) (count : ℕ) (before after : Desk) : Type 0 where
   pub last : State
   pub state : run.after count ≡ Ok last
   pub running : run.exit last ≡ None
   pub wrote : Wrote (run.written last 1) (run.written last 2) before after
 
--- the same after fewer steps than the run may make
+-- fewer steps were made than the run may make, after which the program hasn't exited, and all that it wrote is on the streams
 pub record EndsEarly {State Stop : Type 0} (run : Course State Stop) (before after : Desk) : Type 0 where
   pub count : ℕ
   pub within : count < run.steps
   pub made : EndsAfter run count before after
 
--- the same, and the next step stops the machine
+-- the run ended early in this sense, and the next step stops the machine
 pub record EndsWithStop {State Stop : Type 0} (run : Course State Stop) (stop : Stop) (before after : Desk) : Type 0 where
   pub early : EndsEarly run before after
   pub next : run.after (early.count + 1) ≡ Err stop
 
--- the next step is a write that the console refused: all that was written before stands, and of its bytes the first ones, but not
--- all
+-- the next step is a write that the console refused: all that was written before is on the streams, and the first bytes of this
+-- write, but not all
 pub record EndsWithRefusal {State Stop : Type 0} (run : Course State Stop) (fault : ConsoleFault) (before after : Desk) : Type 0 where
   pub between : Desk
   pub early : EndsEarly run before between
@@ -76,7 +76,7 @@ pub record Exit : Type 0 where
   pub bytes : List ℕ
   pub status : ℕ
 
--- the program comes to this exit after so many steps and no fewer, within those that it may make
+-- the program comes to this exit at step `count` and no earlier, within the steps that it may make
 pub record ExitsAt {State Stop : Type 0} (run : Course State Stop) (count : ℕ) (exit : Exit) : Type 0 where
   pub within : count ≤ run.steps
   pub last : State

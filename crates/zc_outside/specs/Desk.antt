@@ -5,9 +5,9 @@ use Rattle.zc_outside.specs.declared.console.ConsoleFault.TheVariants.{Failed, O
 use Rattle.zc_outside.specs.Files.{Rose}
 use Rattle.zc_outside.specs.Streams.{Adds, KeepsBytes}
 
--- the input that is left and what was written, if it tells them; how many reads and writes failed, and how many of each were
--- refused for want of memory; how many bytes left the input; and whether it is sure: then no call of it fails, want of memory
--- left aside
+-- what a console shows: the input that is left and what was written, if it tells them; how many reads and writes failed, and how
+-- many of each were refused because memory ran out; how many bytes left the input; and whether it is sure: then no call of it
+-- fails, unless memory runs out
 pub record Desk : Type 0 where
   pub input : Option (List ℕ)
   pub out : Option (List ℕ)
@@ -44,7 +44,7 @@ pub record OnlyWrites (before after : Desk) : Type 0 where
   pub sure : after.sure ≡ before.sure
   pub counted : IsTrue before.sure → after.write_faults ≡ before.write_faults
 
--- these bytes stand on the two streams, each after what stood there
+-- these bytes were written to the two streams, each after what was there
 pub record Wrote (to_out to_err : List ℕ) (before after : Desk) : Type 0 where
   pub out : Adds before.out after.out to_out
   pub err : Adds before.err after.err to_err

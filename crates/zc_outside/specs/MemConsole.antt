@@ -5,7 +5,7 @@ use Rattle.zc_outside.specs.declared.console.ConsoleFault.TheVariants.{Failed, O
 use Rattle.zc_outside.specs.Calls.{next_call, more}
 use Rattle.zc_outside.specs.Desk.{Desk}
 
--- its streams, the numbers of its calls that fail, and its counts
+-- the state of a console in memory: its streams, the numbers of its calls that fail, and its counts
 pub record ConsoleState : Type 0 where
   -- the bytes that are left
   pub input : List ℕ
@@ -14,15 +14,16 @@ pub record ConsoleState : Type 0 where
   pub err : List ℕ
   -- the numbers of the calls that fail
   pub fails : List ℕ
-  -- how many calls were made, which is the number of the next
+  -- the number of calls that were made, which is the number of the next
   pub calls : ℕ
   pub read_faults : ℕ
   pub write_faults : ℕ
   pub write_memory_faults : ℕ
-  -- how many bytes left the input
+  -- the number of bytes that left the input
   pub taken : ℕ
 
--- it tells all its bytes, and is sure if it was made with no call that fails; its takes never want memory
+-- what the console shows: it tells all its bytes, and is sure if it was made with no call that fails; memory never runs out in a
+-- take
 abbrev pub desk_of : ConsoleState → Desk
 desk_of c = record {
   input = Some c.input;

@@ -15,7 +15,7 @@ use Rattle.zc_outside.specs.Shelf.{Shelf}
 abbrev pub file_in : List (List ℕ × List ℕ) → List ℕ → Option (List ℕ)
 file_in files name = find (slice_cmp nat_cmp) name files
 
--- the same files, with these bytes under the name
+-- the files with these bytes under the name
 abbrev pub with_file : List (List ℕ × List ℕ) → List ℕ → List ℕ → List (List ℕ × List ℕ)
 with_file files name bytes = put (slice_cmp nat_cmp) name bytes files
 
@@ -23,8 +23,8 @@ with_file files name bytes = put (slice_cmp nat_cmp) name bytes files
 abbrev pub files_of : List (String Global × Vec ℕ) → List (List ℕ × List ℕ)
 files_of entries = map (λ e. (string_bytes e.0, e.1.items)) entries
 
--- its files, each name with its bytes, in the names' order; the numbers of its calls that fail; how many calls were made,
--- which is the number of the next; and its counts
+-- the state of a store in memory: its files, each name with its bytes, in the names' order; the numbers of its calls that fail;
+-- the number of calls that were made, which is the number of the next; and its counts
 pub record StoreState : Type 0 where
   pub files : List (List ℕ × List ℕ)
   pub fails : List ℕ
@@ -32,14 +32,16 @@ pub record StoreState : Type 0 where
   pub read_faults : ℕ
   pub long_files : ℕ
   pub write_faults : ℕ
+  pub write_memory_faults : ℕ
 
--- it tells all its files, and is sure if it was made with no call that fails
+-- what the store shows: it tells all its files, and is sure if it was made with no call that fails
 abbrev pub shelf_of : StoreState → Shelf
 shelf_of s = record {
   files = Some (file_in s.files);
   read_faults = s.read_faults;
   long_files = s.long_files;
   write_faults = s.write_faults;
+  write_memory_faults = s.write_memory_faults;
   sure = length s.fails == 0;
 }
 
@@ -57,6 +59,13 @@ too_longs (Err Failed) = 0
 too_longs (Err (TooLong taken)) = 1
 too_longs (Err OutOfMemory) = 0
 
+-- how often a call was refused for want of memory
+abbrev pub memory_failures : {A : Type 0} → Result A StoreFault → ℕ
+memory_failures (Ok done) = 0
+memory_failures (Err Failed) = 0
+memory_failures (Err (TooLong taken)) = 0
+memory_failures (Err OutOfMemory) = 1
+
 -- a read is one call, and counts its refusal by its kind
 abbrev pub after_get : {A : Type 0} → StoreState → Result A StoreFault → StoreState
 after_get s result = record s {
@@ -70,10 +79,11 @@ abbrev pub files_after : {A : Type 0} → List (List ℕ × List ℕ) → List �
 files_after files name bytes (Ok done) = with_file files name bytes
 files_after files name bytes (Err fault) = files
 
--- a write is one call, and counts its failure
+-- a write is one call, and counts its refusal by its kind
 abbrev pub after_put : {A : Type 0} → StoreState → List ℕ → List ℕ → Result A StoreFault → StoreState
 after_put s name bytes result = record s {
   files = files_after s.files name bytes result;
   calls = next_call s.calls;
   write_faults = more s.write_faults (failures result);
+  write_memory_faults = more s.write_memory_faults (memory_failures result);
 }

@@ -4,13 +4,15 @@ use Rattle.zc_outside.specs.declared.store.StoreFault.{StoreFault}
 use Rattle.zc_outside.specs.declared.store.StoreFault.TheVariants.{Failed, TooLong, OutOfMemory}
 use Rattle.zc_outside.specs.Files.{Files, Holds, IsLong, KeepsFiles, Rose}
 
--- its files, if it tells them; how many reads failed, how many files were too long, and how many writes failed; and
--- whether it is sure: then no write of it fails, and no read of a name that it holds
+-- what a store shows: its files, if it tells them; how many reads failed, how many files were too long, how many writes failed,
+-- and for how many there was no memory; and whether it is sure: then no write of it fails, unless memory runs out, and no read
+-- of a name that it holds
 pub record Shelf : Type 0 where
   pub files : Option Files
   pub read_faults : ℕ
   pub long_files : ℕ
   pub write_faults : ℕ
+  pub write_memory_faults : ℕ
   pub sure : Bool
 
 -- what a read does to a store: its files stay, and of its counts only those of reads may rise; if the store is sure and
@@ -20,16 +22,19 @@ pub record OnlyReads (name : List ℕ) (limit : ℕ) (before after : Shelf) : Ty
   pub reads : before.read_faults ≤ after.read_faults
   pub longs : before.long_files ≤ after.long_files
   pub writes : after.write_faults ≡ before.write_faults
+  pub write_memory : after.write_memory_faults ≡ before.write_memory_faults
   pub sure : after.sure ≡ before.sure
   pub counted :
       IsTrue before.sure → Holds before.files name →
       (after.read_faults ≡ before.read_faults) × ((after.long_files ≡ before.long_files) ⊎ IsLong before.files name limit)
 
--- what a write does to a store's counts: only that of writes may rise, and that of a sure store doesn't
+-- what a write does to a store's counts: only those of writes may rise, and that of writes that failed doesn't if the
+-- store is sure
 pub record OnlyPuts (before after : Shelf) : Type 0 where
   pub reads : after.read_faults ≡ before.read_faults
   pub longs : after.long_files ≡ before.long_files
   pub writes : before.write_faults ≤ after.write_faults
+  pub write_memory : before.write_memory_faults ≤ after.write_memory_faults
   pub sure : after.sure ≡ before.sure
   pub counted : IsTrue before.sure → after.write_faults ≡ before.write_faults
 
@@ -42,8 +47,8 @@ GetCause name limit before after (TooLong taken) =
     Rose before.long_files after.long_files × (taken ≡ limit + 1) × IsLong before.files name limit
 GetCause name limit before after OutOfMemory = ⊤
 
--- what a refused write shows: the count of write faults rose, and the store isn't sure
+-- what a refused write shows: the count of its kind rose, and it failed only if the store isn't sure
 abbrev pub PutCause : Shelf → Shelf → StoreFault → Type 0
 PutCause before after Failed = Rose before.write_faults after.write_faults × (IsTrue before.sure → ⊥)
 PutCause before after (TooLong taken) = ⊥
-PutCause before after OutOfMemory = ⊤
+PutCause before after OutOfMemory = Rose before.write_memory_faults after.write_memory_faults

@@ -6,7 +6,14 @@ use Rattle.zc_outside.specs.declared.trouble.Trouble.{Trouble}
 use Rattle.zc_outside.specs.declared.trouble.Trouble.TheVariants.{Memory, System}
 use Rattle.zc_outside.specs.Calls.{more}
 
--- the answer, and what becomes of the count of faults: it rises by one, but not for want of memory
-abbrev pub RefusesFile : Trouble → ℕ → StoreFault → ℕ → Type 0
-RefusesFile System faults answer faults' = (answer ≡ Failed) × (faults' ≡ more faults 1)
-RefusesFile Memory faults answer faults' = (answer ≡ OutOfMemory) × (faults' ≡ faults)
+-- the answer to a trouble, and the count of faults after it: it rises by one, unless memory ran out
+abbrev pub RefusesGet : Trouble → ℕ → StoreFault → ℕ → Type 0
+RefusesGet System faults answer faults' = (answer ≡ Failed) × (faults' ≡ more faults 1)
+RefusesGet Memory faults answer faults' = (answer ≡ OutOfMemory) × (faults' ≡ faults)
+
+-- the answer of a write, and what becomes of the counts of faults and of wants of memory: one of them rises by one
+abbrev pub RefusesPut : Trouble → ℕ → ℕ → StoreFault → ℕ → ℕ → Type 0
+RefusesPut System faults memory answer faults' memory' =
+    (answer ≡ Failed) × (faults' ≡ more faults 1) × (memory' ≡ memory)
+RefusesPut Memory faults memory answer faults' memory' =
+    (answer ≡ OutOfMemory) × (faults' ≡ faults) × (memory' ≡ more memory 1)

@@ -10,7 +10,7 @@ pub record Wanted : Type 0 where
   pub name : List ℕ
   pub limit : ℕ
 
--- files by their names, each of at most so many bytes
+-- files by their names, each of at most `limit` bytes
 abbrev pub each_within : ℕ → List (List ℕ) → List Wanted
 each_within limit names = map (λ name. record { name = name; limit = limit }) names
 
@@ -43,6 +43,7 @@ pub record ReadsAll (wanted : List Wanted) (before after : Shelf) : Type 0 where
   pub reads : before.read_faults ≤ after.read_faults
   pub longs : before.long_files ≤ after.long_files
   pub writes : after.write_faults ≡ before.write_faults
+  pub write_memory : after.write_memory_faults ≡ before.write_memory_faults
   pub sure : after.sure ≡ before.sure
   pub counted :
       IsTrue before.sure → AreHeld before.files wanted →

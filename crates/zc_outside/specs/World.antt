@@ -2,11 +2,11 @@
 use Rattle.zc_outside.specs.Desk.{Desk}
 use Rattle.zc_outside.specs.Shelf.{Shelf}
 
--- what both show of themselves
+-- what a store and a console show
 pub record World : Type 0 where
   pub shelf : Shelf
   pub desk : Desk
 
--- its parts in that order
+-- the world of a store and a console
 abbrev pub world : Shelf → Desk → World
 world shelf desk = record { shelf = shelf; desk = desk }

@@ -26,7 +26,7 @@ pub enum ConsoleFault {
 pub trait Console {
     ghost shown: { Self → Desk };
 
-    /// Moves the front of the input into the front of a buffer, and says how many bytes.
+    /// Reads up to a buffer's length of input into its front, and returns the number of bytes.
     ///
     /// After a refusal the buffer may hold anything.
     fn take(&mut self, buf: &mut [u8]) -> Result<usize, ConsoleFault>

@@ -26,6 +26,7 @@ pub struct DiskStore<R> {
     read_faults: u64,
     long_files: u64,
     write_faults: u64,
+    write_memory_faults: u64,
     buf: [u8; PIECE],
 }
 
@@ -33,7 +34,14 @@ impl<R: Files + AllocGlobal> DiskStore<R> {
     /// The files of a runtime. The process's number is part of the names of its new files.
     pub fn new(rt: R, process: Process) -> DiskStore<R>
         ensures { ⟦<DiskStore<R> as Store>⟧.shown result ≡
-            record { files = None; read_faults = 0; long_files = 0; write_faults = 0; sure = false } }
+            record {
+              files = None;
+              read_faults = 0;
+              long_files = 0;
+              write_faults = 0;
+              write_memory_faults = 0;
+              sure = false;
+            } }
     {
         let placed = Vec::new(rt.alloc());
         DiskStore {
@@ -43,6 +51,7 @@ impl<R: Files + AllocGlobal> DiskStore<R> {
             read_faults: 0,
             long_files: 0,
             write_faults: 0,
+            write_memory_faults: 0,
             buf: [0; PIECE],
         }
     }
@@ -54,6 +63,7 @@ impl<R: Files + AllocGlobal> Store for DiskStore<R> {
       read_faults = s.read_faults;
       long_files = s.long_files;
       write_faults = s.write_faults;
+      write_memory_faults = s.write_memory_faults;
       sure = false;
     } };
 
@@ -74,7 +84,7 @@ impl<R: Files + AllocGlobal> Store for DiskStore<R> {
                 self.long_files = self.long_files.saturating_add(1);
                 Err(StoreFault::TooLong { taken: limit + 1 })
             }
-            Err(trouble) => Err(trouble.refuse_file(&mut self.read_faults)),
+            Err(trouble) => Err(trouble.refuse_get(&mut self.read_faults)),
         }
     }
 
@@ -86,7 +96,9 @@ impl<R: Files + AllocGlobal> Store for DiskStore<R> {
     fn put(&mut self, name: &str, bytes: &[u8]) -> Result<(), StoreFault> {
         match put_file(&self.rt, self.id, &mut self.placed, name, bytes) {
             Ok(()) => Ok(()),
-            Err(trouble) => Err(trouble.refuse_file(&mut self.write_faults)),
+            Err(trouble) => {
+                Err(trouble.refuse_put(&mut self.write_faults, &mut self.write_memory_faults))
+            }
         }
     }
 }
@@ -102,8 +114,8 @@ fn room_for<F: OpenFile>(alloc: Global, file: &F, most: usize) -> Result<Vec<u8>
     Ok(Vec::new(alloc))
 }
 
-// All bytes that a reader has left, or none if these are `most` or more. They come through a buffer into a list that
-// is empty so far.
+// All bytes that a reader has left, or none if these are `most` or more. They come through a buffer into a list that is
+// empty so far.
 fn read_below<F: Read>(
     mut bytes: Vec<u8>,
     file: &mut F,
@@ -125,7 +137,7 @@ fn read_below<F: Read>(
     Ok(None)
 }
 
-// Reads a piece and adds it to the bytes so far, which become at most `most`, and says how long it is.
+// Reads a piece and adds it to the bytes so far, which become at most `most`, and returns its length.
 fn read_piece<F: Read>(
     file: &mut F,
     buf: &mut [u8; PIECE],
@@ -147,7 +159,7 @@ fn read_piece<F: Read>(
     Ok(count)
 }
 
-// Makes room for so many more bytes, and for no more than `most` in all.
+// Makes room for `count` more bytes, and for no more than `most` in all.
 fn make_room(bytes: &mut Vec<u8>, count: usize, most: usize) -> Result<(), AllocError>
     requires fits { vec_len bytes.old + count ≤ most }
     requires small { most < 2 ^ 33 }

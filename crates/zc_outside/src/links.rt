@@ -7,7 +7,7 @@ use std::fs;
 use std::io::ErrorKind;
 use std::rt::Files;
 
-// How many are followed, as many as Linux follows.
+// The number of links that are followed, as many as Linux follows.
 const LINKS: u32 = 40;
 
 /// The name at the end of the symbolic links that begin at a name. Nothing need be there.

@@ -123,7 +123,7 @@ impl MemConsole {
 impl Console for MemConsole {
     ghost shown = { desk_of };
 
-    /// Moves as many bytes as the input has left and the buffer has room for, and never wants memory.
+    /// Moves as many bytes as the input has left and the buffer has room for; memory never runs out.
     fn take(&mut self, buf: &mut [u8]) -> Result<usize, ConsoleFault>
         ensures moves { IfOk result (λ n. n ≡ min (length self.old.input) (length buf.old)) }
         ensures buffer { IfOk result (λ n. buf.new ≡ take n self.old.input ++ drop n buf.old) }

@@ -23,6 +23,7 @@ pub struct MemStore {
     read_faults: u64,
     long_files: u64,
     write_faults: u64,
+    write_memory_faults: u64,
 }
 
 impl Model for MemStore {
@@ -37,6 +38,7 @@ impl Model for MemStore {
       read_faults = s.read_faults;
       long_files = s.long_files;
       write_faults = s.write_faults;
+      write_memory_faults = s.write_memory_faults;
     } };
 }
 
@@ -51,6 +53,7 @@ impl MemStore {
           read_faults = 0;
           long_files = 0;
           write_faults = 0;
+          write_memory_faults = 0;
         }) }
     {
         let calls = NumberedCalls::new(alloc, fails)?;
@@ -61,6 +64,7 @@ impl MemStore {
             read_faults: 0,
             long_files: 0,
             write_faults: 0,
+            write_memory_faults: 0,
         })
     }
 
@@ -126,6 +130,10 @@ impl Store for MemStore {
             self.write_faults = self.write_faults.saturating_add(1);
             return Err(StoreFault::Failed);
         }
-        self.add(name, bytes).map_err(|_| StoreFault::OutOfMemory)
+        if self.add(name, bytes).is_err() {
+            self.write_memory_faults = self.write_memory_faults.saturating_add(1);
+            return Err(StoreFault::OutOfMemory);
+        }
+        Ok(())
     }
 }

@@ -10,7 +10,7 @@ use std::io::ErrorKind;
 use std::os::unix::fs::{OpenOptionsExt, PermissionsExt};
 use std::rt::Files;
 
-// How many names are tried for a new file.
+// The number of names that are tried for a new file.
 const NAMES: u32 = 1000;
 
 // What a file that wasn't there is created with, before the process's mask.

@@ -25,7 +25,7 @@ pub enum StoreFault {
 /// no clause says what they hold. A store that is sure stays so, and answers `Failed` to no `put` and
 /// to no `get` of a name that it holds. The counts are 64-bit counters that never fall and stay at
 /// their last value: `read_faults` and `write_faults` count the calls that answer `Failed`,
-/// `long_files` the files over their limit.
+/// `long_files` the files over their limit, `write_memory_faults` the puts that are refused for want of memory.
 pub trait Store {
     ghost shown: { Self → Shelf };
 

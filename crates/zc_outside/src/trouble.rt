@@ -1,7 +1,7 @@
 // Why a call of the system was refused: want of memory, or anything else.
 
 ghost use Rattle.std.specs.Prelude.{◌≡◌, ◌≤◌};
-ghost use Rattle.zc_outside.specs.StoreTrouble.{RefusesFile};
+ghost use Rattle.zc_outside.specs.StoreTrouble.{RefusesGet, RefusesPut};
 ghost use Rattle.zc_outside.specs.Trouble.{Refuses};
 
 use crate::console::ConsoleFault;
@@ -64,9 +64,27 @@ impl Trouble {
         }
     }
 
-    /// How a store answers it. Want of memory isn't counted.
-    pub fn refuse_file(self, faults: &mut u64) -> StoreFault
-        ensures counts { RefusesFile self faults.old result faults.new }
+    /// How a store answers it where it writes. Each kind has a count of its own.
+    pub fn refuse_put(self, faults: &mut u64, memory_faults: &mut u64) -> StoreFault
+        ensures counts { RefusesPut self faults.old memory_faults.old result faults.new memory_faults.new }
+        ensures faults { faults.old ≤ faults.new }
+        ensures memory { memory_faults.old ≤ memory_faults.new }
+    {
+        match self {
+            Trouble::System => {
+                *faults = faults.saturating_add(1);
+                StoreFault::Failed
+            }
+            Trouble::Memory => {
+                *memory_faults = memory_faults.saturating_add(1);
+                StoreFault::OutOfMemory
+            }
+        }
+    }
+
+    /// How a store answers it where it reads. Want of memory isn't counted.
+    pub fn refuse_get(self, faults: &mut u64) -> StoreFault
+        ensures counts { RefusesGet self faults.old result faults.new }
     {
         match self {
             Trouble::System => {

@@ -23,7 +23,7 @@ IsAnswer ReadFault = ⊥
 IsAnswer WriteFault = ⊥
 IsAnswer other = Unit {0}
 
--- it isn't Usage; and a fault that can stop the command was counted, by an outside that isn't sure
+-- the outcome isn't Usage; and a fault that can stop the command was counted, by an outside that isn't sure
 pub record IsFaulted (task : Task) (outcome : Outcome) (before after : World) : Type 0 where
   pub known : outcome ≢ Usage
   pub counted : IsClean task before after → ⊥
@@ -173,7 +173,7 @@ unread_ends wanted ReadFault before after cause = inr (refl, cause)
 unread_ends wanted OutOfMemory before after cause = inl refl
 unread_ends wanted other before after cause = absurd cause
 
--- such a fault is counted
+-- a failed read and a file that is too long are counted
 unread_counted : (wanted : List Wanted) (before after : World) → AreUnread wanted before.shelf after.shelf → IsFileRead before after → ⊥
 unread_counted wanted before after unread read = elim unread [ inl failed ↦ read.reads failed.0 | inr long ↦ read.longs long.0 ]
 
@@ -214,7 +214,7 @@ module _ (task : Task) (Work : List (List ℕ) → Outcome → World → World �
     ]
   ]
 
-  -- it is never Usage
+  -- the outcome is never Usage
   pub performed_known : outcome ≢ Usage
   performed_known = elim ended [ inl answer ↦ answer_known outcome answer | inr stopped ↦ stopped.known ]
 

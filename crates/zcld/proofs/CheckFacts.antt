@@ -29,7 +29,7 @@ certificate_refuses (Ok read) outcome is = by (is_accepted read.0 read.1) is
     by true none = absurd (none-some outcome none)
     by false some = subst IsAnswer (same_Some (BadFile Rejected) outcome some) tt
 
--- and its line names nothing
+-- a certificate's refusal has a line that names nothing
 pub certificate_names_nothing : (read : Result (List Saving × Certified) CertFault) (outcome : Outcome) → certificate_refusal read ≡ Some outcome → NamesNothing outcome
 certificate_names_nothing (Err fault) outcome some = subst NamesNothing (same_Some (BadFile (Certificate fault)) outcome some) (λ files. refl)
 certificate_names_nothing (Ok read) outcome is = by (is_accepted read.0 read.1) is

@@ -1,12 +1,12 @@
 -- The facts of each command, and with them what a call does from what its command does.
-use Rattle.std.proofs.Common.{◌≡◌, ℕ, List, Option, Some, None, refl, sym, ◌⊎◌, inl, inr}
+use Rattle.std.proofs.Common.{◌≡◌, ℕ, List, Option, Some, None, refl, sym, subst, ◌⊎◌, inl, inr}
 use Rattle.std.proofs.lemmas.Option.{none-some}
 use Rattle.zc_outside.specs.World.{World}
 use Rattle.zc_outside.proofs.Wanted.{ReadsAll-front, ReadsAll-none}
 use Rattle.command_words.specs.Command.{Check, Command, Make, Plain, Run, Trace, Zc}
 use Rattle.zcld.specs.declared.outcome.Outcome.{Outcome}
 use Rattle.zcld.specs.declared.outcome.Outcome.TheVariants.{OutOfMemory, Usage}
-use Rattle.zcld.specs.Call.{Answers, Calls, CarriesOut, CountsFaults, IfCommand, IsUsageOf, Reports, TellsAll, task_of, work_of}
+use Rattle.zcld.specs.Call.{Answers, Calls, CarriesOut, CountsFaults, DoesWith, IfCommand, IsUsageOf, Reports, TellsAll, task_of, work_of}
 use Rattle.zcld.specs.ErrLine.{err_line}
 use Rattle.zcld.proofs.Answering.{Facts, performed_answers, performed_counts, performed_known}
 use Rattle.zcld.proofs.CheckFacts.{check_facts}
@@ -32,13 +32,19 @@ out_of_memory (Some command) files before = inl (record {
   cause = tt;
 })
 
+-- an ending with the outcome that a command says
+pub ended :
+    (command : Option Command) (left : List (List ℕ)) {outcome said : Outcome} {before after : World} → outcome ≡ said →
+    DoesWith command left said before after → DoesWith command left outcome before after
+ended command left {before = before} {after = after} is does = subst (λ o. DoesWith command left o before after) (sym is) does
+
 module _ (files : List (List ℕ)) (outcome : Outcome) (before left : World) where
   -- Usage is the outcome of words that spell no command
   usage_alone : (command : Option Command) → CarriesOut command files outcome before left → outcome ≡ Usage → command ≡ None
   usage_alone None does usage = refl
   usage_alone (Some command) does usage = absurd (performed_known (task_of command) (work_of command) (facts command) files outcome before left does usage)
 
-  -- and it is that of all of them, unless memory ran out
+  -- words that spell no command have the outcome Usage, unless memory ran out
   none_alone : (command : Option Command) → CarriesOut command files outcome before left → command ≡ None → (outcome ≡ Usage) ⊎ (outcome ≡ OutOfMemory)
   none_alone None does none = does.0
   none_alone (Some command) does none = absurd (none-some command (sym none))

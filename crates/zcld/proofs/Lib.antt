@@ -9,8 +9,10 @@ pub mod ObjectFiles
 pub mod OutputFacts
 pub mod Pieces
 pub mod PlainFacts
+pub mod PutLaws
 pub mod Refusals
 pub mod RunFacts
 pub mod TraceFacts
+pub mod WithObjects
 pub mod ZcFacts
 pub mod TakenInput

@@ -2,7 +2,7 @@
 use Rattle.std.proofs.Common.{◌≡◌, ℕ, List, [], Option, Some, None, Result, Ok, Err, IsTrue, refl, sym, subst, ◌⊎◌, inl, inr}
 use Rattle.std.specs.Option.{is_some}
 use Rattle.std.proofs.lemmas.Option.{none-some}
-use Rattle.std.specs.Result.{IfErr, IsErrAnd}
+use Rattle.std.specs.Result.{IfErr, IsErrAnd, OnOk}
 use Rattle.zc_outside.specs.Desk.{OnlyWrites}
 use Rattle.zc_outside.specs.Shelf.{OnlyPuts}
 use Rattle.zc_outside.specs.World.{World}
@@ -22,10 +22,19 @@ use Rattle.zcld.specs.Task.{Task}
 use Rattle.zcld.proofs.Answering.{Facts, IsAnswer, IsFaulted, Moves, no_moves}
 use Rattle.zcld.proofs.OutputFacts.{output_ends, output_moves}
 
--- an error for want of memory
+-- what holds of OutOfMemory holds of a result whose only error that is
 pub memory_alone : {A : Type 0} (P : Outcome → Type 0) (result : Result A Outcome) → P OutOfMemory → IsErrAnd result (λ o. o ≡ OutOfMemory) → IfErr result P
 memory_alone P (Ok x) holds is = tt
 memory_alone P (Err o) holds is = subst P (sym is) holds
+
+-- what follows, follows of a result
+pub on_ok : {A E : Type 0} {P Q : Type 0} (result : Result A E) → (P → Q) → OnOk result P → OnOk result Q
+on_ok (Ok x) follows holds = follows holds
+on_ok (Err e) follows holds = tt
+
+pub if_err : {A E : Type 0} {P Q : E → Type 0} (result : Result A E) → ((e : E) → P e → Q e) → IfErr result P → IfErr result Q
+if_err (Ok x) follows holds = tt
+if_err (Err e) follows holds = follows e holds
 
 -- an end without a load is an answer
 load_answers : (last : LoadEnd) → IsAnswer (load_outcome last)
@@ -58,7 +67,7 @@ module _ (prefix : Option (List ℕ)) (number functions : ℕ) where
   pub make_facts : Facts task (MakeWork prefix number functions)
   make_facts = record { refuses = λ files outcome none. absurd (none-some outcome none); ends = make_ends; moves = make_moves }
 
-  -- it reads nothing, so its work is all that it does
+  -- `make` reads nothing, so its work is all that it does
   pub does_work :
       (outcome : Outcome) (before after : World) → NamesNothing outcome → MakeWork prefix number functions [] outcome before after
       → (left : List (List ℕ)) → DoesWith (Some (Make prefix number functions)) left outcome before after

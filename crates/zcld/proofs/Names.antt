@@ -23,7 +23,7 @@ module _ (file : List ℕ) (symbol : ℕ) where
       → Some name ≡ name_in symbol file
   name_found none lt name is = ap Some is ∙ sym (ap (option_map (λ s. s.name)) (symbol_at file symbol lt)) ∙ readable none
 
-  -- and no others
+  -- an index that the symbol table doesn't have has no name
   pub name_past : object_fault file ≡ None → symbol_count file ≤ symbol → None ≡ name_in symbol file
   name_past none le =
       sym (ap (option_map (λ s. s.name)) (slice_get_past (object_parts file).symbols symbol (omega (arith, le, length-symbols file)))) ∙ readable none

@@ -22,11 +22,11 @@ pub put_then_printed :
 put_then_printed Done files text before between desk after put printed = record { files = put; out = printed.out; err = printed.err }
 put_then_printed WriteFault files text before between desk after put printed = elim printed [
   | inl file ↦ absurd (none_unput (text_alone text) (world between desk) (world between after) refl file.0)
-  | inr part ↦ inr (record { files = put; text = part.0.text; out = part.0.out; err = part.0.err }, part.1, part.2)
+  | inr part ↦ inr (record { files = put; text = part.0.text; out = part.0.out; err = part.0.err }, part.1)
 ]
 put_then_printed OutOfMemory files text before between desk after put printed = elim printed [
-  | inl file ↦ absurd (none_unput (text_alone text) (world between desk) (world between after) refl file)
-  | inr part ↦ inr (record { files = put; text = part.text; out = part.out; err = part.err })
+  | inl file ↦ absurd (none_unput (text_alone text) (world between desk) (world between after) refl file.0)
+  | inr part ↦ inr (record { files = put; text = part.0.text; out = part.0.out; err = part.0.err }, part.1)
 ]
 put_then_printed other files text before between desk after put printed = absurd printed
 
@@ -38,10 +38,10 @@ module _ (task : Task) (output : Output) (puts : IsTrue task.puts ⊎ (output.fi
   output_ends WriteFault before after put = inr (record {
     known = λ e. cc;
     counted = λ clean. elim put [
-      | inl file ↦ elim puts [ inl some ↦ clean.put some file.1 | inr none ↦ none_unput output before after none file.0 ]
-      | inr text ↦ clean.written text.1
+      | inl file ↦ elim puts [ inl some ↦ clean.put some file.1.0 | inr none ↦ none_unput output before after none file.0 ]
+      | inr text ↦ clean.written text.1.0
     ];
-    unsure = λ sure. elim put [ inl file ↦ file.2 sure.store | inr text ↦ text.2 sure.console ];
+    unsure = λ sure. elim put [ inl file ↦ file.1.1 sure.store | inr text ↦ text.1.1 sure.console ];
   })
   output_ends other before after put = absurd put
 

@@ -1,23 +1,16 @@
 -- Pieces that are written one after another, until one is refused: what stands then is a part of them all.
-use Rattle.std.proofs.Common.{◌≡◌, ℕ, suc, ◌<◌, List, ◌∷◌, ◌++◌, length, get_or, take, drop, Result, Ok, Err, IfErr, OnErr, true, sym, ap, ◌∙◌, ◌⊎◌, inl, inr, append_assoc}
+use Rattle.std.proofs.Common.{◌≡◌, ℕ, suc, ◌<◌, List, ◌∷◌, ◌++◌, length, get_or, take, drop, Result, Ok, Err, IfErr, OnErr, true, IsTrue, sym, ap, ◌∙◌, ◌⊎◌, inl, inr, append_assoc}
 use Rattle.std.proofs.lemmas.Grind.{flat_map-append}
 use Rattle.std.proofs.Math.Seq.{split_at}
 use Rattle.std.specs.List.{flat_map}
 use Rattle.std.specs.Result.{is_err}
 use Rattle.zc_outside.specs.Desk.{Desk, OnlyWrites, WriteCause}
-use Rattle.zc_outside.specs.Files.{Rose}
 use Rattle.zc_outside.specs.Streams.{Adds, AddsPart}
 use Rattle.zc_outside.specs.declared.console.ConsoleFault.{ConsoleFault}
 use Rattle.zc_outside.specs.declared.console.ConsoleFault.TheVariants.{Failed, OutOfMemory}
-use Rattle.zc_outside.proofs.Kept.{Adds-AddsPart, AddsPart-append, Rose-earlier}
+use Rattle.zc_outside.proofs.Desk.{WriteCause-after}
+use Rattle.zc_outside.proofs.Kept.{Adds-AddsPart, AddsPart-append}
 use Rattle.zcld.specs.Call.{WritesLine}
-
--- a write that was refused is counted as a fault or as a want of memory, over what was written before too
-refusal_rose :
-    (fault : ConsoleFault) (before between after : Desk) → OnlyWrites before between → WriteCause between after fault →
-    Rose before.write_faults after.write_faults ⊎ Rose before.write_memory_faults after.write_memory_faults
-refusal_rose Failed before between after only cause = inl (Rose-earlier before.write_faults between.write_faults after.write_faults only.writes cause.0)
-refusal_rose OutOfMemory before between after only cause = inr (Rose-earlier before.write_memory_faults between.write_memory_faults after.write_memory_faults only.write_memory cause)
 
 module _ {X : Type 0} (bytes : X → List ℕ) (pieces : List X) (i : ℕ) (piece : X) (within : i < length pieces) where
   -- the pieces before it, the piece, and those after it
@@ -35,4 +28,12 @@ module _ {X : Type 0} (bytes : X → List ℕ) (pieces : List X) (i : ℕ) (piec
   refused_line (Err fault) before between after is only written part cause =
       let last = flat_map bytes (take i pieces) ++ bytes (get_or pieces i piece) in
       let whole = Adds-AddsPart before.err between.err after.err (flat_map bytes (take i pieces)) (bytes (get_or pieces i piece)) written part in
-      inr (refusal_rose fault before between after only cause, rw around (AddsPart-append before.err after.err last (flat_map bytes (drop (suc i) pieces)) whole))
+      inr (fault, WriteCause-after before between after fault only cause, rw around (AddsPart-append before.err after.err last (flat_map bytes (drop (suc i) pieces)) whole))
+
+-- a console that is sure leaves nothing of the text out but for want of memory
+pub sure_line :
+    (text : List ℕ) (before after : Desk) → WritesLine text before after → IsTrue before.sure →
+    Adds before.err after.err text ⊎ WriteCause before after OutOfMemory
+sure_line text before after (inl whole) sure = inl whole
+sure_line text before after (inr (Failed, cause, part)) sure = absurd (cause.1 sure)
+sure_line text before after (inr (OutOfMemory, cause, part)) sure = inr cause

@@ -1,6 +1,6 @@
 -- Refusals of objects: a fault that stands between them is their first; one that code has names nothing, so its line is the same for
--- all files; and how a command ends that begins with objects and can't have them.
-use Rattle.std.proofs.Common.{◌≡◌, ℕ, List, [], ◌∷◌, ◌++◌, Option, Some, None, slice_get, refl, sym, ap, subst, ◌∙◌, inl, inr}
+-- all files.
+use Rattle.std.proofs.Common.{◌≡◌, ℕ, List, [], ◌∷◌, ◌++◌, Option, Some, None, slice_get, refl, sym, ap, subst, ◌∙◌}
 use Rattle.std.specs.Option.{option_and_then, option_or}
 use Rattle.elf32_read.specs.Fault.{fault_symbol}
 use Rattle.elf32_read.specs.declared.fault.Fault.{Fault}
@@ -11,15 +11,8 @@ use Rattle.psabi_sym.specs.declared.link_fault.LinkFault.{LinkFault}
 use Rattle.psabi_sym.specs.declared.link_fault.LinkFault.TheVariants.{Object, OutOfMemory}
 use Rattle.block_cut.specs.Faults.{entry_fault, first_fault, range_fault, relocs_fault}
 use Rattle.block_cut.proofs.NamelessFaults.{IsNameless as HasNoName, fault_of, first_nameless}
-use Rattle.zc_base.specs.declared.mem_map.MemMap.{MemMap}
-use Rattle.zc_outside.specs.Wanted.{AreRead}
-use Rattle.zc_outside.specs.World.{World}
-use Rattle.command_words.specs.Command.{Command}
-use Rattle.zcld.specs.Call.{DoesWith, task_of}
 use Rattle.zcld.specs.ErrLine.{NamesNothing, after_space, err_line, fault_symbol_name, line, name_in, refusal_text}
-use Rattle.zcld.specs.Objects.{EndsWithout, objects_refusal, objects_wanted}
 use Rattle.zcld.specs.Outcome.{link_outcome}
-use Rattle.zcld.specs.Task.{OnlyRead, UnreadCause}
 use Rattle.zcld.specs.declared.outcome.Outcome.{Outcome}
 
 pub gather_refuses : (inputs : Inputs) (fault : LinkFault) → IsRefusal (gather_fault inputs) fault → IsRefusal (first_fault inputs) fault
@@ -50,37 +43,6 @@ names_nothing inputs OutOfMemory gathered is = names_none OutOfMemory tt
 names_nothing inputs (Object index fault) gathered is =
     names_none (Object index fault) (subst (λ o. HasNoName fault_of o) is (first_nameless inputs gathered))
 
--- such a line is the same for any files
+-- a line that names nothing is the same for any files
 pub names_in_none : (outcome : Outcome) (left files : List (List ℕ)) → NamesNothing outcome → err_line left outcome ≡ err_line files outcome
 names_in_none outcome left files nothing = nothing left ∙ sym (nothing files)
-
-pub same_line :
-    (inputs : Inputs) (fault : LinkFault) (left files : List (List ℕ)) → gather_fault inputs ≡ None → IsRefusal (first_fault inputs) fault →
-    err_line left (link_outcome fault) ≡ err_line files (link_outcome fault)
-same_line inputs fault left files gathered is = names_in_none (link_outcome fault) left files (names_nothing inputs fault gathered is)
-
--- ---- a command without its objects
-
-module _ (command : Command) (map : MemMap) (names left : List (List ℕ)) (outcome : Outcome) (before after : World) where
-  -- it did nothing but read them
-  pub without_objects :
-      (task_of command).wanted ≡ objects_wanted names → (task_of command).refusal ≡ objects_refusal map → OnlyRead (objects_wanted names) before after →
-      EndsWithout map names left outcome before.shelf after.shelf → DoesWith (Some command) left outcome before after
-  without_objects wants refuses only ends =
-      let only_read = subst (λ w. OnlyRead w before after) (sym wants) only in
-      elim ends [
-        | inl cause ↦ record {
-          files = left;
-          does = inl (record { only = only_read; cause = subst (λ w. UnreadCause w before.shelf after.shelf outcome) (sym wants) cause });
-          line = refl;
-        }
-        | inr are ↦ record {
-          files = are.files;
-          does = inr (inl (record {
-            only = only_read;
-            read = subst (λ w. AreRead before.shelf.files w are.files) (sym wants) are.read;
-            refused = ap (λ refusal. refusal are.files) refuses ∙ are.refused;
-          }));
-          line = are.line;
-        }
-      ]

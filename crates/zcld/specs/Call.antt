@@ -1,10 +1,11 @@
 -- What a call of the program does: what its command does up to a world, and from there the outcome's line.
 use Rattle.std.specs.Prelude.{◌≡◌, ℕ, ◌⊎◌, true, false, IsTrue, is_some, List, [], Option, Some, None, ⊤}
-use Rattle.zc_outside.specs.Desk.{Desk, OnlyWrites}
+use Rattle.zc_outside.specs.Desk.{Desk, OnlyWrites, WriteCause}
 use Rattle.zc_outside.specs.Files.{Files, Rose}
 use Rattle.zc_outside.specs.Streams.{Adds, AddsPart, KeepsBytes}
 use Rattle.zc_outside.specs.Wanted.{AreHeld, AreRead, IsOneLong, Wanted}
 use Rattle.zc_outside.specs.World.{World}
+use Rattle.zc_outside.specs.declared.console.ConsoleFault.{ConsoleFault}
 use Rattle.command_words.specs.Command.{Check, Command, Make, Plain, Run, Trace, Zc}
 use Rattle.zcld.specs.declared.input.TheConstants.{INPUT_LIMIT}
 use Rattle.zcld.specs.declared.outcome.Outcome.{Outcome}
@@ -70,13 +71,14 @@ work_of (Trace map steps objects) = TraceWork map steps
 work_of (Check cert) = CheckWork
 work_of (Make prefix number functions) = MakeWork prefix number functions
 
--- what words do: without a command it is Usage, or memory ran out before that was known, and nothing is done
+-- what words do: what their command performs; or, if they are no command, nothing, with the outcome Usage, or OutOfMemory if
+-- memory ran out before that was known
 abbrev pub CarriesOut : Option Command → List (List ℕ) → Outcome → World → World → Type 0
 CarriesOut None files outcome before after = ((outcome ≡ Usage) ⊎ (outcome ≡ OutOfMemory)) × (after ≡ before)
 CarriesOut (Some command) files outcome before after =
     Performs (task_of command) (work_of command) files outcome before after
 
--- the outcome is Usage only of words that spell no command, and of those always, unless memory ran out
+-- the outcome is Usage only for words that spell no command, and for all of these unless memory ran out
 pub record IsUsageOf (command : Option Command) (outcome : Outcome) : Type 0 where
   pub only : outcome ≡ Usage → command ≡ None
   pub always : command ≡ None → (outcome ≡ Usage) ⊎ (outcome ≡ OutOfMemory)
@@ -90,12 +92,12 @@ pub record DoesWith
 
 -- ---- the outcome's line
 
--- the text stands on standard error after what was there; or it could not all be written, and a part of it stands
+-- the text stands on standard error after what was there; or a write was refused, which a console that is sure does only
+-- for want of memory, and a part of the text stands
 abbrev pub WritesLine : List ℕ → Desk → Desk → Type 0
 WritesLine text before after =
     Adds before.err after.err text
-    ⊎ ((Rose before.write_faults after.write_faults ⊎ Rose before.write_memory_faults after.write_memory_faults)
-    × AddsPart before.err after.err text)
+    ⊎ ((fault : ConsoleFault) × WriteCause before after fault × AddsPart before.err after.err text)
 
 -- the outcome's line is written, and nothing else is done
 pub record Reports (text : List ℕ) (before after : World) : Type 0 where
@@ -140,11 +142,11 @@ pub record IsNoFault (outcome : Outcome) : Type 0 where
 
 -- what a command's outcome says, if its files are told:
 pub record Answers (task : Task) (outcome : Outcome) (files : List (List ℕ)) (before after : World) : Type 0 where
-  -- a refusal that their bytes have is named, whatever else goes wrong
+  -- if reading the files reported no error and the task refuses their bytes, the outcome is that refusal, or OutOfMemory
   pub names :
       (refused : Outcome) → task.refusal files ≡ Some refused → IsFileRead before after →
       (outcome ≡ refused) ⊎ (outcome ≡ OutOfMemory)
-  -- with nothing counted, and over an outside that is sure, it is no fault of the outside
+  -- with no error reported, or over an outside that is sure, the outcome is no fault of the outside
   pub complete : IsClean task before after → IsNoFault outcome
   pub sure : IsSure task before → IsNoFault outcome
 
@@ -159,24 +161,24 @@ pub record CountsFaults (task : Task) (before after : World) : Type 0 where
   pub console :
       IsTrue before.desk.sure →
       (after.desk.read_faults ≡ before.desk.read_faults) × (after.desk.write_faults ≡ before.desk.write_faults)
-  -- both stay so
+  -- the store and the console are as sure as they were
   pub stays : (after.shelf.sure ≡ before.shelf.sure) × (after.desk.sure ≡ before.desk.sure)
 
--- this holds of the words' task, if they spell a command
+-- P holds of the task that the words spell, if they spell a command
 abbrev pub IfCommand : Option Command → (Task → Type 0) → Type 0
 IfCommand None P = ⊤
 IfCommand (Some command) P = P (task_of command)
 
 -- ---- the call
 
--- the command did this up to a world, and from there the outcome's line was written
+-- the command did this up to a world `left`, and from there the outcome's line was written
 pub record Calls (command : Option Command) (outcome : Outcome) (before after : World) : Type 0 where
   -- the files that were read
   pub files : List (List ℕ)
   pub left : World
   pub does : CarriesOut command files outcome before left
   pub line : Reports (err_line files outcome) left after
-  -- and what follows from that
+  -- what follows from that, by the words' task
   pub answers : IfCommand command
       (λ task.
       (told : List (List ℕ)) → TellsAll before.shelf.files task.wanted told → Answers task outcome told before after)

@@ -28,7 +28,7 @@ abbrev pub certificate_refusal : Result (List Saving × Certified) CertFault →
 certificate_refusal (Ok read) = if is_accepted read.0 read.1 then None else Some (BadFile Rejected)
 certificate_refusal (Err fault) = Some (BadFile (Certificate fault))
 
--- the refusal of the one file
+-- why the file, a certificate, is refused
 abbrev pub check_refusal : List (List ℕ) → Option Outcome
 check_refusal files = certificate_refusal (certificate_in (first_file files))
 
@@ -43,11 +43,11 @@ pub record Certifies (text : List ℕ) (net : ℕ) : Type 0 where
   pub saves : certificate.net ≡ net
   pub best : NoneSavesMore savings net
 
--- the line on what the slots save
+-- the line that says what the slots save
 abbrev pub check_line : ℕ → List ℕ
 check_line net = line (codes "net " ++ decimal net)
 
--- the line was written, as far as this outcome says, and the store isn't touched
+-- the line was written, as far as this outcome says, and the store is unchanged
 pub record CheckWork (files : List (List ℕ)) (outcome : Outcome) (before after : World) : Type 0 where
   pub net : ℕ
   pub certifies : Certifies (first_file files) net

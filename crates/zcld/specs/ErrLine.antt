@@ -52,7 +52,7 @@ plan_fault_text (plan.OutOfOrder number) = codes "bad plan order " ++ decimal nu
 plan_fault_text plan.TooLarge = codes "bad plan size"
 plan_fault_text plan.OutOfMemory = codes "out of memory"
 
--- so does one of a certificate
+-- a fault of a certificate names its line
 abbrev pub certificate_fault_text : CertFault → List ℕ
 certificate_fault_text (cert.BadLine number) = codes "bad certificate line " ++ decimal number
 certificate_fault_text cert.TooLarge = codes "bad certificate size"
@@ -87,7 +87,7 @@ err_line files (Stopped reason pc) = line (stop_text reason pc)
 err_line files (Stuck place why) = line (stuck_text place why)
 err_line files Spent = line (codes "spent")
 
--- the outcome's line names nothing that stands in files
+-- the outcome's line names nothing in the files
 abbrev pub NamesNothing : Outcome → Type 0
 NamesNothing outcome = (files : List (List ℕ)) → err_line files outcome ≡ err_line [] outcome
 

@@ -15,8 +15,8 @@ HoldsImage memory out names before after =
     (objects : List (List ℕ)) × (elf : List ℕ) × (map before names ≡ map Some objects) × (after out ≡ Some elf)
     × Preserves (inputs_in memory objects) elf
 
--- so it is in the map that the words give, if they spell `zc` or `plain`, the outcome is Done, and the store told its
--- files before and tells them after
+-- `zc` or `plain` that ended with Done put such an image, in the map that the words give, if the store told its files before and
+-- tells them after
 abbrev pub Links : Option Command → Outcome → Option Files → Option Files → Type 0
 Links (Some (Zc memory out cert names)) Done (Some before) (Some after) = HoldsImage memory out names before after
 Links (Some (Plain memory out names)) Done (Some before) (Some after) = HoldsImage memory out names before after

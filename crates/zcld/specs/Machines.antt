@@ -15,7 +15,7 @@ pub record HasEnded
   pub outcome_is : outcome ≡ outcome_of answer
   pub only : OnlyWrites before after
 
--- there was no memory for the machine, or it came to one of its ends
+-- there was no memory for the machine, and nothing was done; or the machine came to one of its ends
 abbrev pub Executes : {End : Type 0} → (End → Desk → Desk → Type 0) → (End → Outcome) → Outcome → Desk → Desk → Type 0
 Executes Ends outcome_of outcome before after =
     ((outcome ≡ OutOfMemory) × (after ≡ before)) ⊎ HasEnded Ends outcome_of outcome before after
@@ -32,7 +32,7 @@ pub record HasRun
 abbrev pub TakesAndRuns : (List ℕ → Outcome → Desk → Desk → Type 0) → Outcome → Desk → Desk → Type 0
 TakesAndRuns Runs outcome before after = IsUntaken outcome before after ⊎ HasRun Runs outcome before after
 
--- the input and the machine's run, and the store isn't touched
+-- the input and the machine's run, and the store is unchanged
 pub record MachineWork
     (Runs : List ℕ → Outcome → Desk → Desk → Type 0) (outcome : Outcome) (before after : World) : Type 0 where
   pub shelf : after.shelf ≡ before.shelf

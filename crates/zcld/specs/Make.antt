@@ -1,6 +1,6 @@
 -- What `make` does: it makes objects, links, traces and runs them, puts the objects if they have names, and writes the
 -- summary.
-use Rattle.std.specs.Prelude.{◌≡◌, ℕ, suc, ◌⊎◌, ◌++◌, List, [], ◌∷◌, length, codes, decimal, Option, Some, None}
+use Rattle.std.specs.Prelude.{◌≡◌, ℕ, zero, suc, ◌⊎◌, ◌++◌, List, [], ◌∷◌, length, codes, decimal, Option, Some, None}
 use Rattle.zc_outside.specs.Desk.{OnlyWrites}
 use Rattle.zc_outside.specs.Shelf.{OnlyPuts}
 use Rattle.zc_outside.specs.World.{World}
@@ -21,25 +21,30 @@ use Rattle.zcld.specs.Puts.{PutsInTurn}
 abbrev pub object_name : List ℕ → ℕ → List ℕ
 object_name prefix i = prefix ++ decimal i ++ codes ".o"
 
+-- the names of `count` objects, from number i on
+abbrev pub names_from : List ℕ → ℕ → ℕ → List (List ℕ)
+names_from prefix i zero = []
+names_from prefix i (suc count) = object_name prefix i ∷ names_from prefix (suc i) count
+
 -- objects under their names, from a number on
 abbrev pub named_from : List ℕ → ℕ → List (List ℕ) → List (List ℕ × List ℕ)
 named_from prefix i [] = []
 named_from prefix i (object ∷ objects) = (object_name prefix i, object) ∷ named_from prefix (suc i) objects
 
--- without a prefix they have no names, and aren't put
+-- the objects' files; without a prefix they have no names, and aren't put
 abbrev pub object_files : Option (List ℕ) → List (List ℕ) → List (List ℕ × List ℕ)
 object_files None objects = []
 object_files (Some prefix) objects = named_from prefix 0 objects
 
 -- ---- the text
 
--- the text is the summary of a load of objects with so many functions
+-- the text is the summary of a load of objects with `functions` functions
 pub record IsSummary (number functions : ℕ) (objects : List (List ℕ)) (text : List ℕ) : Type 0 where
   pub load : Load
   pub loaded : IsLoad (standard_inputs objects) number load
   pub spells : text ≡ summary_text functions (length objects) load
 
--- no load of the objects is known, for this outcome
+-- no load of the objects is known, for this outcome, or memory ran out before the objects were put
 pub record IsUnloaded (number : ℕ) (objects : List (List ℕ)) (outcome : Outcome) : Type 0 where
   pub end : LoadEnd
   pub cause : LoadCause (standard_inputs objects) number end
@@ -58,8 +63,8 @@ pub record PutsLoad
   pub shelf : OnlyPuts before.shelf after.shelf
   pub desk : OnlyWrites before.desk after.desk
 
--- the work of `make`: no load of the objects is known, and nothing was done; or one is, and the objects were put and
--- its summary was written
+-- the work of `make`: nothing was done, since no load of the objects is known or memory ran out before one was put; or one
+-- is known, and the objects were put and its summary was written
 abbrev pub MakeWork : Option (List ℕ) → ℕ → ℕ → List (List ℕ) → Outcome → World → World → Type 0
 MakeWork prefix number functions files outcome before after =
     (IsUnloaded number (made_objects number functions) outcome × (after ≡ before))

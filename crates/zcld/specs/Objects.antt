@@ -1,12 +1,13 @@
 -- The objects that a command links or traces, and why they are refused.
-use Rattle.std.specs.Prelude.{◌≡◌, ℕ, ◌⊎◌, List, Option, Some}
+use Rattle.std.specs.Prelude.{◌≡◌, ℕ, ◌⊎◌, List, Option, Some, None}
 use Rattle.std.specs.Option.{option_map}
 use Rattle.zc_outside.specs.Files.{Files}
 use Rattle.zc_outside.specs.Shelf.{Shelf}
 use Rattle.zc_outside.specs.Wanted.{AreRead, Wanted, each_within}
 use Rattle.block_cut.specs.Faults.{first_fault}
 use Rattle.elf32_read.specs.declared.fault.Fault.{Fault}
-use Rattle.psabi_sym.specs.Inputs.{inputs_in}
+use Rattle.psabi_sym.specs.Faults.{gather_fault}
+use Rattle.psabi_sym.specs.Inputs.{Inputs, inputs_in}
 use Rattle.zc_base.specs.declared.mem_map.MemMap.{MemMap}
 use Rattle.zcld.specs.ErrLine.{err_line}
 use Rattle.zcld.specs.Task.{UnreadCause}
@@ -14,7 +15,7 @@ use Rattle.zcld.specs.declared.outcome.Outcome.{Outcome}
 use Rattle.zcld.specs.declared.outcome.Outcome.TheVariants.{Refused, OutOfMemory}
 use Rattle.zcld.specs.declared.limits.TheConstants.{OBJECT_LIMIT}
 
--- a refusal names the first fault that stands in the objects, with its object's index
+-- a refusal names the first fault in the objects, with its object's index
 abbrev pub refused_for : Option (ℕ × Fault) → Option Outcome
 refused_for fault = option_map (λ found. Refused found.0 found.1) fault
 
@@ -30,7 +31,7 @@ objects_wanted names = each_within OBJECT_LIMIT names
 abbrev pub RefusalCause : Option (ℕ × Fault) → Outcome → Type 0
 RefusalCause fault outcome = (refused_for fault ≡ Some outcome) ⊎ (outcome ≡ OutOfMemory)
 
--- these are the files' bytes, and they are refused, with the same line for the files that are left
+-- the files have these bytes and are refused, and the outcome's line is the same for the files that are kept
 pub record AreRefused
     (map : MemMap) (names left : List (List ℕ)) (outcome : Outcome) (store : Option Files) : Type 0 where
   pub files : List (List ℕ)
@@ -38,7 +39,14 @@ pub record AreRefused
   pub refused : objects_refusal map files ≡ Some outcome
   pub line : err_line left outcome ≡ err_line files outcome
 
--- how a command ends without its objects: they can't be had, or they are refused
+-- how a command ends without its objects: the files can't be had, or they are refused
 abbrev pub EndsWithout : MemMap → List (List ℕ) → List (List ℕ) → Outcome → Shelf → Shelf → Type 0
 EndsWithout map names left outcome before after =
     UnreadCause (objects_wanted names) before after outcome ⊎ AreRefused map names left outcome before.files
+
+-- these are the objects of the files' bytes in the map, and gathering them found no fault
+pub record AreGathered (map : MemMap) (names : List (List ℕ)) (objects : Inputs) (store : Option Files) : Type 0 where
+  pub files : List (List ℕ)
+  pub read : AreRead store (objects_wanted names) files
+  pub inputs_are : objects ≡ inputs_in map files
+  pub faultless : gather_fault objects ≡ None

@@ -13,30 +13,30 @@ use Rattle.zcld.specs.declared.outcome.FileFault.TheVariants.{Certificate, Plan}
 use Rattle.zcld.specs.declared.outcome.Outcome.{Outcome}
 use Rattle.zcld.specs.declared.outcome.Outcome.TheVariants.{Refused, ReadFault, OutOfMemory, BadFile, Stuck, Spent}
 
--- files that can't be had
+-- the outcome when files can't be had
 abbrev pub read_outcome : files.ReadFault → Outcome
 read_outcome read.Unread = ReadFault
 read_outcome read.OutOfMemory = OutOfMemory
 
--- objects that can't be linked
+-- the outcome when objects can't be linked
 abbrev pub link_outcome : LinkFault → Outcome
 link_outcome (link.Object i fault) = Refused i fault
 link_outcome link.OutOfMemory = OutOfMemory
 
--- a text that is no plan
+-- the outcome when a text is no plan
 abbrev pub plan_outcome : PlanFault → Outcome
 plan_outcome (plan.BadLine number) = BadFile (Plan (plan.BadLine number))
 plan_outcome (plan.OutOfOrder number) = BadFile (Plan (plan.OutOfOrder number))
 plan_outcome plan.TooLarge = BadFile (Plan plan.TooLarge)
 plan_outcome plan.OutOfMemory = OutOfMemory
 
--- a text that is no certificate
+-- the outcome when a text is no certificate
 abbrev pub certificate_outcome : CertFault → Outcome
 certificate_outcome (cert.BadLine number) = BadFile (Certificate (cert.BadLine number))
 certificate_outcome cert.TooLarge = BadFile (Certificate cert.TooLarge)
 certificate_outcome cert.OutOfMemory = OutOfMemory
 
--- a load that isn't known
+-- the outcome when a load isn't known
 abbrev pub load_outcome : LoadEnd → Outcome
 load_outcome (load.Stuck place why) = Stuck place why
 load_outcome load.Spent = Spent

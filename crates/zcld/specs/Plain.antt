@@ -12,7 +12,7 @@ use Rattle.zcld.specs.declared.outcome.Outcome.TheVariants.{OutOfMemory}
 use Rattle.zcld.specs.ErrLine.{line}
 use Rattle.zcld.specs.Puts.{Output, PutsInTurn}
 
--- the line on how many bytes the text has
+-- the line that says how many bytes the text has
 abbrev pub plain_line : ℕ → List ℕ
 plain_line n = line (codes "plain text " ++ decimal n)
 
@@ -29,7 +29,7 @@ pub record PutsPlain
   pub shelf : OnlyPuts before.shelf after.shelf
   pub desk : OnlyWrites before.desk after.desk
 
--- no memory for the link, and nothing was done; or that
+-- there was no memory for the link, and nothing was done; or the link was made and put
 abbrev pub PlainWork : MemMap → List ℕ → List (List ℕ) → Outcome → World → World → Type 0
 PlainWork map out files outcome before after =
     ((outcome ≡ OutOfMemory) × (after ≡ before)) ⊎ PutsPlain map out files outcome before after

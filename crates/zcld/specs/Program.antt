@@ -10,7 +10,7 @@ use Rattle.zcld.specs.declared.program.WordsFault.TheVariants as fault
 use Rattle.zcld.specs.Call.{Calls, IsUsageOf, Reports}
 use Rattle.zcld.specs.ErrLine.{err_line, status_of}
 
--- the outcome without words
+-- the outcome when the words can't be had
 abbrev pub wordless : WordsFault → Outcome
 wordless fault.NotText = Usage
 wordless fault.OutOfMemory = OutOfMemory

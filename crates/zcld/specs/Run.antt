@@ -2,6 +2,7 @@
 -- the Zc machine under the plan.
 use Rattle.std.specs.Prelude.{◌≡◌, ℕ, List, [], ◌∷◌, slice_get, Option, Some, None, Result, Ok, Err}
 use Rattle.std.specs.Option.{option_map, option_map_or, option_or}
+use Rattle.std.specs.Global.{Vec}
 use Rattle.zc_base.specs.declared.mem_map.MemMap.{MemMap}
 use Rattle.elf32_read.specs.Image.{image_fault}
 use Rattle.interrupt_plan.specs.Plan.{Entry}
@@ -20,6 +21,7 @@ use Rattle.zcld.specs.declared.limits.TheConstants.{IMAGE_LIMIT}
 use Rattle.zcld.specs.declared.outcome.FileFault.TheVariants.{Image, Plan}
 use Rattle.zcld.specs.declared.outcome.Outcome.{Outcome}
 use Rattle.zcld.specs.declared.outcome.Outcome.TheVariants.{Exited, WriteFault, OutOfMemory, BadFile, Stopped, Spent}
+use Rattle.zcld.specs.declared.run.RunFiles.{RunFiles}
 use Rattle.zcld.specs.Machines.{MachineWork, Executes}
 use Rattle.zcld.specs.Task.{first_file}
 use Rattle.zc_outside.specs.declared.console.ConsoleFault.TheVariants as console
@@ -36,17 +38,21 @@ plan_wanted (Some name) = record { name = name; limit = PLAN_LIMIT } ∷ []
 abbrev pub run_wanted : Option (List ℕ) → List ℕ → List Wanted
 run_wanted plan image = record { name = image; limit = IMAGE_LIMIT } ∷ plan_wanted plan
 
--- the plan that the second file spells; without one there are no interrupts
+-- the files of `run` as the program holds them
+abbrev pub run_files : RunFiles → List (List ℕ)
+run_files files = files.image.items ∷ option_map_or (λ (plan : Vec ℕ). plan.items ∷ []) files.plan []
+
+-- the plan that the second file holds; without a second file there are no interrupts
 abbrev pub plan_of : List (List ℕ) → Result (List Entry) PlanFault
 plan_of files = option_map_or plan_in (slice_get files 1) (Ok [])
 
 -- ---- why they are refused
 
--- the first fault that stands in an image
+-- the first fault in an image
 abbrev pub image_refusal : MemMap → List ℕ → Option Outcome
 image_refusal map image = option_map (λ fault. BadFile (Image fault)) (image_fault image map)
 
--- the first fault that stands in a plan
+-- the first fault in a plan
 abbrev pub plan_refusal : Result (List Entry) PlanFault → Option Outcome
 plan_refusal (Ok plan) = None
 plan_refusal (Err fault) = Some (BadFile (Plan fault))
@@ -65,7 +71,7 @@ run_outcome end.Spent pc = Spent
 run_outcome (end.Console console.Failed) pc = WriteFault
 run_outcome (end.Console console.OutOfMemory) pc = OutOfMemory
 
--- the run of an image from its first state over an input, under a plan, of at most so many commits
+-- the run of an image from its first state over an input, under a plan, of at most `steps` commits
 abbrev pub Runs : ZcCore → List Entry → ℕ → List ℕ → Outcome → Desk → Desk → Type 0
 Runs first plan steps input =
     Executes (λ (end : RunEnd × ZcCore). Ran (interrupts_by plan) (zc_course first input plan steps) end.0 end.1)

@@ -35,13 +35,13 @@ pub record IsUnread (task : Task) (outcome : Outcome) (before after : World) : T
   pub only : OnlyRead task.wanted before after
   pub cause : UnreadCause task.wanted before.shelf after.shelf outcome
 
--- these are the files' bytes, and they are refused
+-- the files have these bytes, and are refused
 pub record IsRefused (task : Task) (files : List (List ℕ)) (outcome : Outcome) (before after : World) : Type 0 where
   pub only : OnlyRead task.wanted before after
   pub read : AreRead before.shelf.files task.wanted files
   pub refused : task.refusal files ≡ Some outcome
 
--- these are the files' bytes, they aren't refused, and the command did its work after that
+-- the files have these bytes and aren't refused, and the command did its work after that
 pub record IsWorked
     (task : Task) (Work : List (List ℕ) → Outcome → World → World → Type 0) (files : List (List ℕ)) (outcome : Outcome)
     (before after : World) : Type 0 where
@@ -51,7 +51,7 @@ pub record IsWorked
   pub accepted : task.refusal files ≡ None
   pub work : Work files outcome between after
 
--- one of the three
+-- a task ended in one of these three ways
 abbrev pub Performs :
     Task → (List (List ℕ) → Outcome → World → World → Type 0) → List (List ℕ) → Outcome → World → World → Type 0
 Performs task Work files outcome before after =

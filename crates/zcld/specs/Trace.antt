@@ -22,7 +22,7 @@ trace_outcome (end.Console console.Failed) = WriteFault
 trace_outcome (end.Console console.OutOfMemory) = OutOfMemory
 trace_outcome end.OutOfMemory = OutOfMemory
 
--- the run of the objects' program over an input, of at most so many steps
+-- the run of the objects' program over an input, of at most `steps` steps
 abbrev pub Traces : Inputs → ℕ → List ℕ → Outcome → Desk → Desk → Type 0
 Traces inputs steps input = Executes (Traced (plain_course (program_of (parsed inputs)) input steps)) trace_outcome
 

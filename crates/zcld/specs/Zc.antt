@@ -20,7 +20,7 @@ zc_output out cert link = record {
   text = report_text link.plain link.zc link.savings link.certificate;
 }
 
--- the same, as the program holds it
+-- what `zc` puts and writes, as the program holds it
 abbrev pub output_of : List ℕ → List ℕ → ZcResults → Output
 output_of out cert results = record {
   files = (out, results.image.items) ∷ (cert, results.certificate.items) ∷ [];
@@ -38,7 +38,7 @@ pub record PutsZc
   pub shelf : OnlyPuts before.shelf after.shelf
   pub desk : OnlyWrites before.desk after.desk
 
--- no memory for the link, and nothing was done; or that
+-- there was no memory for the link, and nothing was done; or the link was made and put
 abbrev pub ZcWork : MemMap → List ℕ → List ℕ → List (List ℕ) → Outcome → World → World → Type 0
 ZcWork map out cert files outcome before after =
     ((outcome ≡ OutOfMemory) × (after ≡ before)) ⊎ PutsZc map out cert files outcome before after

@@ -7,13 +7,14 @@ ghost use Rattle.zcld.specs.Call.{Calls, DoesWith, IsUsageOf};
 ghost use Rattle.zcld.specs.Headline.{Links};
 
 use crate::check::check;
+use crate::ending::Ending;
 use crate::err_line::write_line;
 use crate::make::make;
 use crate::outcome::Outcome;
-use crate::plain::{PlainArgs, plain};
+use crate::plain::plain;
 use crate::run::run;
-use crate::trace::{TraceArgs, trace};
-use crate::zc::{ZcArgs, zc};
+use crate::trace::trace;
+use crate::zc::zc;
 use command_words::command_line::CommandLine;
 use command_words::read::read;
 use std::alloc::Global;
@@ -33,8 +34,7 @@ pub fn zcld<S: Store, C: Console>(
         (world (S.shown store.old) (C.shown console.old)) (world (S.shown store.new) (C.shown console.new)) }
     ensures links { Links (command_of (texts words.now)) result (S.shown store.old).files (S.shown store.new).files }
 {
-    let mut files = Vec::new(alloc);
-    let outcome = perform(alloc, words, &mut files, store, console);
+    let Ending { outcome, files } = perform(alloc, words, store, console);
     write_line(files.as_slice(), &outcome, console);
     outcome
 }
@@ -43,60 +43,23 @@ pub fn zcld<S: Store, C: Console>(
 fn perform<S: Store, C: Console>(
     alloc: Global,
     words: &[String],
-    files: &mut Vec<Vec<u8>>,
     store: &mut S,
     console: &mut C,
-) -> Outcome
-    ensures { DoesWith (command_of (texts words.now)) (contents_of files.new.items) result
+) -> Ending
+    ensures { DoesWith (command_of (texts words.now)) (contents_of result.files.items) result.outcome
         (world (S.shown store.old) (C.shown console.old)) (world (S.shown store.new) (C.shown console.new)) }
 {
-    match read(alloc, words) {
-        Ok(Some(CommandLine::Plain { map, out, objects })) => {
-            let args = PlainArgs {
-                map,
-                out,
-                objects: objects.as_slice(),
-            };
-            plain(alloc, args, files, store, console)
-        }
-        Ok(
-            Some(
-                CommandLine::Zc {
-                    map,
-                    out,
-                    cert,
-                    objects,
-                },
-            ),
-        ) => {
-            let args = ZcArgs {
-                map,
-                out,
-                cert,
-                objects: objects.as_slice(),
-            };
-            zc(alloc, args, files, store, console)
-        }
-        Ok(Some(CommandLine::Run(args))) => run(alloc, args, files, store, console),
-        Ok(
-            Some(
-                CommandLine::Trace {
-                    map,
-                    steps,
-                    objects,
-                },
-            ),
-        ) => {
-            let args = TraceArgs {
-                map,
-                steps,
-                objects: objects.as_slice(),
-            };
-            trace(alloc, args, files, store, console)
-        }
-        Ok(Some(CommandLine::Check { cert })) => check(alloc, cert, store, console),
-        Ok(Some(CommandLine::Make(args))) => make(alloc, args, store, console),
-        Ok(None) => Outcome::Usage,
-        Err(_) => Outcome::OutOfMemory,
+    let command = match read(alloc, words) {
+        Ok(Some(command)) => command,
+        Ok(None) => return Ending::alone(alloc, Outcome::Usage),
+        Err(_) => return Ending::alone(alloc, Outcome::OutOfMemory),
+    };
+    match command {
+        CommandLine::Plain(args) => plain(alloc, &args, store, console),
+        CommandLine::Zc(args) => zc(alloc, &args, store, console),
+        CommandLine::Run(args) => Ending::alone(alloc, run(alloc, args, store, console)),
+        CommandLine::Trace(args) => trace(alloc, &args, store, console),
+        CommandLine::Check { cert } => Ending::alone(alloc, check(alloc, cert, store, console)),
+        CommandLine::Make(args) => Ending::alone(alloc, make(alloc, args, store, console)),
     }
 }

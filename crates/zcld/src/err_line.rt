@@ -248,7 +248,7 @@ fn push_hex(line: &mut ArrayString<ROOM>, number: u32)
     line.push(hex_digit(number, 0));
 }
 
-// The hexadecimal digit before this many bits.
+// The hexadecimal digit of the four bits from bit `shift` up.
 fn hex_digit(number: u32, shift: u32) -> char
     requires { shift < 32 }
     ensures digit { result ≡ hex_at number shift }

@@ -11,7 +11,7 @@ use zc_outside::console::{Console, ConsoleFault};
 /// The most bytes of input.
 pub const INPUT_LIMIT: usize = 16_777_216;
 
-// How many bytes are asked for at once.
+// The number of bytes that are asked for at once.
 const PIECE: usize = 4096;
 
 /// All bytes that are left of the console's input, or how the call ends without them.
@@ -28,7 +28,7 @@ pub fn take_all<C: Console>(alloc: Global, console: &mut C) -> Result<Vec<u8>, O
     Err(Outcome::ReadFault)
 }
 
-// Takes a piece of the input after what was taken so far, and says how long it is: 0 at the end.
+// Takes a piece of the input after what was taken so far, and returns its length: 0 at the end.
 fn take_piece<C: Console>(input: &mut Vec<u8>, console: &mut C) -> Result<usize, Outcome>
     ensures ok { IfOk result (λ n. TakesPart (C.shown console.old).input (C.shown console.new).input
         input.old.items input.new.items n) }

@@ -4,6 +4,7 @@
 
 pub mod call;
 pub mod check;
+pub mod ending;
 pub mod err_line;
 pub mod input;
 pub mod limits;
@@ -13,6 +14,7 @@ pub mod outcome;
 pub mod plain;
 pub mod print;
 pub mod program;
+pub mod put;
 pub mod run;
 pub mod trace;
 pub mod zc;

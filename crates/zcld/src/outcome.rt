@@ -25,9 +25,8 @@ pub enum FileFault {
     Rejected,
 }
 
-/// How a call ends. A refusal names the object, by its index among those of the command line, and
-/// the first fault that stands in it. A stop names the reason and the program counter, a program that
-/// is stuck the place and the reason.
+/// How a call ends. A refusal names the object, by its index among those of the command line, and the first fault in
+/// it. A stop names the reason and the program counter, a program that is stuck the place and the reason.
 #[derive(Clone, Copy, PartialEq, Eq, Debug)]
 pub enum Outcome {
     Done,

@@ -72,7 +72,7 @@ fn text_of(alloc: Global, halves: &[u32], pointer: u32) -> Result<String, Fail> 
     Ok(text)
 }
 
-// Bytes for so many addresses from one on.
+// Bytes for `count` addresses from one on.
 fn pattern(alloc: Global, at: u32, count: u32) -> Result<Vec<(u32, u8)>, Fail> {
     let mut dirt = Vec::new(alloc);
     for k in 0..count {

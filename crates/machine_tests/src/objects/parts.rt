@@ -41,7 +41,7 @@ const SECTIONS: &str = "
 00000000 00000004 00000000 00000000 000000D4 00000024 00000003 00000002 00000004 0000000C";
 
 /// Each program: the sections `a1` and `a2` of the first object, and `b1` and `b2` of the second one, their relocations
-/// (`to` before the section), of which each has room for three, and how the run ends within so many steps.
+/// (`to` before the section), of which each has room for three, and how the run ends within `steps` steps.
 pub const PARTS: &str = "
 # a1: call g; jal a2; addi a7,x0,93; ecall. a2: addi a0,a0,1; jal a1+12. b2: ebreak; g: addi a0,x0,2; jal b1. b1: addi a0,a0,16; ret
 a1 00000097 000080E7 0000006F 05D00893 00000073 | toa1 00000000 00000412 00000000 00000008 00000211 00000000 | a2 00150513 0000006F 00100073 | toa2 00000004 00000111 0000000C | b1 01050513 00008067 00100073 00100073 00100073 | b2 00100073 00200513 0000006F | tob2 00000008 00000111 00000000 | steps 10 | ends exited 13

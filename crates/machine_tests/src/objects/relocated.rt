@@ -1,8 +1,8 @@
 // A table of programs with relocations. Words are hexadecimal.
 
-/// Each program, its relocations and those of data, and how its run ends within so many steps. A relocation has three
-/// words: its offset, its symbol and type, and its addend. Symbol 1 is the code's first byte, 2 the data's, 3 the code's
-/// second word, and 5 is weak, and not defined.
+/// Each program, its relocations and those of data, and how its run ends within `steps` steps. A relocation has three
+/// words: its offset, its symbol and type, and its addend. Symbol 1 is the code's first byte, 2 the data's, 3 the
+/// code's second word, and 5 is weak, and not defined.
 pub const RELOCATED: &str = "
 # lui t0,%hi(data+3); lbu a0,%lo(data+3)(t0)
 000002B7 0002C503 05D00893 00000073 | relocs 00000000 0000021A 00000003 00000004 0000021B 00000003 | steps 4 | ends exited 84

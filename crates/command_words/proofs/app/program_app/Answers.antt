@@ -13,7 +13,7 @@ use Rattle.command_words.proofs.app.program_app.Goals as goal
 abbrev with_form : App → table.Syntax → App
 with_form app form = with_subcommand app (shape_of form)
 
--- the same of the program's table
+-- one more subcommand of the program's table
 abbrev with_row : App → Syntax → App
 with_row app form = with_form app (syntax_of form)
 

@@ -12,8 +12,8 @@ pub run-end-requires-clause-start : goal.run-end-requires-clause-start
 unfolding first_core
 run-end-requires-clause-start g c = ap (λ (z : ZcCore). z.commits) c.in-Ok-load.ensures
 
-pub returns : goal.returns
-returns g c = inr (record {
+pub returns-clause-runs : goal.returns-clause-runs
+returns-clause-runs g c = inr (record {
   input = c.in-Ok.input.items;
   between = g.C.Console.shown c.take_all.new.console;
   takes = search rules;

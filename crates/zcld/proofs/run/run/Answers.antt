@@ -1,22 +1,24 @@
-use Rattle.std.proofs.Common.{◌≡◌, ℕ, ◌<◌, List, [], ◌∷◌, length, get_or, None, Ok, Vec, rules, refl, ap, ◌∙◌, inr, subst, arith}
-use Rattle.std.specs.declared.alloc.Global.{Global}
+-- The files can't be had, or one is refused, or the image ran that was read, in the map that the words gave. No line names anything,
+-- so it is the same for any files.
+use Rattle.std.proofs.Common.{◌≡◌, ◌⊎◌, ℕ, List, Some, None, Ok, Err, rules, refl, sym, ap, ◌∙◌, inl, inr, subst}
+use Rattle.std.specs.Option.{option_copied}
 use Rattle.elf32_read.specs.Image.{image_fault}
 use Rattle.interrupt_plan.specs.Plan.{Entry}
-use Rattle.psabi_sym.specs.Objects.{contents_of}
+use Rattle.interrupt_plan.specs.declared.fault.PlanFault.{PlanFault}
+use Rattle.interrupt_plan.specs.declared.fault.PlanFault.TheVariants as fault
 use Rattle.zc_base.specs.declared.mem_map.MemMap.{MemMap}
 use Rattle.zc_machine.specs.Load.{first_core_of}
 use Rattle.zc_outside.specs.Desk.{Desk}
 use Rattle.zc_outside.specs.World.{world}
 use Rattle.zcld.specs.declared.outcome.Outcome.{Outcome}
+use Rattle.zcld.specs.declared.outcome.Outcome.TheVariants.{OutOfMemory}
+use Rattle.zcld.specs.ErrLine.{NamesNothing, err_line}
 use Rattle.zcld.specs.Machines.{TakesAndRuns}
-use Rattle.zcld.specs.Run.{Runs, plan_of, run_refusal}
-use Rattle.zcld.specs.Task.{first_file}
+use Rattle.zcld.specs.Outcome.{plan_outcome}
+use Rattle.zcld.specs.Run.{Runs, run_files, plan_of, run_refusal, run_wanted}
+use Rattle.zcld.specs.Task.{UnreadCause, first_file}
+use Rattle.zcld.proofs.Refusals.{names_in_none}
 use Rattle.zcld.proofs.run.run.Goals as goal
-
--- the first of the files that were read
-first_is : (files : List (Vec ℕ Global)) (file : Vec ℕ Global) → 0 < length files → file ≡ get_or files 0 file → file.items ≡ first_file (contents_of files)
-first_is [] file some is = absurd (omega arith)
-first_is (x ∷ files) file some is = ap (λ f. f.items) is
 
 -- without a fault of the image, and with a plan that is spelled, nothing is refused
 none_refused : (map : MemMap) (files : List (List ℕ)) (plan : List Entry) → image_fault (first_file files) map ≡ None → plan_of files ≡ Ok plan → run_refusal map files ≡ None
@@ -29,21 +31,87 @@ of_file :
     TakesAndRuns (Runs (first_core_of b.0 b.1) plan steps) outcome before after
 of_file a b plan steps outcome before after same = subst (λ i. TakesAndRuns (Runs (first_core_of i.0 i.1) plan steps) outcome before after) same
 
-pub returns-in-Ok-plan_of : goal.returns-in-Ok-plan_of
-returns-in-Ok-plan_of g c =
-    let files = c.read_both.new.files.items in
-    let first : c.as_slice.result.now ≡ first_file (contents_of files) = c.as_slice.ensures.value ∙ first_is files c.index.result.now (search rules) c.index.ensures in
-    let spelled : plan_of (contents_of files) ≡ Ok c.in-Ok-plan_of.plan = search rules in
+-- a plan that can't be had, or is refused
+unplanned :
+    (map : MemMap) (files : List (List ℕ)) (why : PlanFault) → image_fault (first_file files) map ≡ None → (why ≡ fault.OutOfMemory) ⊎ (plan_of files ≡ Err why) →
+    (plan_outcome why ≡ OutOfMemory) ⊎ (run_refusal map files ≡ Some (plan_outcome why))
+unplanned map files (fault.BadLine number) sound cause = elim cause [ inl memory ↦ absurd (cc) | inr is ↦ inr (rw (sound, is) refl) ]
+unplanned map files (fault.OutOfOrder number) sound cause = elim cause [ inl memory ↦ absurd (cc) | inr is ↦ inr (rw (sound, is) refl) ]
+unplanned map files fault.TooLarge sound cause = elim cause [ inl memory ↦ absurd (cc) | inr is ↦ inr (rw (sound, is) refl) ]
+unplanned map files fault.OutOfMemory sound cause = inl refl
+
+-- no line about a plan names anything
+plan_names_nothing : (why : PlanFault) → NamesNothing (plan_outcome why)
+plan_names_nothing (fault.BadLine number) = λ files. refl
+plan_names_nothing (fault.OutOfOrder number) = λ files. refl
+plan_names_nothing fault.TooLarge = λ files. refl
+plan_names_nothing fault.OutOfMemory = λ files. refl
+
+pub returns-in-Err : goal.returns-in-Err
+returns-in-Err g c = λ left. record {
+  files = left;
+  line = refl;
+  does = inl (record { only = record { shelf = c.read_both.ensures.reads; desk = refl }; cause = c.in-Err.ensures.err });
+}
+
+pub returns-in-Err-read : goal.returns-in-Err-read
+returns-in-Err-read g c = λ left.
     let map = c.args.args.map in
-    let sound : image_fault (first_file (contents_of files)) map ≡ None = subst (λ f. image_fault f map ≡ None) first (search rules) in
-    inr (inr (record {
-      between = world (g.S.Store.shown c.read_both.new.store) (g.C.Console.shown c.args.console.now);
-      only = record { shelf = c.read_both.ensures.reads; desk = refl };
-      read = search rules;
-      accepted = none_refused map (contents_of files) c.in-Ok-plan_of.plan sound spelled;
-      work = record {
-        plan = c.in-Ok-plan_of.plan;
-        spelled = spelled;
-        run = record { shelf = refl; desk = of_file c.in-Ok.image _ _ _ _ _ _ (c.in-Ok.ensures.0 ∙ ap (λ file. (file, map)) first) c.execute.ensures };
-      };
-    }))
+    let fault = c.in-Err-read.fault in
+    let is : image_fault c.in-Ok.files.image.items map ≡ Some fault = subst (λ file. image_fault file map ≡ Some fault) c.as_slice.ensures.value c.in-Err-read.ensures in
+    record {
+      files = run_files c.in-Ok.files;
+      line = refl;
+      does = inr (inl (record { only = record { shelf = c.read_both.ensures.reads; desk = refl }; read = c.in-Ok.ensures.ok; refused = rw is refl }));
+    }
+
+pub returns-in-Ok-plan_of : goal.returns-in-Ok-plan_of
+returns-in-Ok-plan_of g c = λ left.
+    let files = run_files c.in-Ok.files in
+    let map = c.args.args.map in
+    let first : c.as_slice.result.now ≡ first_file files = c.as_slice.ensures.value in
+    let sound : image_fault (first_file files) map ≡ None = subst (λ file. image_fault file map ≡ None) first (search rules) in
+    record {
+      files = files;
+      line = names_in_none c.execute.result left files c.execute.ensures.line;
+      does = inr (inr (record {
+        between = world (g.S.Store.shown c.read_both.new.store) (g.C.Console.shown c.args.console.now);
+        only = record { shelf = c.read_both.ensures.reads; desk = refl };
+        read = c.in-Ok.ensures.ok;
+        accepted = none_refused map files c.in-Ok-plan_of.plan sound c.in-Ok-plan_of.ensures.ok;
+        work = record {
+          plan = c.in-Ok-plan_of.plan;
+          spelled = c.in-Ok-plan_of.ensures.ok;
+          run = record { shelf = refl; desk = of_file c.in-Ok-read.image _ _ _ _ _ _ (c.in-Ok-read.ensures.0 ∙ ap (λ file. (file, map)) first) c.execute.ensures.runs };
+        };
+      }));
+    }
+
+pub returns : goal.returns
+returns g c = λ left.
+    let files = run_files c.in-Ok.files in
+    let map = c.args.args.map in
+    let why = c.in-Err-plan_of.fault in
+    let before = g.S.Store.shown c.args.store.now in
+    let after = g.S.Store.shown c.read_both.new.store in
+    let wanted = run_wanted (option_copied c.args.args.plan) c.args.args.image.now in
+    let sound : image_fault (first_file files) map ≡ None = subst (λ file. image_fault file map ≡ None) c.as_slice.ensures.value (search rules) in
+    elim (unplanned map files why sound c.in-Err-plan_of.ensures.err) [
+      | inl memory ↦ record {
+        files = left;
+        line = refl;
+        does = inl (record {
+          only = record { shelf = c.read_both.ensures.reads; desk = refl };
+          cause = subst (λ outcome. UnreadCause wanted before after outcome) (sym (c.from.ensures ∙ memory)) tt;
+        });
+      }
+      | inr is ↦ record {
+        files = files;
+        line = subst (λ outcome. err_line left outcome ≡ err_line files outcome) (sym c.from.ensures) (names_in_none (plan_outcome why) left files (plan_names_nothing why));
+        does = inr (inl (record {
+          only = record { shelf = c.read_both.ensures.reads; desk = refl };
+          read = c.in-Ok.ensures.ok;
+          refused = is ∙ ap Some (sym c.from.ensures);
+        }));
+      }
+    ]

@@ -22,7 +22,7 @@ later_more i n others file before at is =
 
 pub returns-then-self-gt-MOST_BYTES-clause-keeps : goal.returns-then-self-gt-MOST_BYTES-clause-keeps
 returns-then-self-gt-MOST_BYTES-clause-keeps c = λ read keeps count.
-    let kept = contents_of c.args.files.now.items in
+    let kept = contents_of c.args.self.now.files.items in
     let at : length kept + length keeps.others ≡ c.args.index = omega (arith, length-append kept keeps.others, ap length keeps.read_are, count) in
     record {
       others = keeps.others ++ c.args.file.items ∷ [];
@@ -30,7 +30,7 @@ returns-then-self-gt-MOST_BYTES-clause-keeps c = λ read keeps count.
       bytes_are = keeps.bytes_are;
       all = inr (inr c.if-self-gt-MOST_BYTES.true);
       later_is = λ one.
-          c.first_fault-self.ensures
+          c.earlier_read_fault-self.ensures
           ∙ ap (λ file. option_or c.args.self.now.later (option_map {T = Fault} {U = ℕ × Fault} (λ fault. (c.args.index, fault)) (object_fault file))) c.deref.ensures.value
           ∙ later_more (length kept) c.args.index keeps.others c.args.file.items c.args.self.now.later at (keeps.later_is one);
     }

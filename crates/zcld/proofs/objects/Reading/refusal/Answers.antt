@@ -14,10 +14,13 @@ returns-then-self-clause-some c = λ read keeps many map. (too_many (inputs_in m
 
 pub returns-then-self-gt-MOST_BYTES-clause-some : goal.returns-then-self-gt-MOST_BYTES-clause-some
 returns-then-self-gt-MOST_BYTES-clause-some c = λ read keeps many map.
-    let kept = contents_of c.args.files.now in
-    let count : length kept ≡ length c.args.files.now = length-map c.args.files.now (λ file. file.items) in
+    let files = c.as_slice.result.now in
+    let kept = contents_of files in
+    let kept_are : kept ≡ contents_of c.args.self.now.files.items = ap contents_of c.as_slice.ensures.value in
+    let count : length kept ≡ length files = length-map files (λ file. file.items) in
     let few : length read ≤ 256 = ltb-false 256 (length read) (sym many ∙ c.if-self.false) in
-    let both : length c.args.files.now + length keeps.others ≤ 256 = omega (arith, few, count, length-append kept keeps.others, ap length keeps.read_are) in
-    let same : kept ++ keeps.others ≡ read = sym keeps.read_are in
-    let refused = c.long_files_refusal.ensures keeps.others map both (keeps.later_is c.if-self.false ∙ ap (λ n. fault_from n keeps.others) count) in
+    let same : kept ++ keeps.others ≡ read = ap (λ k. k ++ keeps.others) kept_are ∙ sym keeps.read_are in
+    let both : length files + length keeps.others ≤ 256 = omega (arith, few, count, length-append kept keeps.others, ap length same) in
+    let later = keeps.later_is c.if-self.false ∙ ap (λ n. fault_from n keeps.others) (sym (ap length kept_are) ∙ count) in
+    let refused = c.long_files_refusal.ensures keeps.others map both later in
     (subst (λ files. IsRefusal (gather_fault (inputs_in map files)) c.long_files_refusal.result) same refused.0, refused.1)
