@@ -14,7 +14,7 @@ sys.path.insert(0, os.path.join(os.path.dirname(os.path.abspath(__file__)), os.p
 from expansions import expanded
 from halfwords import Instruction
 from object_data import ABSENT, CODE, NOWHERE, NUMBER, Symbols, aligned
-from object_faults import Object, gather_fault, told
+from object_faults import Cause, Object, Relocation, gather_cause, row_of, told
 from zcld_tools.elf import (ALIGN, BRANCH, CALL, CALL_PLT, HI20, JAL, LO12_I, LO12_S, NOBITS, NONE, PCREL_HI20,
                             PCREL_LO12_I, PCREL_LO12_S, RELA, RELAX, RVC_BRANCH, RVC_JUMP, R_32)
 from zcld_tools.files import read_all
@@ -78,14 +78,19 @@ KINDS = {BRANCH: is_branch, JAL: is_jal, PCREL_HI20: is_auipc, HI20: is_lui, PCR
 # ---- entries
 
 
-class Entry:
-    """A relocation of a section: where, of what type, and what it names."""
+class Entry(Relocation):
+    """A relocation of a section, with the size of its field, and the fault of its type or its place, and why it has that."""
 
     def __init__(self, offset, info, addend):
-        self.offset, self.symbol, self.kind, self.addend = offset, info >> 8, info & 255, addend
+        super().__init__(offset, info, addend)
         self.size = max(0, addend) if self.kind == ALIGN else FIELDS.get(self.kind, 0)
         self.overlaps = False
-        self.fault = None
+        self.fault = self.why = None
+
+    def mark(self, fault, why):
+        """Gives it a fault, if there is a reason for it."""
+        if why:
+            self.fault, self.why = fault, why
 
 
 def mark_overlaps(entries):
@@ -110,7 +115,9 @@ class Part:
                         for row in struct.iter_unpack('<IIi', s.content)]
         mark_overlaps(self.entries)
         for entry in self.entries:
-            entry.fault = KIND_FAULT if self.is_bad_kind(entry) else PLACE_FAULT if self.is_bad_place(entry) else None
+            entry.mark(KIND_FAULT, self.why_bad_kind(entry))
+            if not entry.fault:
+                entry.mark(PLACE_FAULT, self.why_bad_place(entry))
         self.at = {entry.offset: entry for entry in self.entries if entry.fault is None and entry.kind not in WITHOUT_FIELD}
         self.high = {entry.offset for entry in self.entries if entry.kind == PCREL_HI20
                      and is_auipc(self.word(entry.offset))}
@@ -129,22 +136,38 @@ class Part:
     def half(self, at):
         return self.number(at, 2)
 
-    def is_bad_kind(self, entry):
-        known = (NONE, R_32, RELAX) if not self.is_code else (NONE, RELAX, ALIGN, *FIELDS)
-        return entry.kind not in known or entry.kind in OF_TWO_BYTES and not self.is_compressed
+    def why_bad_kind(self, entry):
+        """Why an entry's type is bad, or none."""
+        if entry.kind not in (NONE, RELAX, ALIGN, *FIELDS):
+            return 'a relocation of this type is not linked'
+        if not self.is_code and entry.kind not in (NONE, R_32, RELAX):
+            return 'in data only whole addresses are linked'
+        if entry.kind in OF_TWO_BYTES and not self.is_compressed:
+            return 'this type is for instructions of 2 bytes, and the object is not compressed'
+        return None
 
-    def is_bad_place(self, entry):
+    def why_bad_place(self, entry):
+        """Why an entry's place is bad, or none."""
         if entry.kind in WITHOUT_FIELD:
-            return False
+            return None
         at = entry.offset
-        if at + entry.size > self.section.size or entry.overlaps or self.is_code and at % self.unit:
-            return True
+        if at + entry.size > self.section.size:
+            return f'it changes {entry.size} bytes, which pass the end of the section'
+        if entry.overlaps:
+            return 'another relocation changes one of its bytes'
+        if self.is_code and at % self.unit:
+            return f'in this code it must be at a multiple of {self.unit}'
         if entry.kind == ALIGN:
-            return not 1 <= entry.addend <= 255 or entry.addend % self.unit != 0
+            is_bad = not 1 <= entry.addend <= 255 or entry.addend % self.unit != 0
+            return f'its addend must be from 1 to 255, and a multiple of {self.unit}' if is_bad else None
         if entry.kind in CALLS:
             first, second = self.word(at), self.word(at + 4)
-            return not (is_auipc(first) and is_jalr(second) and second >> 15 & 31 == first >> 7 & 31)
-        return entry.kind in KINDS and not KINDS[entry.kind](self.number(at, entry.size))
+            is_call = is_auipc(first) and is_jalr(second) and second >> 15 & 31 == first >> 7 & 31
+            return None if is_call else f'{first:08x} {second:08x} is no `auipc` with a `jalr` by its register'
+        found = self.number(at, entry.size)
+        if entry.kind in KINDS and not KINDS[entry.kind](found):
+            return f'{found:0{2 * entry.size}x} is not an instruction that it is for'
+        return None
 
     def found_starts(self):
         """The size of each item, by the offset where it starts."""
@@ -163,7 +186,7 @@ class Part:
     def mark_strays(self):
         """Marks each entry that stands at no item's start, though nothing else is wrong with its place."""
         for at in self.at.keys() - self.starts.keys():
-            self.at.pop(at).fault = PLACE_FAULT
+            self.at.pop(at).mark(PLACE_FAULT, 'no instruction starts there')
 
     def spelled(self, at):
         """The words of an item, and its halfword if it has 2 bytes. The word is then the normal form of what this stands for, if
@@ -211,16 +234,25 @@ class Code:
 
     # what is wrong with a relocation
 
-    def entry_fault(self, i, k, entry):
-        if entry.fault or entry.kind in WITHOUT_FIELD:
-            return entry.fault
-        if entry.kind in LOW_OF_PAIR and not self.has_high(i, k, entry):
-            return PAIR_FAULT
-        target = self.symbols.resolve(i, entry.symbol, entry.addend)
-        if (target[0] == NOWHERE or target[0] == CODE and not self.is_start_or_end(*target[1:])
-                or target[0] == NUMBER and entry.kind in (*WAYS, *CALLS)):
-            return TARGET_FAULT
-        return None
+    def entry_cause(self, i, k, entry):
+        """The fault of an entry, or none."""
+        fault, why = entry.fault, entry.why
+        if not fault and entry.kind not in WITHOUT_FIELD:
+            if entry.kind in LOW_OF_PAIR and not self.has_high(i, k, entry):
+                fault, why = PAIR_FAULT, 'it has an addend, or its symbol is not at an `auipc` under PCREL_HI20 in this section'
+            else:
+                why = self.why_bad_target(entry, self.symbols.resolve(i, entry.symbol, entry.addend))
+                fault = why and TARGET_FAULT
+        return Cause(fault, why, k, entry, entry.symbol) if fault else None
+
+    def why_bad_target(self, entry, target):
+        """Why an entry may not lead to a target, or none."""
+        if target[0] == NOWHERE:
+            return 'it leads to what is not linked, or out of its section'
+        if target[0] == CODE and not self.is_start_or_end(*target[1:]):
+            return f'it leads to byte {target[3]:#x} of section {target[2]} of object {target[1]}, where no instruction starts'
+        is_number = target[0] == NUMBER and entry.kind in (*WAYS, *CALLS)
+        return f'a branch, jump or call leads to {target[1]:#x}, which is data or a number' if is_number else None
 
     def has_high(self, i, k, entry):
         """Whether the symbol of a low part is the place of the high one."""
@@ -293,31 +325,43 @@ class Code:
         return found
 
     def far_branch(self):
-        """The place of the first branch or jump that doesn't reach in the plain layout, or none."""
+        """The first branch or jump that doesn't reach in the plain layout: its object, and the fault; or none."""
         addresses, _ = self.plain_layout()
         for place in self.places():
             item = self.item(place)
             reach = REACHES.get(item.kind, {}).get(4 if item.half is None else 2)
-            if reach and not reach[0] <= addresses[item.target[1:]] - addresses[place] <= reach[1]:
-                return place
+            if reach:
+                distance = addresses[item.target[1:]] - addresses[place]
+                if not reach[0] <= distance <= reach[1]:
+                    i, k, offset = place
+                    why = f'its target is {distance:,} bytes away, and it reaches from {reach[0]:,} to {reach[1]:,}'
+                    entry = self.parts[i, k].at.get(offset)
+                    return i, Cause(RANGE_FAULT, why, k, entry, entry and entry.symbol, offset=offset)
         return None
 
-    def fault(self):
-        """The first fault: the object and the number, or none."""
+    def cause(self):
+        """The first fault, and the index of its object; or none."""
         for (i, k), part in self.parts.items():
             for entry in part.entries:
-                fault = self.entry_fault(i, k, entry)
-                if fault:
-                    return i, fault, None
+                cause = self.entry_cause(i, k, entry)
+                if cause:
+                    return i, cause
         if self.entry() is None:
-            return 0, ENTRY_FAULT, None
-        far = self.far_branch()
-        return far and (far[0], RANGE_FAULT, None)
+            found = self.symbols.names.definition(b'_start')
+            if found is None:
+                return 0, Cause(ENTRY_FAULT, 'no object has a global or weak `_start`')
+            return 0, Cause(ENTRY_FAULT, '`_start` is not at the start of an instruction of code', other=found[0])
+        return self.far_branch()
+
+
+def first_cause(files, memory=STANDARD):
+    """The first fault of a list of files, and the index of its object; or none."""
+    return gather_cause(files) or Code([Object(data) for data in files], memory).cause()
 
 
 def first_fault(files, memory=STANDARD):
     """The first fault of a list of files: the object's index, the fault's number, and the name of a symbol or none; or none."""
-    return gather_fault(files) or Code([Object(data) for data in files], memory).fault()
+    return row_of(first_cause(files, memory))
 
 
 def without_fault(paths):

@@ -3,9 +3,10 @@
 `elf` has the numbers and records of the file format, and lays files out; over it `objects` writes objects, and `images` writes
 images and reads the segments of executables. `instructions` puts instructions together and takes them apart, `files` reads and
 writes files, `programs` runs programs and says how they ended, `allocations` refuses them memory, and `measured` measures how
-long they take.
+long they take. `lines` is what the tools for users read and say.
 
-Nothing here comes from the program that is checked, so the models in models/ stand on it too.
+Nothing here comes from the program that is checked, so the models in models/ stand on it too; and on the models stands `linked`,
+which finds sections and symbols in images.
 """
 import os
 

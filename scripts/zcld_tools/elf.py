@@ -28,6 +28,16 @@ EXECUTE, WRITABLE, READABLE = 1, 2, 4
 # Types of relocations (RISC-V ELF psABI, "Relocations").
 NONE, R_32, BRANCH, JAL, CALL, CALL_PLT, GOT_HI20, PCREL_HI20, PCREL_LO12_I, PCREL_LO12_S = 0, 1, 16, 17, 18, 19, 20, 23, 24, 25
 HI20, LO12_I, LO12_S, ADD32, SUB32, ALIGN, RVC_BRANCH, RVC_JUMP, RELAX = 26, 27, 28, 35, 39, 43, 44, 45, 51
+# The name of each type of relocation, by its number.
+RELOCATION_NAMES = {
+    **dict(enumerate('NONE 32 64 RELATIVE COPY JUMP_SLOT TLS_DTPMOD32 TLS_DTPMOD64 TLS_DTPREL32 TLS_DTPREL64 TLS_TPREL32 '
+                     'TLS_TPREL64 TLSDESC'.split())),
+    **dict(enumerate('BRANCH JAL CALL CALL_PLT GOT_HI20 TLS_GOT_HI20 TLS_GD_HI20 PCREL_HI20 PCREL_LO12_I PCREL_LO12_S HI20 '
+                     'LO12_I LO12_S TPREL_HI20 TPREL_LO12_I TPREL_LO12_S TPREL_ADD ADD8 ADD16 ADD32 ADD64 SUB8 SUB16 SUB32 SUB64 '
+                     'GOT32_PCREL'.split(), 16)),
+    **dict(enumerate('ALIGN RVC_BRANCH RVC_JUMP RVC_LUI'.split(), 43)),
+    **dict(enumerate('RELAX SUB6 SET6 SET8 SET16 SET32 32_PCREL IRELATIVE PLT32 SET_ULEB128 SUB_ULEB128 TLSDESC_HI20 '
+                     'TLSDESC_LOAD_LO12 TLSDESC_ADD_LO12 TLSDESC_CALL'.split(), 51))}
 
 
 def file_header(kind, sections_at, sections, names, *, entry=0, flags=0, segments=0):
