@@ -1,0 +1,4 @@
+pub mod Moved
+pub mod Named
+pub mod Moves
+pub mod Passes
