@@ -1,0 +1,340 @@
+-- The items of cleaned objects: at places of needed sections the same stand, with their places moved.
+use Rattle.std.proofs.Common.{◌≡◌, ℕ, zero, suc, ◌+◌, ℤ, pos, negsuc, ◌+ℤ◌, max, min, List, [], ◌∷◌, length, refl, sym, ap, ap₂, ◌∙◌, filter, Bool, true, false, cond, eqb, ltb, Option, Some, None, subst, arith}
+use Rattle.std.specs.Prelude.{◌&&◌, ◌||◌, not, All}
+use Rattle.std.specs.List.{find, list_any}
+use Rattle.std.specs.Option.{option_and_then, option_map, option_map_or, unwrap_or}
+use Rattle.std.proofs.lemmas.List.Elements.{All-head, All-tail}
+use Rattle.zc_base.specs.Fields.{half_in, word_in}
+use Rattle.zc_base.specs.declared.place.Place.{Place}
+use Rattle.elf32_read.specs.Parts.{ObjectParts, SectionParts, is_code_section}
+use Rattle.elf32_read.specs.declared.reloc.Reloc.{Reloc}
+use Rattle.psabi_sym.specs.Inputs.{ParsedInputs}
+use Rattle.psabi_sym.specs.Indexed.{section_at}
+use Rattle.psabi_sym.specs.Resolve.{name_target}
+use Rattle.psabi_sym.specs.Start.{start_name}
+use Rattle.psabi_sym.specs.declared.target.Target.{Target}
+use Rattle.psabi_sym.specs.declared.target.Target.TheVariants as target
+use Rattle.psabi_reloc.specs.Kinds.{field_length, kind_of}
+use Rattle.psabi_reloc.specs.declared.kind.RelocKind.{RelocKind}
+use Rattle.psabi_reloc.specs.declared.kind.RelocKind.TheVariants as kind
+use Rattle.rv_decode.specs.declared.instr.Instr.{Instr}
+use Rattle.rv_decode.specs.declared.instr.Instr.TheVariants as instr
+use Rattle.block_cut.specs.Items.{call_item, code_at, entry_in, entry_of, instr_item, is_end_at, is_start_at, is_target_at, item_at, item_in, item_under, known_item, next_at, place_on, raw_in, raw_pair, size_on, spelled_item, start_only, starts_from, starts_in, starts_on, target_away, target_of, to_place, transfer_item, transfer_under}
+use Rattle.block_cut.specs.Relocs.{field_end, field_of, is_bad_kind, is_bad_place, overlaps_another, is_ignored, is_placed, is_sound, instr_in, overlap, reloc_on}
+use Rattle.block_cut.specs.CodeSizes.{own_size}
+use Rattle.block_cut.specs.declared.item.Item.{Item}
+use Rattle.block_cut.specs.declared.item.Item.TheVariants as item
+use Rattle.block_cut.specs.Resolved.{asks}
+use Rattle.section_gc.specs.Cleaned.{moved_by}
+use Rattle.moved_runs.specs.Passes.{ArePassed}
+use Rattle.moved_runs.specs.Moved.{moved_item, moved_target}
+use Rattle.section_gc.proofs.Closed.{IsClosed}
+use Rattle.moved_runs.proofs.PassSections.{section-moved}
+use Rattle.section_gc.proofs.CleaningLaws.{cleaning, needed-clean}
+use Rattle.section_gc.proofs.ResolveLaws.{IsNeededTarget, name-clean}
+use Rattle.section_gc.proofs.BytesLaws.{target-clean}
+
+-- a section, if it is code
+abbrev pub code_only : SectionParts → Option SectionParts
+code_only s = cond (is_code_section s) (Some s) None
+
+-- a place, if code may lead there
+abbrev pub target_only : List ObjectParts → Place → Option Place
+target_only objects p = cond (is_target_at objects p) (Some p) None
+
+-- the item of an instruction, or what else is there
+abbrev pub of_instr : Option Instr → Item → (Instr → Item) → Item
+of_instr i raw f = option_map_or f i raw
+
+-- ---- relocations of a section without those that ask for nothing
+
+abbrev pub asked : SectionParts → SectionParts
+asked s = record s { relocs = filter asks s.relocs }
+
+quiet-field : (x : Reloc) → asks x ≡ false → field_of x ≡ 0
+quiet-field x none = by (kind_of x.kind) none
+  where
+    by : (k : Option RelocKind) → not (is_ignored k) ≡ false → field_length k x.addend ≡ 0
+    by (Some kind.Ignored) h = refl
+    by None h = refl
+    by (Some k) h = absurd cc
+
+no-overlap : (r x : Reloc) → asks x ≡ false → overlap r x ≡ false
+no-overlap r x none = narrow r.offset x.offset (field_end r) (field_of x) (quiet-field x none)
+  where
+    narrow : (a b e n : ℕ) → n ≡ 0 → ltb (max a b) (min e (b + n)) ≡ false
+    narrow a b e n is = grind arith
+
+crowded-in : (r : Reloc) (xs : List Reloc) → filter (overlap r) (filter asks xs) ≡ filter (overlap r) xs
+crowded-in r [] = refl
+crowded-in r (x ∷ xs) = by (crowded-in r xs) (asks x) refl
+  where
+    by : filter (overlap r) (filter asks xs) ≡ filter (overlap r) xs → (a : Bool) → asks x ≡ a → filter (overlap r) (cond a (x ∷ filter asks xs) (filter asks xs)) ≡ cond (overlap r x) (x ∷ filter (overlap r) xs) (filter (overlap r) xs)
+    by rest true is = ap (λ t. cond (overlap r x) (x ∷ t) t) rest
+    by rest false is = rest ∙ sym (ap (λ b. cond b (x ∷ filter (overlap r) xs) (filter (overlap r) xs)) (no-overlap r x is))
+
+pub crowded-same : (r : Reloc) (xs : List Reloc) → overlaps_another (filter asks xs) r ≡ overlaps_another xs r
+crowded-same r xs = ap (λ l. ltb 1 (length l)) (crowded-in r xs)
+
+sound-same : (s : SectionParts) (r : Reloc) → is_sound (asked s) r ≡ is_sound s r
+sound-same s r = ap (λ c. asks r && (not (is_bad_kind s (kind_of r.kind)) && not (asks r && (ltb s.size (field_end r) || (not (is_placed s r) || c))))) (crowded-same r s.relocs)
+
+sound-asks : (s : SectionParts) (r : Reloc) (n : ℕ) → (is_sound s r && eqb r.offset n) ≡ true → asks r ≡ true
+sound-asks s r n h = by (asks r) (not (is_bad_kind s (kind_of r.kind)) && not (is_bad_place s r)) (eqb r.offset n) h
+  where
+    by : (a b c : Bool) → ((a && b) && c) ≡ true → a ≡ true
+    by true b c h = refl
+    by false b c h = absurd cc
+
+-- a search that finds what asks alone
+find-asked : (p : Reloc → Bool) → ((r : Reloc) → p r ≡ true → asks r ≡ true) → (xs : List Reloc) → find p (filter asks xs) ≡ find p xs
+find-asked p only [] = refl
+find-asked p only (x ∷ xs) = by (find-asked p only xs) (asks x) refl
+  where
+    by : find p (filter asks xs) ≡ find p xs → (a : Bool) → asks x ≡ a → find p (cond a (x ∷ filter asks xs) (filter asks xs)) ≡ cond (p x) (Some x) (find p xs)
+    by rest true is = ap (λ t. cond (p x) (Some x) t) rest
+    by rest false is = rest ∙ no (p x) refl
+      where
+        no : (b : Bool) → p x ≡ b → find p xs ≡ cond b (Some x) (find p xs)
+        no false h = refl
+        no true h = let a = only x h in absurd cc
+
+pub reloc-same : (s : SectionParts) (n : ℕ) → reloc_on (asked s) n ≡ reloc_on s n
+unfolding reloc_on
+reloc-same s n =
+    ap (λ p. find p (filter asks s.relocs)) (λ i. λ r. sound-same s r i && eqb r.offset n)
+    ∙ find-asked (λ r. is_sound s r && eqb r.offset n) (λ r h. sound-asks s r n h) s.relocs
+
+-- what is found
+found-in : (p : Reloc → Bool) (P : Reloc → Type 0) (xs : List Reloc) (r : Reloc) → All P xs → find p xs ≡ Some r → P r × (p r ≡ true)
+found-in p P [] r all is = absurd cc
+found-in p P (x ∷ xs) r all is = by (λ later. found-in p P xs r (All-tail P x xs all) later) (p x) refl is
+  where
+    by : (find p xs ≡ Some r → P r × (p r ≡ true)) → (b : Bool) → p x ≡ b → cond b (Some x) (find p xs) ≡ Some r → P r × (p r ≡ true)
+    by rest true h is = let same : x ≡ r = cc in subst (λ y. P y × (p y ≡ true)) same (All-head P x xs all, h)
+    by rest false h is = rest is
+
+-- ---- where items start
+
+size-same : (s : SectionParts) (n : ℕ) → size_on (asked s) n ≡ size_on s n
+size-same s n = ap (λ r. option_map_or field_of r (own_size s.compressed s.bytes n)) (reloc-same s n)
+
+from-same : (s : SectionParts) (fuel n : ℕ) → starts_from fuel (asked s) n ≡ starts_from fuel s n
+from-same s zero n = refl
+from-same s (suc fuel) n = ap (λ t. cond (ltb n (length s.bytes)) (n ∷ t) []) (ap (λ m. starts_from fuel (asked s) (n + m)) (size-same s n) ∙ from-same s fuel (n + size_on s n))
+
+pub starts-same : (s : SectionParts) (n : ℕ) → starts_on (asked s) n ≡ starts_on s n
+unfolding starts_in
+starts-same s n = ap (λ l. list_any (λ m. eqb m n) l) (from-same s (length s.bytes) 0)
+
+-- ---- places
+
+-- the item at a place of a section, if one starts there
+abbrev pub item_from : ParsedInputs → Place → SectionParts → Option Item
+item_from inputs q s = cond (starts_on s q.offset) (Some (item_in inputs s q)) None
+
+module _ (needed : ℕ → ℕ → Bool) (number : ℕ → ℕ → ℕ) (inputs result : ParsedInputs) (clean : ArePassed (cleaning needed number) inputs result) (closed : IsClosed inputs needed) where
+  abbrev M : Place → Place
+  M q = moved_by number q
+
+  -- a place in a needed section
+  abbrev pub Stays : Place → Type 0
+  Stays q = needed q.object q.section ≡ true
+
+  -- code, and what isn't
+  only-clean : (s : SectionParts) → code_only (asked s) ≡ option_map asked (code_only s)
+  only-clean s = by (is_code_section s)
+    where
+      by : (b : Bool) → cond b (Some (asked s)) None ≡ option_map asked (cond b (Some s) None)
+      by true = refl
+      by false = refl
+
+  code-at-clean : (q : Place) → Stays q → code_at result.objects (M q) ≡ option_map asked (code_at inputs.objects q)
+  code-at-clean q k =
+      let there = closed.there q.object q.section k in
+      ap (option_and_then code_only) (section-moved (cleaning needed number) inputs.objects result.objects clean.objects q.object q.section there.section there.at there.kept)
+      ∙ ap code_only (needed-clean (needed q.object q.section) there.section k)
+      ∙ only-clean there.section
+      ∙ ap (λ x. option_map asked (option_and_then code_only x)) (sym there.at)
+
+  start-clean : (q : Place) → Stays q → is_start_at result.objects (M q) ≡ is_start_at inputs.objects q
+  start-clean q k = ap (λ x. option_map_or (λ s. starts_on s q.offset) x false) (code-at-clean q k) ∙ by (code_at inputs.objects q)
+    where
+      by : (x : Option SectionParts) → option_map_or (λ s. starts_on s q.offset) (option_map asked x) false ≡ option_map_or (λ s. starts_on s q.offset) x false
+      by None = refl
+      by (Some s) = starts-same s q.offset
+
+  end-clean : (q : Place) → Stays q → is_end_at result.objects (M q) ≡ is_end_at inputs.objects q
+  end-clean q k = ap (λ x. option_map_or (λ s. eqb q.offset (length s.bytes)) x false) (code-at-clean q k) ∙ by (code_at inputs.objects q)
+    where
+      by : (x : Option SectionParts) → option_map_or (λ s. eqb q.offset (length s.bytes)) (option_map asked x) false ≡ option_map_or (λ s. eqb q.offset (length s.bytes)) x false
+      by None = refl
+      by (Some s) = refl
+
+  pub target-at-clean : (q : Place) → Stays q → is_target_at result.objects (M q) ≡ is_target_at inputs.objects q
+  target-at-clean q k = ap₂ (λ a b. a || b) (start-clean q k) (end-clean q k)
+
+  pub next-clean : (q : Place) → Stays q → next_at result.objects (M q) ≡ M (next_at inputs.objects q)
+  next-clean q k = ap (λ x. record { object = q.object; section = number q.object q.section; offset = q.offset + option_map_or (λ s. size_on s q.offset) x 4 }) (code-at-clean q k) ∙ by (code_at inputs.objects q)
+    where
+      by : (x : Option SectionParts) → (record { object = q.object; section = number q.object q.section; offset = q.offset + option_map_or (λ s. size_on s q.offset) (option_map asked x) 4 }) ≡ M (record q { offset = q.offset + option_map_or (λ s. size_on s q.offset) x 4 })
+      by None = refl
+      by (Some s) = ap (λ n. M (record q { offset = q.offset + n })) (size-same s q.offset)
+
+  -- ---- items without relocation
+
+  only-target : (p : Place) → Stays p → target_only result.objects (M p) ≡ option_map M (target_only inputs.objects p)
+  only-target p k = ap (λ b. cond b (Some (M p)) None) (target-at-clean p k) ∙ by (is_target_at inputs.objects p)
+    where
+      by : (b : Bool) → cond b (Some (M p)) None ≡ option_map M (cond b (Some p) None)
+      by true = refl
+      by false = refl
+
+  away-clean : (q : Place) (distance : ℤ) → Stays q → target_away result.objects (M q) distance ≡ option_map M (target_away inputs.objects q distance)
+  away-clean q distance k = by (pos q.offset +ℤ distance)
+    where
+      by : (z : ℤ) → option_and_then (target_only result.objects) (place_on (M q) z) ≡ option_map M (option_and_then (target_only inputs.objects) (place_on q z))
+      by (pos n) = only-target (record q { offset = n }) k
+      by (negsuc n) = refl
+
+  -- what is copied unread names no place
+  abbrev pub IsUnread : Item → Type 0
+  IsUnread i = i ≡ moved_item M i
+
+  raw-unread : (size : ℕ) (bytes : List ℕ) (n : ℕ) → IsUnread (raw_in size bytes n)
+  raw-unread size bytes n = by (eqb size 2)
+    where
+      by : (b : Bool) → cond b (item.RawShort (half_in bytes n)) (item.Raw (word_in bytes n)) ≡ moved_item M (cond b (item.RawShort (half_in bytes n)) (item.Raw (word_in bytes n)))
+      by true = refl
+      by false = refl
+
+  goes-moved : (f : Place → Item) → ((p : Place) → f (M p) ≡ moved_item M (f p)) → (o : Option Place) (raw : Item) → IsUnread raw → option_map_or f (option_map M o) raw ≡ moved_item M (option_map_or f o raw)
+  goes-moved f same None raw u = u
+  goes-moved f same (Some p) raw u = same p
+
+  instr-clean : (q : Place) (i : Instr) (raw : Item) → IsUnread raw → Stays q → instr_item result.objects (M q) i raw ≡ moved_item M (instr_item inputs.objects q i raw)
+  instr-clean q (instr.Upper op rd imm) raw u k = refl
+  instr-clean q (instr.Jal rd d) raw u k = ap (λ o. option_map_or (item.Jump rd) o raw) (away-clean q d k) ∙ goes-moved (item.Jump rd) (λ p. refl) (target_away inputs.objects q d) raw u
+  instr-clean q (instr.Jalr rd base imm) raw u k = refl
+  instr-clean q (instr.Branch op a b d) raw u k = ap (λ o. option_map_or (item.Branch op a b) o raw) (away-clean q d k) ∙ goes-moved (item.Branch op a b) (λ p. refl) (target_away inputs.objects q d) raw u
+  instr-clean q (instr.Load op rd base imm) raw u k = refl
+  instr-clean q (instr.Store op source base imm) raw u k = refl
+  instr-clean q (instr.WithImm op rd first imm) raw u k = refl
+  instr-clean q (instr.WithReg op rd first second) raw u k = refl
+  instr-clean q (instr.Fence rest) raw u k = refl
+  instr-clean q instr.Ecall raw u k = refl
+  instr-clean q instr.Ebreak raw u k = refl
+  instr-clean q (instr.Csrrw rd source) raw u k = u
+
+  spelled-clean : (q : Place) (i : Option Instr) (raw : Item) → IsUnread raw → Stays q → spelled_item result.objects (M q) i raw ≡ moved_item M (spelled_item inputs.objects q i raw)
+  spelled-clean q None raw u k = u
+  spelled-clean q (Some i) raw u k = instr-clean q i raw u k
+
+  -- ---- items with one
+
+  of-moved : (i : Option Instr) (raw : Item) (f g : Instr → Item) → IsUnread raw → ((i : Instr) → f i ≡ moved_item M (g i)) → of_instr i raw f ≡ moved_item M (of_instr i raw g)
+  of-moved None raw f g u same = u
+  of-moved (Some i) raw f g u same = same i
+
+  to-moved : (t : Target) (f : Place → Item) (other : Item) → ((p : Place) → f (M p) ≡ moved_item M (f p)) → other ≡ moved_item M other → to_place (moved_target M t) f other ≡ moved_item M (to_place t f other)
+  to-moved (target.Code q) f other same rest = same q
+  to-moved (target.Number n) f other same rest = rest
+  to-moved (target.Absent n) f other same rest = rest
+  to-moved target.Nowhere f other same rest = rest
+
+  call-moved : (first second : Option Instr) (other : Item) (p : Place) → other ≡ moved_item M other → call_item first second other (M p) ≡ moved_item M (call_item first second other p)
+  call-moved (Some (instr.Upper op temp upper)) (Some (instr.Jalr rd base lower)) other p rest = refl
+  call-moved first second other p rest = rest
+
+  transfer-moved : (i : Instr) (raw : Item) (p : Place) → IsUnread raw → transfer_item i raw (M p) ≡ moved_item M (transfer_item i raw p)
+  transfer-moved (instr.Branch op first second d) raw p u = refl
+  transfer-moved (instr.Jal rd d) raw p u = refl
+  transfer-moved i raw p u = u
+
+  under-moved : (size : ℕ) (t : Target) (bytes : List ℕ) (n : ℕ) → transfer_under size (moved_target M t) bytes n ≡ moved_item M (transfer_under size t bytes n)
+  under-moved size t bytes n =
+      let raw = raw_in size bytes n in
+      let u = raw-unread size bytes n in
+      of-moved (instr_in size bytes n) raw (λ i. to_place (moved_target M t) (transfer_item i raw) raw) (λ i. to_place t (transfer_item i raw) raw) u (λ i. to-moved t (transfer_item i raw) raw (λ p. transfer-moved i raw p u) u)
+
+  low-unread : (t : Target) (bytes : List ℕ) (n : ℕ) → of_instr (instr_in 4 bytes n) (raw_in 4 bytes n) (λ i. to_place (moved_target M t) (item.PcLo i) (raw_in 4 bytes n)) ≡ moved_item M (of_instr (instr_in 4 bytes n) (raw_in 4 bytes n) (λ i. to_place t (item.PcLo i) (raw_in 4 bytes n)))
+  low-unread t bytes n = of-moved (instr_in 4 bytes n) (raw_in 4 bytes n) (λ i. to_place (moved_target M t) (item.PcLo i) (raw_in 4 bytes n)) (λ i. to_place t (item.PcLo i) (raw_in 4 bytes n)) refl (λ i. to-moved t (item.PcLo i) (raw_in 4 bytes n) (λ p. refl) refl)
+
+  with-moved : (f : Instr → Target → Item) (t : Target) (bytes : List ℕ) (n : ℕ) → ((i : Instr) → f i (moved_target M t) ≡ moved_item M (f i t)) → of_instr (instr_in 4 bytes n) (raw_in 4 bytes n) (λ i. f i (moved_target M t)) ≡ moved_item M (of_instr (instr_in 4 bytes n) (raw_in 4 bytes n) (λ i. f i t))
+  with-moved f t bytes n same = of-moved (instr_in 4 bytes n) (raw_in 4 bytes n) (λ i. f i (moved_target M t)) (λ i. f i t) refl same
+
+  known-moved : (k : Option RelocKind) (addend : ℤ) (t : Target) (bytes : List ℕ) (n : ℕ) → known_item k addend (moved_target M t) bytes n ≡ moved_item M (known_item k addend t bytes n)
+  known-moved None addend t bytes n = refl
+  known-moved (Some kind.Ignored) addend t bytes n = refl
+  known-moved (Some kind.Word) addend t bytes n = refl
+  known-moved (Some kind.Branch) addend t bytes n = under-moved 4 t bytes n
+  known-moved (Some kind.Jal) addend t bytes n = under-moved 4 t bytes n
+  known-moved (Some kind.Call) addend t bytes n = to-moved t (call_item (instr_in 4 bytes n) (instr_in 4 bytes (n + 4)) (raw_pair bytes n)) (raw_pair bytes n) (λ p. call-moved (instr_in 4 bytes n) (instr_in 4 bytes (n + 4)) (raw_pair bytes n) p refl) refl
+  known-moved (Some kind.PcrelHi20) addend t bytes n = with-moved item.PcHi t bytes n (λ i. refl)
+  known-moved (Some kind.PcrelLo12I) addend t bytes n = low-unread t bytes n
+  known-moved (Some kind.PcrelLo12S) addend t bytes n = low-unread t bytes n
+  known-moved (Some kind.Hi20) addend t bytes n = with-moved item.Hi t bytes n (λ i. refl)
+  known-moved (Some kind.Lo12I) addend t bytes n = with-moved item.Lo t bytes n (λ i. refl)
+  known-moved (Some kind.Lo12S) addend t bytes n = with-moved item.Lo t bytes n (λ i. refl)
+  known-moved (Some kind.RvcBranch) addend t bytes n = under-moved 2 t bytes n
+  known-moved (Some kind.RvcJump) addend t bytes n = under-moved 2 t bytes n
+  known-moved (Some kind.Align) addend t bytes n = refl
+
+  -- ---- items
+
+  -- what the relocation at an offset of a needed section leads to is needed
+  pub reloc-needed : (q : Place) (s : SectionParts) (r : Reloc) → Stays q → section_at inputs.objects q.object q.section ≡ Some s → reloc_on s q.offset ≡ Some r → IsNeededTarget needed (target_of inputs q.object r)
+  unfolding reloc_on
+  reloc-needed q s r k at is =
+      let both = found-in (λ r. is_sound s r && eqb r.offset q.offset) (λ r. asks r ≡ true → IsNeededTarget needed (target_of inputs q.object r)) s.relocs r (closed.leads q.object q.section s at k) is in
+      both.0 (sound-asks s r q.offset both.1)
+
+  item-in-clean : (q : Place) (s : SectionParts) → Stays q → section_at inputs.objects q.object q.section ≡ Some s → item_in result (asked s) (M q) ≡ moved_item M (item_in inputs s q)
+  item-in-clean q s k at =
+      ap₂ (λ r size. item_under result (M q) r size s.bytes) (reloc-same s q.offset) (size-same s q.offset)
+      ∙ by (reloc_on s q.offset) refl (size_on s q.offset)
+    where
+      by : (r : Option Reloc) → reloc_on s q.offset ≡ r → (size : ℕ) → item_under result (M q) r size s.bytes ≡ moved_item M (item_under inputs q r size s.bytes)
+      by None is size = spelled-clean q (instr_in size s.bytes q.offset) (raw_in size s.bytes q.offset) (raw-unread size s.bytes q.offset) k
+      by (Some r) is size =
+          ap (λ t. known_item (kind_of r.kind) r.addend t s.bytes q.offset) (target-clean needed number inputs result clean q.object r (reloc-needed q s r k at is))
+          ∙ known-moved (kind_of r.kind) r.addend (target_of inputs q.object r) s.bytes q.offset
+
+  pub item-clean : (q : Place) → Stays q → item_at result (M q) ≡ option_map (moved_item M) (item_at inputs q)
+  unfolding item_at
+  item-clean q k =
+      let there = closed.there q.object q.section k in
+      ap (option_and_then (item_from result (M q))) (code-at-clean q k)
+      ∙ ap (λ x. option_and_then (item_from result (M q)) (option_map asked (option_and_then code_only x))) there.at
+      ∙ by there.section there.at (is_code_section there.section)
+      ∙ ap (λ x. option_map (moved_item M) (option_and_then (item_from inputs q) (option_and_then code_only x))) (sym there.at)
+    where
+      from : (s : SectionParts) → section_at inputs.objects q.object q.section ≡ Some s → (b : Bool) → cond b (Some (item_in result (asked s) (M q))) None ≡ option_map (moved_item M) (cond b (Some (item_in inputs s q)) None)
+      from s at true = ap Some (item-in-clean q s k at)
+      from s at false = refl
+
+      by : (s : SectionParts) → section_at inputs.objects q.object q.section ≡ Some s → (b : Bool) → option_and_then (item_from result (M q)) (option_map asked (cond b (Some s) None)) ≡ option_map (moved_item M) (option_and_then (item_from inputs q) (cond b (Some s) None))
+      by s at false = refl
+      by s at true = ap (λ b. cond b (Some (item_in result (asked s) (M q))) None) (starts-same s q.offset) ∙ from s at (starts_on s q.offset)
+
+  -- ---- the start
+
+  start-only-clean : (t : Target) → IsNeededTarget needed t → start_only result.objects (moved_target M t) ≡ option_map M (start_only inputs.objects t)
+  start-only-clean (target.Code q) k = ap (λ b. cond b (Some (M q)) None) (start-clean q k) ∙ by (is_start_at inputs.objects q)
+    where
+      by : (b : Bool) → cond b (Some (M q)) None ≡ option_map M (cond b (Some q) None)
+      by true = refl
+      by false = refl
+  start-only-clean (target.Number n) k = refl
+  start-only-clean (target.Absent n) k = refl
+  start-only-clean target.Nowhere k = refl
+
+  pub entry-in-clean : entry_in result ≡ option_map M (entry_in inputs)
+  entry-in-clean =
+      ap (start_only result.objects) (name-clean needed number inputs result clean start_name closed.starts)
+      ∙ start-only-clean (name_target inputs start_name) closed.starts
+
+  pub entry-clean : entry_of result ≡ M (entry_of inputs)
+  entry-clean =
+      ap (λ e. unwrap_or e (record { object = 0; section = 0; offset = 0 })) (entry-in-clean ∙ ap (option_map M) closed.entry_is)
+      ∙ ap (λ e. M (unwrap_or e (record { object = 0; section = 0; offset = 0 }))) (sym closed.entry_is)

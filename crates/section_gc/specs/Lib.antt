@@ -1,0 +1,6 @@
+pub mod Kept
+pub mod Cleaned
+pub mod Collected
+pub mod Counts
+pub mod Graph
+pub mod Written

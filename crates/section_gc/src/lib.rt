@@ -1,0 +1,6 @@
+//! Objects without the sections of code that nothing reaches.
+#![tactic(auto)]
+
+pub mod graph;
+pub mod needed;
+pub mod section_part;
