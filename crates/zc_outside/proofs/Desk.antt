@@ -1,4 +1,4 @@
--- Takes from a console, and writes to it, after one another.
+-- Several takes from a console, and several writes to it, in sequence.
 use Rattle.std.proofs.Common.{ℕ, List, [], ◌++◌, sym, subst, IsTrue, arith}
 use Rattle.zc_outside.proofs.Kept.{KeepsBytes-refl, KeepsBytes-trans, Adds-none, Adds-Adds, Rose-earlier}
 use Rattle.zc_outside.specs.Desk.{Desk, OnlyTakes, OnlyWrites, WriteCause, Wrote}
@@ -32,7 +32,7 @@ WriteCause-after a b c OutOfMemory first cause =
 pub Wrote-none : (s : Desk) → Wrote [] [] s s
 Wrote-none s = record { out = Adds-none s.out; err = Adds-none s.err }
 
--- these bytes were written, and then those
+-- the bytes of two writes, one after the other
 pub Wrote-append :
     {out err out' err' : List ℕ} {a b c : Desk} → Wrote out err a b → Wrote out' err' b c → Wrote (out ++ out') (err ++ err') a c
 Wrote-append {out = out} {err = err} {out' = out'} {err' = err'} {a = a} {b = b} {c = c} first second =

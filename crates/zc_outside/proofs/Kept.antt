@@ -1,4 +1,4 @@
--- Calls after one another: what one kept or counted, the next finds.
+-- Calls in sequence: what one call kept or counted, the next call finds.
 use Rattle.std.proofs.Common.{◌≡◌, ℕ, ◌+◌, ◌≤◌, List, [], ◌++◌, length, take, Option, Some, None, refl, sym, ◌∙◌, ap, arith, append_assoc}
 use Rattle.std.proofs.Math.Seq.{take-append-add}
 use Rattle.std.proofs.lemmas.List.{append-nil, length-append, take-append-le}
@@ -7,7 +7,7 @@ use Rattle.zc_outside.specs.Streams.{KeepsBytes, Adds, AddsPart}
 
 -- ---- counts
 
--- a count that rose is above what it was, or stands at its last value, also after it rose further
+-- a count that rose has risen still, or is at its largest value, after it rose further
 pub Rose-later : (before now later : ℕ) → Rose before now → now ≤ later → Rose before later
 Rose-later before now later rose more = omega arith
 
@@ -55,7 +55,7 @@ KeepsFiles-PutsFile (Some f) None c name bytes kept put = absurd kept
 KeepsFiles-PutsFile (Some f) (Some g) None name bytes kept put = put
 KeepsFiles-PutsFile (Some f) (Some g) (Some h) name bytes kept put = (put.0, λ q other. put.1 q other ∙ kept q)
 
--- a file that was put stands in the files that are kept after it
+-- a file that was put is still there after calls that keep files
 pub PutsFile-KeepsFiles :
     (a b c : Option Files) (name bytes : List ℕ) → PutsFile a b name bytes → KeepsFiles b c → PutsFile a c name bytes
 PutsFile-KeepsFiles None b c name bytes put kept = tt
@@ -105,7 +105,7 @@ KeepsBytes-AddsPart (Some xs) (Some ys) None piece kept added = added
 KeepsBytes-AddsPart (Some xs) (Some ys) (Some zs) piece kept added =
     (added.0, added.1, added.2 ∙ ap (λ front. front ++ take added.0 piece) kept)
 
--- a piece that was added stands in the bytes that are kept after it
+-- a piece that was added is still there after calls that keep the bytes
 pub Adds-KeepsBytes :
     (xs ys zs : Option (List ℕ)) (piece : List ℕ) → Adds xs ys piece → KeepsBytes ys zs → Adds xs zs piece
 Adds-KeepsBytes None ys zs piece added kept = tt
@@ -113,7 +113,7 @@ Adds-KeepsBytes (Some xs) None zs piece added kept = absurd added
 Adds-KeepsBytes (Some xs) (Some ys) None piece added kept = kept
 Adds-KeepsBytes (Some xs) (Some ys) (Some zs) piece added kept = kept ∙ added
 
--- two pieces that were added after one another are one
+-- two pieces that were added one after the other are one piece
 pub Adds-Adds :
     (xs ys zs : Option (List ℕ)) (first second : List ℕ) →
     Adds xs ys first → Adds ys zs second → Adds xs zs (first ++ second)

@@ -1,4 +1,5 @@
--- The files of a store in memory: its map, seen as names and bytes, finds and takes what the map does.
+-- The files of a store in memory: its map, seen as a list of names with their bytes, looks up and inserts as the map
+-- does.
 use Rattle.std.proofs.Common.{◌≡◌, ℕ, true, false, cond, List, [], ◌∷◌, Some, refl, ap, ◌∙◌}
 use Rattle.std.specs.BTreeMap.{insert_entry}
 use Rattle.std.specs.Map.{lookup}
@@ -43,7 +44,7 @@ files_of-insert (e ∷ entries) name bytes =
       | Greater ↦ ap (λ rest. (string_bytes e.0, e.1.items) ∷ rest) (files_of-insert entries name bytes)
     ]
 
--- the name has the bytes, and each other name what it had
+-- the name has the new bytes, and all other names have the bytes that they had
 pub with_file-PutsFile :
     (files : List (List ℕ × List ℕ)) (name bytes : List ℕ) →
     PutsFile (Some (file_in files)) (Some (file_in (with_file files name bytes))) name bytes

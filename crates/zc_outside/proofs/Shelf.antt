@@ -1,4 +1,4 @@
--- Writes to a store after one another.
+-- Several writes to a store in sequence.
 use Rattle.std.proofs.Common.{arith}
 use Rattle.zc_outside.specs.Shelf.{OnlyPuts, Shelf}
 

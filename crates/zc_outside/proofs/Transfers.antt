@@ -1,10 +1,10 @@
--- Writes after one another, if the bytes are known.
+-- Several writes in sequence, if the bytes of the stream are known.
 use Rattle.std.proofs.Common.{◌≡◌, ℕ, ◌+◌, List, ◌++◌, take, drop, Option, Some, None, sym, ◌∙◌, ap, append_assoc}
 use Rattle.std.proofs.Math.Seq.{take-add}
 use Rattle.std.specs.Io.KnownBytes.{Keeps, Appends}
 use Rattle.zc_outside.specs.Streams.{Adds}
 
--- what was added stands in the bytes that are kept after it
+-- a piece that was added is still there after calls that keep the bytes
 pub Adds-Keeps : (xs ys zs : Option (List ℕ)) (piece : List ℕ) → Adds xs ys piece → Keeps ys zs → Adds xs zs piece
 Adds-Keeps None ys zs piece added kept = tt
 Adds-Keeps (Some xs) None zs piece added kept = absurd added

@@ -1,4 +1,4 @@
--- Reads of files after one another.
+-- Several reads of files in sequence.
 use Rattle.std.proofs.Common.{◌≡◌, ◌≢◌, ℕ, ◌+◌, ◌<◌, length, take, drop, map, get_or, inl, inr, List, [], ◌∷◌, ◌++◌, Option, Some, IsTrue, refl, sym, ap, ◌∙◌, arith}
 use Rattle.std.proofs.lemmas.List.{map-append, take_more, take-append-drop}
 use Rattle.std.specs.Global.{Global}
@@ -30,12 +30,12 @@ KeepsFiles-AreHeld : (a b : Option Files) (wanted : List Wanted) → KeepsFiles 
 KeepsFiles-AreHeld a b [] kept held = tt
 KeepsFiles-AreHeld a b (file ∷ wanted) kept held = (KeepsFiles-Holds a b file.name kept held.0, KeepsFiles-AreHeld a b wanted kept held.1)
 
--- a file that is too long among the first is so among all
+-- if one of the first files is too long, one of all files is
 IsOneLong-front : (files : Option Files) (first rest : List Wanted) → IsOneLong files first → IsOneLong files (first ++ rest)
 IsOneLong-front files [] rest long = absurd long
 IsOneLong-front files (file ∷ first) rest long = elim long [ inl here ↦ inl here | inr later ↦ inr (IsOneLong-front files first rest later) ]
 
--- one file among the others is too long
+-- if one of the files after the first ones is too long, one of all files is
 IsOneLong-rest : (files : Option Files) (first rest : List Wanted) → IsOneLong files rest → IsOneLong files (first ++ rest)
 IsOneLong-rest files [] rest long = long
 IsOneLong-rest files (file ∷ first) rest long = inr (IsOneLong-rest files first rest long)
@@ -57,7 +57,7 @@ KeepsFiles-AreRead a b (file ∷ wanted) [] kept read = absurd read
 KeepsFiles-AreRead a b (file ∷ wanted) (x ∷ bytes) kept read =
     (record { held = KeepsFiles-HasFile a b file.name x kept read.0.held; short = read.0.short }, KeepsFiles-AreRead a b wanted bytes kept read.1)
 
--- some files, and then others
+-- some files were read, and then the others
 pub AreRead-append :
     (files : Option Files) (first rest : List Wanted) (bytes others : List (List ℕ)) →
     AreRead files first bytes → AreRead files rest others → AreRead files (first ++ rest) (bytes ++ others)
@@ -76,7 +76,7 @@ ReadsAll-none s = record { files = KeepsFiles-refl s.files; reads = omega arith;
 pub ReadsAll-one : (file : Wanted) {a b : Shelf} → OnlyReads file.name file.limit a b → ReadsAll (file ∷ []) a b
 ReadsAll-one file reads = grind arith
 
--- some files were read, and then others
+-- some files were read, and then the others: what both do to the store
 pub ReadsAll-append :
     {first rest : List Wanted} {a b c : Shelf} → ReadsAll first a b → ReadsAll rest b c → ReadsAll (first ++ rest) a c
 ReadsAll-append {first = first} {rest = rest} {a = a} {b = b} {c = c} read next = record {
@@ -114,7 +114,7 @@ ReadsAll-front {first = first} rest {a = a} {b = b} reads = record {
       (counted.0, elim counted.1 [ inl same ↦ inl same | inr long ↦ inr (IsOneLong-front a.files first rest long) ]);
 }
 
--- ---- why files can't be had
+-- ---- why files can't be read
 
 -- one file can't be read
 pub AreUnread-one :
@@ -123,14 +123,14 @@ AreUnread-one file a b Failed other cause = inl (cause.0, λ sure held. cause.1 
 AreUnread-one file a b (TooLong taken) other cause = inr (cause.0, inl cause.2)
 AreUnread-one file a b OutOfMemory other cause = absurd (other refl)
 
--- the first files can't
+-- one of the first files can't be read, so not all can
 pub AreUnread-front : (first rest : List Wanted) (a b : Shelf) → AreUnread first a b → AreUnread (first ++ rest) a b
 AreUnread-front first rest a b unread = elim unread [
   | inl failed ↦ inl (failed.0, λ sure held. failed.1 sure (AreHeld-front a.files first rest held))
   | inr long ↦ inr (long.0, IsOneLong-front a.files first rest long.1)
 ]
 
--- the first files were read, and the others can't be had
+-- the first files were read, and one of the others can't be, so not all can
 pub AreUnread-rest :
     (first rest : List Wanted) (a b c : Shelf) → ReadsAll first a b → AreUnread rest b c → AreUnread (first ++ rest) a c
 AreUnread-rest first rest a b c read unread = elim unread [
@@ -144,9 +144,9 @@ AreUnread-rest first rest a b c read unread = elim unread [
       )
 ]
 
--- ---- files that are told
+-- ---- stores that tell their files
 
--- the files have one list of bytes
+-- files that are read twice have the same bytes
 pub AreRead-same :
     (f : Files) (wanted : List Wanted) (xs ys : List (List ℕ)) → AreRead (Some f) wanted xs → AreRead (Some f) wanted ys → xs ≡ ys
 AreRead-same f [] [] [] read again = refl
@@ -177,7 +177,7 @@ AreRead-not-long f (file ∷ wanted) (x ∷ xs) read long = elim long [
   | inr later ↦ AreRead-not-long f wanted xs read.1 later
 ]
 
--- a sure store that holds them, none too long, gives no cause to call them unread
+-- if a sure store holds all the files and no file is too long, `AreUnread` doesn't hold
 pub AreUnread-sure :
     (wanted : List Wanted) (a b : Shelf) → IsTrue a.sure → AreHeld a.files wanted → ¬ IsOneLong a.files wanted → ¬ AreUnread wanted a b
 AreUnread-sure wanted a b sure held short unread =
@@ -185,7 +185,7 @@ AreUnread-sure wanted a b sure held short unread =
 
 -- ---- a loop over names, of which some were read
 
--- the first names, and then the others
+-- a list of names is the first ones followed by the others
 each_within-split :
     (limit : ℕ) (names : List (String Global)) (i : ℕ) →
     each_within limit (map string_bytes names)
@@ -193,15 +193,15 @@ each_within-split :
 each_within-split limit names i = ap (λ all. each_within limit (map string_bytes all)) (sym (take-append-drop i names)) ∙ simp map-append
 
 module _ (limit : ℕ) (names : List (String Global)) (i : ℕ) (name : String Global) (within : i < length names) (is : name ≡ get_or names i name) where
-  -- the file of the name at hand
+  -- the file of the current name
   abbrev file : Wanted
   file = record { name = string_bytes name; limit = limit }
 
-  -- the next file joins those before it
+  -- one more file after the ones before it
   each_within-more : each_within limit (map string_bytes (take (i + 1) names)) ≡ each_within limit (map string_bytes (take i names)) ++ file ∷ []
   each_within-more = ap (λ front. each_within limit (map string_bytes front)) (take_more names i name within ∙ ap (λ x. take i names ++ x ∷ []) (sym is)) ∙ simp map-append
 
-  -- once its bytes are read
+  -- the current file was read, like the ones before it
   pub AreRead-more :
       (a b : Option Files) (bytes : List (List ℕ)) (next : List ℕ) → KeepsFiles a b →
       AreRead a (each_within limit (map string_bytes (take i names))) bytes → IsRead b file next →
@@ -210,7 +210,7 @@ module _ (limit : ℕ) (names : List (String Global)) (i : ℕ) (name : String G
       let front = each_within limit (map string_bytes (take i names)) in
       rw each_within-more (AreRead-append a front (file ∷ []) bytes (next ∷ []) read (KeepsFiles-AreRead a b (file ∷ []) (next ∷ []) kept (last, tt)))
 
-  -- its read joins the reads before it
+  -- the read of the current file, after the reads before it
   pub ReadsAll-more :
       {a b c : Shelf} → ReadsAll (each_within limit (map string_bytes (take i names))) a b → ReadsAll (file ∷ []) b c →
       ReadsAll (each_within limit (map string_bytes (take (i + 1) names))) a c

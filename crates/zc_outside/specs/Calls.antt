@@ -1,4 +1,4 @@
--- Numbered calls and counts, as far as a program's numbers count.
+-- Numbered calls and counts, each up to the largest value of its type.
 use Rattle.std.specs.Prelude.{ℕ, ◌+◌, ◌-◌, ◌^◌, min}
 
 -- the number of the next call, in 32 bits

@@ -3,8 +3,8 @@ use Rattle.std.specs.Prelude.{◌≡◌, ℕ, ◌+◌, ◌<◌, ◌≤◌, ◌==
 use Rattle.zc_outside.specs.Desk.{Desk, WriteCause, Wrote}
 use Rattle.zc_outside.specs.declared.console.ConsoleFault.{ConsoleFault}
 
--- a run: the state after each number of steps, or what stopped the machine before; of a state, the exit's status and the bytes
--- that were written so far to the stream with a number (1 is the output, 2 the output for errors); and how many steps it may make
+-- a run: the state after each number of steps, or what stopped the machine before it; for a state, the exit's status
+-- and the bytes written so far to each stream (1 is the output, 2 the output for errors); and the limit of steps
 pub record Course (State Stop : Type 0) : Type 0 where
   pub after : ℕ → Result State Stop
   pub exit : State → Option ℕ
@@ -13,7 +13,7 @@ pub record Course (State Stop : Type 0) : Type 0 where
 
 -- ---- one write
 
--- what bytes for a stream are on the stream with this number
+-- what a write to one stream puts on the stream with this number: its bytes, or nothing if it is the other stream
 abbrev pub sent : ℕ → List ℕ → ℕ → List ℕ
 sent stream bytes number = if stream == number then bytes else []
 
@@ -21,7 +21,7 @@ sent stream bytes number = if stream == number then bytes else []
 abbrev pub WroteTo : ℕ → List ℕ → Desk → Desk → Type 0
 WroteTo stream bytes before after = Wrote (sent stream bytes 1) (sent stream bytes 2) before after
 
--- the first of these bytes were written to the stream, but not all
+-- a first part of these bytes was written to the stream, but not all of them
 pub record WrotePart (stream : ℕ) (bytes : List ℕ) (before after : Desk) : Type 0 where
   pub count : ℕ
   pub part : count < length bytes
@@ -51,13 +51,13 @@ pub record EndsEarly {State Stop : Type 0} (run : Course State Stop) (before aft
   pub within : count < run.steps
   pub made : EndsAfter run count before after
 
--- the run ended early in this sense, and the next step stops the machine
+-- the run ended early (`EndsEarly`), and the next step stops the machine
 pub record EndsWithStop {State Stop : Type 0} (run : Course State Stop) (stop : Stop) (before after : Desk) : Type 0 where
   pub early : EndsEarly run before after
   pub next : run.after (early.count + 1) ≡ Err stop
 
--- the next step is a write that the console refused: all that was written before is on the streams, and the first bytes of this
--- write, but not all
+-- the next step is a write that the console refused: the streams have all that was written before it, and at most a
+-- first part of its bytes
 pub record EndsWithRefusal {State Stop : Type 0} (run : Course State Stop) (fault : ConsoleFault) (before after : Desk) : Type 0 where
   pub between : Desk
   pub early : EndsEarly run before between
@@ -69,14 +69,14 @@ pub record EndsWithRefusal {State Stop : Type 0} (run : Course State Stop) (faul
   pub wrote : WrotePart stream bytes between after
   pub cause : WriteCause before after fault
 
--- ---- ends, whatever a console shows of them
+-- ---- ends, apart from what a console shows
 
--- an exit: what the program has then written to its output, and its status
+-- an exit: what the program has written to its output by then, and its status
 pub record Exit : Type 0 where
   pub bytes : List ℕ
   pub status : ℕ
 
--- the program comes to this exit at step `count` and no earlier, within the steps that it may make
+-- the program exits so at step `count` and no earlier, within the limit of steps
 pub record ExitsAt {State Stop : Type 0} (run : Course State Stop) (count : ℕ) (exit : Exit) : Type 0 where
   pub within : count ≤ run.steps
   pub last : State

@@ -5,9 +5,9 @@ use Rattle.zc_outside.specs.declared.console.ConsoleFault.TheVariants.{Failed, O
 use Rattle.zc_outside.specs.Files.{Rose}
 use Rattle.zc_outside.specs.Streams.{Adds, KeepsBytes}
 
--- what a console shows: the input that is left and what was written, if it tells them; how many reads and writes failed, and how
--- many of each were refused because memory ran out; how many bytes left the input; and whether it is sure: then no call of it
--- fails, unless memory runs out
+-- what a console shows: the input that is left and what was written, if it tells them; how many reads and writes
+-- failed, and how many were refused because memory ran out; how many bytes left the input; and whether it is sure: then
+-- no call fails, unless memory runs out
 pub record Desk : Type 0 where
   pub input : Option (List ℕ)
   pub out : Option (List ℕ)
@@ -19,8 +19,8 @@ pub record Desk : Type 0 where
   pub taken : ℕ
   pub sure : Bool
 
--- what taking input does to a console beside the input: nothing is written, and of its counts only those of reads and of
--- bytes taken may rise; that of reads that failed doesn't if the console is sure
+-- what taking input does to a console apart from the input: nothing is written, and only the counts of reads and of
+-- bytes taken may rise; the count of failed reads doesn't if the console is sure
 pub record OnlyTakes (before after : Desk) : Type 0 where
   pub out : KeepsBytes before.out after.out
   pub err : KeepsBytes before.err after.err
@@ -32,8 +32,8 @@ pub record OnlyTakes (before after : Desk) : Type 0 where
   pub sure : after.sure ≡ before.sure
   pub counted : IsTrue before.sure → after.read_faults ≡ before.read_faults
 
--- what writing does to a console beside what is written: the input stays, and of its counts only those of writes may rise;
--- that of writes that failed doesn't if the console is sure
+-- what writing does to a console apart from what is written: the input stays, and only the counts of writes may rise;
+-- the count of failed writes doesn't if the console is sure
 pub record OnlyWrites (before after : Desk) : Type 0 where
   pub input : KeepsBytes before.input after.input
   pub reads : after.read_faults ≡ before.read_faults
@@ -49,12 +49,12 @@ pub record Wrote (to_out to_err : List ℕ) (before after : Desk) : Type 0 where
   pub out : Adds before.out after.out to_out
   pub err : Adds before.err after.err to_err
 
--- what a refused take shows: the count of its kind rose, and it failed only if the console isn't sure
+-- what a refused take shows: the count for its cause rose, and it failed only if the console isn't sure
 abbrev pub TakeCause : Desk → Desk → ConsoleFault → Type 0
 TakeCause before after Failed = Rose before.read_faults after.read_faults × (IsTrue before.sure → ⊥)
 TakeCause before after OutOfMemory = Rose before.read_memory_faults after.read_memory_faults
 
--- what a refused write shows, likewise
+-- what a refused write shows: the count for its cause rose, and it failed only if the console isn't sure
 abbrev pub WriteCause : Desk → Desk → ConsoleFault → Type 0
 WriteCause before after Failed = Rose before.write_faults after.write_faults × (IsTrue before.sure → ⊥)
 WriteCause before after OutOfMemory = Rose before.write_memory_faults after.write_memory_faults

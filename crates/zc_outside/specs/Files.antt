@@ -5,7 +5,7 @@ use Rattle.std.specs.Prelude.{◌≡◌, ◌≢◌, ℕ, ◌+◌, ◌-◌, ◌^�
 abbrev pub Files : Type 0
 Files = List ℕ → Option (List ℕ)
 
--- a 64-bit count that rose, or stands at its last value
+-- a 64-bit count that rose, or is at its largest value
 abbrev pub Rose : ℕ → ℕ → Type 0
 Rose before now = min (before + 1) (2 ^ 64 - 1) ≤ now
 

@@ -14,7 +14,7 @@ pub record ConsoleState : Type 0 where
   pub err : List ℕ
   -- the numbers of the calls that fail
   pub fails : List ℕ
-  -- the number of calls that were made, which is the number of the next
+  -- the number of calls made, which is the next call's number
   pub calls : ℕ
   pub read_faults : ℕ
   pub write_faults : ℕ
@@ -22,8 +22,8 @@ pub record ConsoleState : Type 0 where
   -- the number of bytes that left the input
   pub taken : ℕ
 
--- what the console shows: it tells all its bytes, and is sure if it was made with no call that fails; memory never runs out in a
--- take
+-- what the console shows: it tells all its bytes, and is sure if it was made with no call that fails; a take never runs
+-- out of memory
 abbrev pub desk_of : ConsoleState → Desk
 desk_of c = record {
   input = Some c.input;
@@ -43,7 +43,7 @@ after_take c (Ok n) = record c { input = drop n c.input; calls = next_call c.cal
 after_take c (Err Failed) = record c { calls = next_call c.calls; read_faults = more c.read_faults 1 }
 after_take c (Err OutOfMemory) = record c { calls = next_call c.calls }
 
--- what a write counts: an empty piece is no call, and a refusal is counted by its kind
+-- what a write counts: an empty piece is no call, and a refusal is counted by its cause
 abbrev pub after_write : {A : Type 0} → ConsoleState → List ℕ → Result A ConsoleFault → ConsoleState
 after_write c [] result = c
 after_write c (byte ∷ piece) (Ok done) = record c { calls = next_call c.calls }

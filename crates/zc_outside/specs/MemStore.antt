@@ -23,8 +23,8 @@ with_file files name bytes = put (slice_cmp nat_cmp) name bytes files
 abbrev pub files_of : List (String Global × Vec ℕ) → List (List ℕ × List ℕ)
 files_of entries = map (λ e. (string_bytes e.0, e.1.items)) entries
 
--- the state of a store in memory: its files, each name with its bytes, in the names' order; the numbers of its calls that fail;
--- the number of calls that were made, which is the number of the next; and its counts
+-- the state of a store in memory: its files, each name with its bytes, in the names' order; the numbers of the calls
+-- that fail; the number of calls made, which is the next call's number; and its counts
 pub record StoreState : Type 0 where
   pub files : List (List ℕ × List ℕ)
   pub fails : List ℕ
@@ -59,14 +59,14 @@ too_longs (Err Failed) = 0
 too_longs (Err (TooLong taken)) = 1
 too_longs (Err OutOfMemory) = 0
 
--- how often a call was refused for want of memory
+-- how often a call was refused because memory ran out
 abbrev pub memory_failures : {A : Type 0} → Result A StoreFault → ℕ
 memory_failures (Ok done) = 0
 memory_failures (Err Failed) = 0
 memory_failures (Err (TooLong taken)) = 0
 memory_failures (Err OutOfMemory) = 1
 
--- a read is one call, and counts its refusal by its kind
+-- a read is one call, and a refusal is counted by its cause
 abbrev pub after_get : {A : Type 0} → StoreState → Result A StoreFault → StoreState
 after_get s result = record s {
   calls = next_call s.calls;
@@ -79,7 +79,7 @@ abbrev pub files_after : {A : Type 0} → List (List ℕ × List ℕ) → List �
 files_after files name bytes (Ok done) = with_file files name bytes
 files_after files name bytes (Err fault) = files
 
--- a write is one call, and counts its refusal by its kind
+-- a write is one call, and a refusal is counted by its cause
 abbrev pub after_put : {A : Type 0} → StoreState → List ℕ → List ℕ → Result A StoreFault → StoreState
 after_put s name bytes result = record s {
   files = files_after s.files name bytes result;

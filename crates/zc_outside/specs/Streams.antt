@@ -7,8 +7,8 @@ KeepsBytes None after = ⊤
 KeepsBytes (Some xs) None = ⊥
 KeepsBytes (Some xs) (Some ys) = ys ≡ xs
 
--- if the input was told: its first n bytes moved into the front of a buffer, and a buffer with room gets none exactly if no
--- input was left
+-- if the input was told: its first n bytes moved to the start of a buffer, and a buffer that isn't empty gets no byte
+-- exactly if no input was left
 abbrev pub Takes : Option (List ℕ) → Option (List ℕ) → List ℕ → List ℕ → ℕ → Type 0
 Takes None after buf buf' n = ⊤
 Takes (Some xs) None buf buf' n = ⊥

@@ -36,7 +36,7 @@ abbrev pub IsOneLong : Option Files → List Wanted → Type 0
 IsOneLong files [] = ⊥
 IsOneLong files (file ∷ wanted) = IsLong files file.name file.limit ⊎ IsOneLong files wanted
 
--- what reading these files, or the first of them, does to a store: its files stay, and of its counts only those of reads may
+-- what reading these files, or the first of them, does to a store: its files stay, and only the counts of reads may
 -- rise; if the store is sure and holds all the names, no read failed, and only a file that is too long was counted
 pub record ReadsAll (wanted : List Wanted) (before after : Shelf) : Type 0 where
   pub files : KeepsFiles before.files after.files
@@ -49,13 +49,14 @@ pub record ReadsAll (wanted : List Wanted) (before after : Shelf) : Type 0 where
       IsTrue before.sure → AreHeld before.files wanted →
       (after.read_faults ≡ before.read_faults) × ((after.long_files ≡ before.long_files) ⊎ IsOneLong before.files wanted)
 
--- why files can't be had: a read failed, and the store isn't sure or doesn't hold all the names; or a file is too long
+-- why the files can't be read: a read failed, and the store isn't sure or doesn't hold all the names; or a file is too
+-- long
 abbrev pub AreUnread : List Wanted → Shelf → Shelf → Type 0
 AreUnread wanted before after =
     (Rose before.read_faults after.read_faults × (IsTrue before.sure → AreHeld before.files wanted → ⊥))
     ⊎ (Rose before.long_files after.long_files × IsOneLong before.files wanted)
 
--- what a refusal to read them shows: that, or memory ran out
+-- what a refusal to read the files shows: one of the causes of `AreUnread`, or memory ran out
 abbrev pub ReadCause : List Wanted → Shelf → Shelf → ReadFault → Type 0
 ReadCause wanted before after Unread = AreUnread wanted before after
 ReadCause wanted before after OutOfMemory = ⊤

@@ -1,4 +1,4 @@
-// The numbers of calls, and which of them fail.
+// Numbered calls, of which some are to fail.
 
 ghost use Rattle.std.specs.Prelude.{◌≡◌, ◌↔◌, Contains, IfOk, IsTrue};
 ghost use Rattle.zc_outside.specs.Calls.{next_call};
@@ -13,7 +13,7 @@ pub struct NumberedCalls {
 }
 
 impl NumberedCalls {
-    /// No call so far, and those with these numbers will fail.
+    /// No call was made yet; the calls with these numbers will fail.
     pub fn new(alloc: Global, failing: &[u32]) -> Result<NumberedCalls, AllocError>
         ensures failing { IfOk result (λ c. c.failing.items ≡ failing.now) }
         ensures none { IfOk result (λ c. c.made ≡ 0) }
@@ -22,7 +22,7 @@ impl NumberedCalls {
         Ok(NumberedCalls { failing, made: 0 })
     }
 
-    /// Counts a call, and says whether it fails. The count stays at its last value.
+    /// Counts a call, and returns whether it is to fail. The count stops at its largest value.
     pub fn next_fails(&mut self) -> bool
         ensures listed { IsTrue result ↔ Contains self.old.failing.items self.old.made }
         ensures counted { self.new.made ≡ next_call self.old.made }

@@ -17,16 +17,16 @@ pub enum ConsoleFault {
 
 /// An input and two outputs, and how often reading and writing them went wrong.
 ///
-/// A console shows a `Desk`. It tells a stream if the `Desk` has its bytes, of the input those that are
-/// left and of an output those written so far; if it doesn't, no clause says what they are. A console
-/// that is sure stays so, and answers `Failed` to no call. The counts are 64-bit counters that never
-/// fall and stay at their last value: `read_faults` and `write_faults` count the calls that answer
-/// `Failed`, `read_memory_faults` and `write_memory_faults` those that are refused for want of memory,
-/// `taken` the bytes that left the input.
+/// A console shows a `Desk`. It tells a stream if the `Desk` has the stream's bytes: those left of the
+/// input, or those written so far to an output. If it doesn't, no clause says what they are. A console
+/// that is sure stays so, and returns `Failed` from no call. The counts are 64-bit counters that never
+/// fall and stop at their largest value: `read_faults` and `write_faults` count the calls that return
+/// `Failed`, `read_memory_faults` and `write_memory_faults` those that run out of memory, and `taken`
+/// the bytes that left the input.
 pub trait Console {
     ghost shown: { Self → Desk };
 
-    /// Reads up to a buffer's length of input into its front, and returns the number of bytes.
+    /// Reads up to a buffer's length of input to its start, and returns the number of bytes.
     ///
     /// After a refusal the buffer may hold anything.
     fn take(&mut self, buf: &mut [u8]) -> Result<usize, ConsoleFault>

@@ -14,10 +14,10 @@ use std::io::Read;
 use std::rt::{Files, Process};
 use std::{fs, process};
 
-// The most that one read of a file asks for.
+// The most bytes that one read of a file asks for.
 const PIECE: usize = 8192;
 
-/// The files of the system, by path. What stands in them is outside this program, so it isn't told.
+/// The files of the system, by path. Their content is outside this program, so the store doesn't tell it.
 #[derive(Drop)]
 pub struct DiskStore<R> {
     rt: R,
@@ -31,7 +31,7 @@ pub struct DiskStore<R> {
 }
 
 impl<R: Files + AllocGlobal> DiskStore<R> {
-    /// The files of a runtime. The process's number is part of the names of its new files.
+    /// The files of a runtime. The process's number is part of the names of temporary files.
     pub fn new(rt: R, process: Process) -> DiskStore<R>
         ensures { ⟦<DiskStore<R> as Store>⟧.shown result ≡
             record {
@@ -67,8 +67,8 @@ impl<R: Files + AllocGlobal> Store for DiskStore<R> {
       sure = false;
     } };
 
-    /// Takes at most `limit + 1` bytes of the file, in small pieces. A regular file's length says no
-    /// more than how much room is made at first, so a pipe or a device is read as a file is.
+    /// Reads at most `limit + 1` bytes of the file, in small pieces. A regular file's length only
+    /// decides how much room is reserved at first, so pipes and devices are read in the same way.
     fn get(&mut self, alloc: Global, name: &str, limit: u32) -> Result<Vec<u8>, StoreFault> {
         let most = limit as usize + 1;
         let read = match fs::open(&self.rt, name) {
@@ -88,11 +88,11 @@ impl<R: Files + AllocGlobal> Store for DiskStore<R> {
         }
     }
 
-    /// A regular file is written as a new file beside it, which has its permissions, is synced, and
-    /// then takes its name, so a refusal leaves it as it was; only a folder that can't be synced is
-    /// refused after that. A symbolic link stays, and the file that it names is replaced. A file that
-    /// was put here under another name is refused. What is there and is no regular file, as a device
-    /// or a pipe, is written in place, and a refusal there may come after a part was written.
+    /// A regular file is written to a new file in the same folder, which gets the old file's
+    /// permissions, is synced, and is then renamed over it. So a refusal leaves the old file as it
+    /// was, except when only the folder can't be synced. A symbolic link stays, and the file that it
+    /// names is replaced. A file that was put here under another name is refused. What is no regular
+    /// file, such as a device or a pipe, is written in place, and may be refused halfway.
     fn put(&mut self, name: &str, bytes: &[u8]) -> Result<(), StoreFault> {
         match put_file(&self.rt, self.id, &mut self.placed, name, bytes) {
             Ok(()) => Ok(()),
@@ -103,7 +103,7 @@ impl<R: Files + AllocGlobal> Store for DiskStore<R> {
     }
 }
 
-// No bytes yet, with room for those of a regular file, or for `most` if it has more.
+// An empty list, with room for the bytes of a regular file, but for no more than `most`.
 fn room_for<F: OpenFile>(alloc: Global, file: &F, most: usize) -> Result<Vec<u8>, Trouble>
     ensures { IfOk result (λ bytes. bytes.items ≡ []) }
 {
@@ -114,8 +114,8 @@ fn room_for<F: OpenFile>(alloc: Global, file: &F, most: usize) -> Result<Vec<u8>
     Ok(Vec::new(alloc))
 }
 
-// All bytes that a reader has left, or none if these are `most` or more. They come through a buffer into a list that is
-// empty so far.
+// All bytes that a reader has left, or `None` if there are `most` or more. They go through a buffer into `bytes`, which
+// is empty.
 fn read_below<F: Read>(
     mut bytes: Vec<u8>,
     file: &mut F,
@@ -137,7 +137,7 @@ fn read_below<F: Read>(
     Ok(None)
 }
 
-// Reads a piece and adds it to the bytes so far, which become at most `most`, and returns its length.
+// Reads a piece, appends it to the bytes so far, which become at most `most`, and returns its length.
 fn read_piece<F: Read>(
     file: &mut F,
     buf: &mut [u8; PIECE],

@@ -11,13 +11,13 @@ use std::io::ErrorKind;
 use std::os::unix::fs::PermissionsExt;
 use std::rt::Files;
 
-// Who may read, write and run a file, without the bits that give it a user's or a group's rights.
+// The permission bits for reading, writing and running a file, without set-user-ID, set-group-ID and the sticky bit.
 const RIGHTS: u32 = 0o777;
 
 /// Writes a file under a name, and remembers it in `placed`. `id` is the number of this process.
 ///
-/// A regular file keeps its bytes if this is refused, unless only the folder couldn't be synced. A
-/// file of `placed` is refused under another name than its own.
+/// If this is refused, a regular file keeps its bytes, unless only the folder couldn't be synced. A
+/// file of `placed` is refused under any other name than its own.
 pub fn put_file<R: Files + AllocGlobal>(
     rt: &R,
     id: u32,
@@ -36,7 +36,7 @@ pub fn put_file<R: Files + AllocGlobal>(
     Ok(())
 }
 
-// Writes a file, and says which it is if it is a regular one.
+// Writes a file, and returns which file it is if it is a regular one.
 fn write_file<R: Files + AllocGlobal>(
     rt: &R,
     id: u32,
@@ -55,7 +55,7 @@ fn write_file<R: Files + AllocGlobal>(
     }
 }
 
-// Writes a regular file that is there.
+// Replaces an existing regular file.
 fn write_over<R: Files + AllocGlobal>(
     rt: &R,
     id: u32,
@@ -69,8 +69,8 @@ fn write_over<R: Files + AllocGlobal>(
         return Err(Trouble::System);
     }
     let target = link_target(rt, name)?;
-    // A link of the system's own may lead to a file without a name, as that of an open file that was
-    // removed.
+    // A link of the system's own, such as one in /proc to an open file that was removed, may lead to a
+    // file that has no name.
     if !is_named(rt, target.as_str(), file)? {
         return write_in_place(rt, name, bytes);
     }
@@ -78,7 +78,7 @@ fn write_over<R: Files + AllocGlobal>(
     Ok(Some(replace(rt, id, target.as_str(), bytes, Some(rights))?))
 }
 
-// Writes what is no regular file, as a device or a pipe, and creates nothing.
+// Writes to what is no regular file, such as a device or a pipe, and creates nothing.
 fn write_in_place<R: Files>(rt: &R, name: &str, bytes: &[u8]) -> Result<Option<FileId>, Trouble> {
     let mut file = OpenOptions::new()
         .write(true)

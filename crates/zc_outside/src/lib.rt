@@ -1,5 +1,5 @@
-//! The world outside: a store of files and a console, as traits that say what their calls mean, and
-//! two implementations of each, one in memory and one over the system.
+//! The outside world: a store of files and a console, as traits whose contracts say what their calls
+//! mean, and two implementations of each, one in memory and one over the system.
 #![tactic(auto)]
 
 mod calls;

@@ -7,10 +7,10 @@ use std::fs;
 use std::io::ErrorKind;
 use std::rt::Files;
 
-// The number of links that are followed, as many as Linux follows.
+// The most links that are followed; Linux has the same limit.
 const LINKS: u32 = 40;
 
-/// The name at the end of the symbolic links that begin at a name. Nothing need be there.
+/// The name at the end of a chain of symbolic links. No file need exist under it.
 pub fn link_target<R: Files + AllocGlobal>(rt: &R, name: &str) -> Result<String, Trouble> {
     let mut target = String::from_str(rt.alloc(), name)?;
     for _ in 0..LINKS {
@@ -25,12 +25,12 @@ pub fn link_target<R: Files + AllocGlobal>(rt: &R, name: &str) -> Result<String,
     Err(Trouble::System)
 }
 
-// Whether a link can't be read since the name is none, or nothing is there.
+// Whether a link can't be read because the name isn't a link, or nothing exists under it.
 fn is_no_link(kind: ErrorKind) -> bool {
     kind == ErrorKind::InvalidInput || kind == ErrorKind::NotFound
 }
 
-// The name that a link's text stands for: it starts at the link's folder, or at the root.
+// The name that a link's text means: relative to the link's folder, or absolute.
 fn name_from(alloc: Global, link: &str, text: &str) -> Result<String, AllocError> {
     match link.rsplit_once('/') {
         Some((folder, _)) if !text.starts_with('/') => format!(in alloc; "{folder}/{text}"),
@@ -38,7 +38,7 @@ fn name_from(alloc: Global, link: &str, text: &str) -> Result<String, AllocError
     }
 }
 
-/// Whether a name is this file's own, and no link.
+/// Whether a name is this file itself, and no link to it.
 pub fn is_named<R: Files>(rt: &R, name: &str, file: FileId) -> Result<bool, Trouble> {
     match fs::symlink_metadata(rt, name) {
         Ok(there) => Ok(FileId::of(&there).is(file)),

@@ -11,9 +11,9 @@ use std::marker::Model;
 
 /// An input and two outputs in memory.
 ///
-/// The calls of `take`, `out` and `err` are numbered from 0 together, and those whose numbers the
-/// console was made with fail and move nothing. The number after 2^32 - 1 is that number again. A
-/// call of `out` or `err` with an empty piece has no number.
+/// The calls of `take`, `out` and `err` are numbered together, from 0; those whose numbers were given
+/// to `new` fail and move nothing. Numbers stop at 2^32 - 1, which all later calls have too. A call of
+/// `out` or `err` with an empty piece has no number.
 #[derive(Drop)]
 pub struct MemConsole {
     input: Vec<u8>,
@@ -106,7 +106,7 @@ impl MemConsole {
         Ok(())
     }
 
-    // Refuses a write for which there was no memory, and counts that.
+    // Refuses a write that ran out of memory, and counts that.
     fn finish_write(&mut self, grown: Result<(), AllocError>) -> Result<(), ConsoleFault>
         ensures ok { OnOk grown (IsOk result × (self.new ≡ self.old)) }
         ensures err { OnErr grown (IsErrOf result ConsoleFault.OutOfMemory × (self.new ≡
@@ -123,7 +123,7 @@ impl MemConsole {
 impl Console for MemConsole {
     ghost shown = { desk_of };
 
-    /// Moves as many bytes as the input has left and the buffer has room for; memory never runs out.
+    /// Moves as many bytes as the input has left and the buffer has room for; it never runs out of memory.
     fn take(&mut self, buf: &mut [u8]) -> Result<usize, ConsoleFault>
         ensures moves { IfOk result (λ n. n ≡ min (length self.old.input) (length buf.old)) }
         ensures buffer { IfOk result (λ n. buf.new ≡ take n self.old.input ++ drop n buf.old) }

@@ -13,8 +13,8 @@ use std::marker::Model;
 
 /// Files in memory.
 ///
-/// The calls of `get` and `put` are numbered from 0 together, and those whose numbers the store was
-/// made with fail. The number after 2^32 - 1 is that number again.
+/// The calls of `get` and `put` are numbered together, from 0; those whose numbers were given to `new`
+/// fail. Numbers stop at 2^32 - 1, which all later calls have too.
 #[derive(Drop)]
 pub struct MemStore {
     alloc: Global,
@@ -68,7 +68,7 @@ impl MemStore {
         })
     }
 
-    /// Makes a name hold these bytes. This is no numbered call.
+    /// Stores these bytes under a name. This is no numbered call.
     pub fn add(&mut self, name: &str, bytes: &[u8]) -> Result<(), AllocError>
         ensures ok { OnOk result (self.new ≡
             record self.old { files = with_file self.old.files name.now bytes.now }) }
@@ -94,7 +94,7 @@ impl MemStore {
 impl Store for MemStore {
     ghost shown = { shelf_of };
 
-    /// Fails too if the name isn't held.
+    /// Also fails if the store doesn't hold the name.
     fn get(&mut self, alloc: Global, name: &str, limit: u32) -> Result<Vec<u8>, StoreFault>
         requires { limit < 2 ^ 32 - 1 }
         ensures within { IfOk result (λ v. length v.items ≤ limit) }

@@ -1,4 +1,4 @@
-// A file of the system that is written as a new file, which then takes its name.
+// Replacing a file of the system by a new one that is renamed over it.
 
 use crate::placed::FileId;
 use crate::transfer::write_whole;
@@ -6,18 +6,18 @@ use crate::trouble::Trouble;
 use std::alloc::{AllocError, Global};
 use std::fs;
 use std::fs::{OpenFile, OpenOptions, Permissions};
-use std::io::ErrorKind;
+use std::io::{ErrorKind, Write};
 use std::os::unix::fs::{OpenOptionsExt, PermissionsExt};
 use std::rt::Files;
 
 // The number of names that are tried for a new file.
 const NAMES: u32 = 1000;
 
-// What a file that wasn't there is created with, before the process's mask.
+// The permissions of a file that didn't exist, before the process's umask.
 const NEW_RIGHTS: u32 = 0o666;
 
-/// Writes a new file with these rights and gives it a name, and says which it is. After a refusal the
-// new file is gone again, as far as the system lets it.
+/// Writes a new file with these permissions, renames it to `name`, and returns which file it is. If
+/// that is refused, the new file is removed again, as far as the system lets it.
 pub fn replace<R: Files + AllocGlobal>(
     rt: &R,
     id: u32,
@@ -27,7 +27,8 @@ pub fn replace<R: Files + AllocGlobal>(
 ) -> Result<FileId, Trouble> {
     let folder = open_folder(rt, name)?;
     let (beside, mut file) = create_beside(rt, id, name, rights)?;
-    let renamed = fill_and_rename(rt, &mut file, beside.as_str(), name, bytes, rights);
+    let filled = fill(&mut file, bytes, rights);
+    let renamed = rename_filled(rt, filled, beside.as_str(), name);
     if renamed.is_err() {
         let _ = fs::remove_file(rt, beside.as_str());
     }
@@ -38,12 +39,9 @@ pub fn replace<R: Files + AllocGlobal>(
     Ok(placed)
 }
 
-// Gives a new file these rights, fills it, and gives it the name that it is made for.
-fn fill_and_rename<R: Files>(
-    rt: &R,
-    file: &mut R::File,
-    beside: &str,
-    name: &str,
+// Gives a new file these permissions and fills it, and returns which file it is.
+fn fill<F: OpenFile + Write>(
+    file: &mut F,
     bytes: &[u8],
     rights: Option<u32>,
 ) -> Result<FileId, Trouble> {
@@ -52,12 +50,22 @@ fn fill_and_rename<R: Files>(
     }
     write_whole(file, bytes)?;
     sync(file)?;
-    let placed = FileId::of(&file.metadata()?);
+    Ok(FileId::of(&file.metadata()?))
+}
+
+// Gives a new file that could be filled the name that it is made for.
+fn rename_filled<R: Files>(
+    rt: &R,
+    filled: Result<FileId, Trouble>,
+    beside: &str,
+    name: &str,
+) -> Result<FileId, Trouble> {
+    let placed = filled?;
     fs::rename(rt, beside, name)?;
     Ok(placed)
 }
 
-/// Waits until an open file has reached its disk. What has no disk can't be synced, and needn't be.
+/// Waits until an open file's data are on disk. What has no disk can't be synced, and needn't be.
 pub fn sync<F: OpenFile>(file: &F) -> Result<(), Trouble> {
     match file.sync_all() {
         Err(fault) if !has_no_sync(fault.kind()) => Err(Trouble::from(fault)),
@@ -65,12 +73,12 @@ pub fn sync<F: OpenFile>(file: &F) -> Result<(), Trouble> {
     }
 }
 
-// Whether a sync is refused since there is none for such a file.
+// Whether a sync was refused because such a file can't be synced.
 fn has_no_sync(kind: ErrorKind) -> bool {
     kind == ErrorKind::InvalidInput || kind == ErrorKind::Unsupported
 }
 
-// The folder of a name, to be synced once the name is there; none if it may be written but not read.
+// The folder of a name, to be synced after the renaming; `None` if it is writable but not readable.
 fn open_folder<R: Files>(rt: &R, name: &str) -> Result<Option<R::File>, Trouble> {
     let folder = match name.rsplit_once('/') {
         Some(("", _)) => "/",
@@ -84,8 +92,8 @@ fn open_folder<R: Files>(rt: &R, name: &str) -> Result<Option<R::File>, Trouble>
     }
 }
 
-// Makes a new file in the folder of a name, which no more may read than these rights say, and says
-// its own name.
+// Creates a new file in the folder of a name, with no more permissions than these, and returns it with its
+// temporary name.
 fn create_beside<R: Files + AllocGlobal>(
     rt: &R,
     id: u32,
@@ -108,7 +116,7 @@ fn create_beside<R: Files + AllocGlobal>(
     Err(Trouble::System)
 }
 
-// A hidden name in the folder of a name. Another process has other names.
+// A hidden name in the folder of a name, different for each process.
 fn name_beside(alloc: Global, id: u32, name: &str, number: u32) -> Result<String, AllocError> {
     match name.rsplit_once('/') {
         Some((folder, _)) => format!(in alloc; "{folder}/.zcld-{id}-{number}.new"),

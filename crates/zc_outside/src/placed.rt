@@ -1,11 +1,11 @@
-// Which files of the system were put, by the names that they were given.
+// Which files of the system were put, and under which names.
 
 ghost use Rattle.std.specs.Prelude.{◌≡◌, ◌↔◌, IsTrue, vec_capacity};
 
 use std::fs::Metadata;
 use std::os::unix::fs::MetadataExt;
 
-/// A file by its device and its number there, which all its names share.
+/// A file by its device and its inode number, which all its names share.
 #[derive(Clone, Copy)]
 pub struct FileId {
     device: u64,
@@ -13,7 +13,7 @@ pub struct FileId {
 }
 
 impl FileId {
-    /// The file that was asked about.
+    /// The file that this metadata is about.
     pub fn of(there: &Metadata) -> FileId {
         FileId {
             device: there.dev(),
@@ -21,7 +21,7 @@ impl FileId {
         }
     }
 
-    /// Whether both are one file.
+    /// Whether both are the same file.
     pub fn is(self, other: FileId) -> bool
         ensures { IsTrue result ↔ (self.device ≡ other.device) × (self.number ≡ other.number) }
     {
@@ -36,7 +36,7 @@ pub struct Placed {
     pub file: FileId,
 }
 
-/// Forgets what no longer stands: a file that had this name before, or that was this one.
+/// Forgets what is no longer true: which file had this name before, and which name this file had.
 pub fn forget(placed: &mut Vec<Placed>, name: &str, file: FileId)
     ensures { vec_capacity placed.new ≡ vec_capacity placed.old }
 {

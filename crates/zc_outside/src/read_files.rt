@@ -1,4 +1,4 @@
-// The files that a command reads, each of them whole.
+// The files that a command reads, each as a whole.
 
 ghost use Rattle.std.specs.Prelude.{◌<◌, ◌-◌, ◌^◌, [], ◌∷◌, IfErr, IfOk};
 ghost use Rattle.zc_outside.specs.Wanted.{IsRead, ReadCause, ReadsAll};
@@ -7,7 +7,7 @@ use crate::store::{Store, StoreFault};
 use std::alloc::Global;
 use thiserror::Error;
 
-/// Why the files of a command can't be had.
+/// Why the files of a command can't be read.
 #[derive(Clone, Copy, PartialEq, Eq, Debug, Error)]
 pub enum ReadFault {
     #[error("a file can't be read, or is too long")]

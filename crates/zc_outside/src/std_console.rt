@@ -9,9 +9,9 @@ use std::io::{Read, Write};
 
 /// The standard streams, or any reader and two writers in their place.
 ///
-/// Of the system's streams nothing is told: what stands in them is outside this program. A writer
-/// that tells its bytes, as one in memory, is told here too. The streams are written at once, and
-/// who hands in a writer with a buffer of its own flushes it.
+/// It doesn't tell the system's streams, whose content is outside this program. If a writer tells its
+/// bytes, as one in memory does, so does the console. Nothing is buffered here; whoever passes a writer
+/// with a buffer of its own has to flush it.
 #[derive(Drop)]
 pub struct StdConsole<I, O, E> {
     input: I,
@@ -65,7 +65,7 @@ impl<I: Read, O: Write, E: Write> Console for StdConsole<I, O, E> {
       sure = false;
     } };
 
-    /// Reads once. A signal that interrupts the read begins it again.
+    /// Reads once. A read that a signal interrupts is made again.
     fn take(&mut self, buf: &mut [u8]) -> Result<usize, ConsoleFault> {
         match read_some(&mut self.input, buf) {
             Ok(count) => {

@@ -21,11 +21,11 @@ pub enum StoreFault {
 
 /// Files by name, and how often reading and writing them went wrong.
 ///
-/// A store shows a `Shelf`. It tells its files if the `Shelf` has what each name holds; if it doesn't,
-/// no clause says what they hold. A store that is sure stays so, and answers `Failed` to no `put` and
-/// to no `get` of a name that it holds. The counts are 64-bit counters that never fall and stay at
-/// their last value: `read_faults` and `write_faults` count the calls that answer `Failed`,
-/// `long_files` the files over their limit, `write_memory_faults` the puts that are refused for want of memory.
+/// A store shows a `Shelf`. It tells its files if the `Shelf` has their bytes by name; if it doesn't, no
+/// clause says what they hold. A store that is sure stays so, and returns `Failed` from no `put`, and
+/// from no `get` of a name that it holds. The counts are 64-bit counters that never fall and stop at
+/// their largest value: `read_faults` and `write_faults` count the calls that return `Failed`,
+/// `long_files` the files over their limit, and `write_memory_faults` the puts that run out of memory.
 pub trait Store {
     ghost shown: { Self → Shelf };
 
@@ -37,7 +37,7 @@ pub trait Store {
         ensures cause { IfErr result (GetCause name.now limit (shown self.old) (shown self.new)) }
         ensures reads { OnlyReads name.now limit (shown self.old) (shown self.new) };
 
-    /// Makes a name hold these bytes, and nothing else.
+    /// Stores these bytes under a name, in place of what it held.
     fn put(&mut self, name: &str, bytes: &[u8]) -> Result<(), StoreFault>
         ensures ok { OnOk result (PutsFile (shown self.old).files (shown self.new).files name.now bytes.now) }
         ensures err { OnErr result (KeepsFiles (shown self.old).files (shown self.new).files) }

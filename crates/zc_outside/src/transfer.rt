@@ -1,4 +1,4 @@
-// Reads and writes of the system, whole in spite of signals and short counts.
+// Reads and writes of the system that go on after signals and short writes.
 
 ghost use Rattle.std.specs.Prelude.{◌≡◌, ◌≤◌, [], IfOk, IsOk, OnErr, OnOk, length};
 ghost use Rattle.std.specs.Io.KnownBytes.{ReadConsumes};
@@ -8,13 +8,13 @@ use crate::trouble::Trouble;
 use std::io;
 use std::io::{ErrorKind, Read, Write};
 
-/// One read into the front of a buffer, begun again if a signal interrupts it.
+/// One read to the start of a buffer, made again if a signal interrupts it.
 pub fn read_some<S: Read>(source: &mut S, buf: &mut [u8]) -> io::Result<usize>
     ensures within { IfOk result (λ n. n ≤ length buf.new) }
     ensures bytes { ReadConsumes (S.remaining source.old) (S.remaining source.new) result buf.new }
 {
-    // Signals may come without end, and a loop needs a bound to be proved to end. No process lives to
-    // see this one, nor the `TimedOut` after it.
+    // Signals may come without end, but the proof that a loop ends needs a bound. No process runs long
+    // enough to reach this one, or the `TimedOut` after it.
     for _ in 0..u64::MAX {
         match source.read(buf) {
             Ok(count) => return Ok(count),
@@ -27,7 +27,7 @@ pub fn read_some<S: Read>(source: &mut S, buf: &mut [u8]) -> io::Result<usize>
 
 /// Writes a whole piece. A write that takes nothing is a fault.
 ///
-/// After a refusal a part of the piece may be written, and not all of it.
+/// After a refusal a first part of the piece may have been written, but not all of it.
 pub fn write_whole<S: Write>(sink: &mut S, piece: &[u8]) -> Result<(), Trouble>
     ensures empty { piece.now ≡ [] → IsOk result }
     ensures ok { OnOk result (Adds (S.contents sink.old) (S.contents sink.new) piece.now) }
@@ -35,7 +35,7 @@ pub fn write_whole<S: Write>(sink: &mut S, piece: &[u8]) -> Result<(), Trouble>
 {
     let mut done = 0;
     let mut trouble = Trouble::System;
-    // As in `read_some`, this bound is never seen.
+    // As in `read_some`, this bound is never reached.
     for _ in 0..u64::MAX {
         if done == piece.len() {
             break;

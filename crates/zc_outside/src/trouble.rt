@@ -1,4 +1,4 @@
-// Why a call of the system was refused: want of memory, or anything else.
+// Why a call of the system was refused: memory ran out, or anything else.
 
 ghost use Rattle.std.specs.Prelude.{◌≡◌, ◌≤◌};
 ghost use Rattle.zc_outside.specs.StoreTrouble.{RefusesGet, RefusesPut};
@@ -46,7 +46,7 @@ impl From<AllocError> for Trouble {
 }
 
 impl Trouble {
-    /// How a console answers it. Each kind has a count of its own.
+    /// What a console returns for it, and counts: each kind has a count of its own.
     pub fn refuse(self, faults: &mut u64, memory_faults: &mut u64) -> ConsoleFault
         ensures counts { Refuses self faults.old memory_faults.old result faults.new memory_faults.new }
         ensures faults { faults.old ≤ faults.new }
@@ -64,7 +64,7 @@ impl Trouble {
         }
     }
 
-    /// How a store answers it where it writes. Each kind has a count of its own.
+    /// What a store returns for it from a write, and counts: each kind has a count of its own.
     pub fn refuse_put(self, faults: &mut u64, memory_faults: &mut u64) -> StoreFault
         ensures counts { RefusesPut self faults.old memory_faults.old result faults.new memory_faults.new }
         ensures faults { faults.old ≤ faults.new }
@@ -82,7 +82,7 @@ impl Trouble {
         }
     }
 
-    /// How a store answers it where it reads. Want of memory isn't counted.
+    /// What a store returns for it from a read, and counts: running out of memory isn't counted.
     pub fn refuse_get(self, faults: &mut u64) -> StoreFault
         ensures counts { RefusesGet self faults.old result faults.new }
     {

@@ -1,4 +1,4 @@
--- The bytes so far are the front of what the reader had.
+-- The bytes so far are the first ones that the reader had.
 use Rattle.std.proofs.Common.{◌-◌, ◌≤◌, vec_len}
 use Rattle.std.specs.Io.KnownBytes.{Consumes}
 use Rattle.zc_outside.proofs.disk_store.read_below.Given as goal

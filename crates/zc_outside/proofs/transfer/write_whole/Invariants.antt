@@ -1,4 +1,4 @@
--- The piece is written as far as the count says.
+-- The first `count` bytes of the piece are written.
 use Rattle.std.proofs.Common.{◌≤◌, length, take}
 use Rattle.zc_outside.specs.Streams.{Adds}
 use Rattle.zc_outside.proofs.transfer.write_whole.Given as goal

@@ -1,4 +1,4 @@
--- A write that was taken puts the file that the trait speaks of.
+-- A write that wasn't refused puts the file as the trait's contract says.
 use Rattle.std.proofs.Common.{arith}
 use Rattle.zc_outside.proofs.MemFiles.{with_file-PutsFile}
 use Rattle.zc_outside.proofs.mem_store.MemStoreStore.TheImpl.Goals as goal
