@@ -24,7 +24,7 @@ fn the_standard_map_has_room_for_text_and_a_stack_of_a_megabyte(rt: HostRuntime)
     assert!(rt; text == 0xF_0000 && stack == 0x10_0000);
 }
 
-/// Where text, data and both ends of the stack lie in the map of three addresses, or none.
+/// The addresses of text, data and both ends of the stack in the map of three addresses, or `none`.
 pub fn map_of(alloc: Global, given: &str) -> Result<String, Fail> {
     let (text, rest) = cut(given);
     let (data_low, stack) = cut(rest);

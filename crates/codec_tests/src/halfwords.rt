@@ -12,7 +12,7 @@ use zc_decode::short::Short;
 use zc_encode::encode16::encode16;
 use zca_zcb_pass::short::{short_branch, short_jump, short_of};
 
-// The instruction that a halfword stands for.
+// The instruction that a halfword expands to.
 fn instr_of(half: u16) -> Option<Instr> {
     match decode16(half) {
         Some(Short::Base(i)) => Some(i),
@@ -20,7 +20,7 @@ fn instr_of(half: u16) -> Option<Instr> {
     }
 }
 
-/// The instruction that a halfword stands for.
+/// The instruction that a halfword expands to.
 pub fn spelled(alloc: Global, digits: &str) -> Result<String, Fail> {
     text(alloc, instr_of(u16::from_str_radix(digits, 16)?))
 }
@@ -194,8 +194,8 @@ fn instructions_have_their_halfwords(rt: HostRuntime) -> Result<(), Fail> {
     Ok(())
 }
 
-// Rows of Zcb. The others are zero, a shift by 32, Zcb's operations and stores that aren't defined, and a
-// word's low half.
+// Rows of Zcb. The other rows are zero, a shift by 32, operations and stores of Zcb that aren't defined, and the low
+// half of a word.
 const HALFWORDS: &str = "81C8 = lbu 10 11 1
 9D4D = mul 10 10 11
 9D75 = xori 10 10 -1
@@ -215,12 +215,12 @@ fn halfwords_of_zcb_decode_and_others_do_not(rt: HostRuntime) -> Result<(), Fail
     expect(&rt, "decode16", HALFWORDS)
 }
 
-/// A sum with one value more.
+/// A hash with one more value mixed in.
 pub fn mix(sum: u32, value: u32) -> u32 {
     (sum ^ value).wrapping_mul(0x0100_0193)
 }
 
-// The halfword and its instruction are mixed into a sum; a halfword that decodes to nothing leaves it.
+// Mixes a halfword and its instruction into a hash; a halfword that decodes to nothing leaves the hash as it is.
 fn mixed(sum: u32, half: u16) -> u32 {
     let Some(i) = instr_of(half) else {
         return sum;
@@ -230,13 +230,13 @@ fn mixed(sum: u32, half: u16) -> u32 {
     mix(registers, number)
 }
 
-// The fields of the normal form of what a halfword stands for.
+// The fields of the normal form of what a halfword expands to.
 fn normal_fields(half: u16) -> Option<(u32, u32, u32, u32)> {
     let i = instr_of(half)?;
     Some(fields(normal(i)))
 }
 
-// The halfword of what a halfword stands for.
+// The halfword that encodes what a halfword expands to.
 fn found_for(half: u16) -> Option<u16> {
     match instr_of(half) {
         Some(i) => encode16(Short::Base(i)),
@@ -244,8 +244,8 @@ fn found_for(half: u16) -> Option<u16> {
     }
 }
 
-// `scripts/halfwords_of_llvm` prints how many of these halfwords LLVM reads, and the sum. Of them 330 are
-// hints whose normal form no other halfword has; each other one comes back with one normal form.
+// `scripts/halfwords_of_llvm` prints how many of these halfwords LLVM decodes, and the hash. Of them, 330 are hints
+// whose normal form no other halfword has; every other one is encoded again with the same normal form.
 #[test]
 fn all_halfwords_are_read_as_llvm_reads_them_and_come_back(rt: HostRuntime) {
     let (mut count, mut found, mut same, mut sum) = (0_u32, 0_u32, 0_u32, 0);

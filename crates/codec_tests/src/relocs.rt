@@ -43,7 +43,7 @@ const TYPES: &str = "0 6 = Ignored 0
 43 0 = Align 0
 43 -4 = Align 0";
 
-// Only an alignment changes what its addend says.
+// The number of bytes depends on the addend only for an alignment.
 #[test]
 fn sixteen_of_all_types_are_known(rt: HostRuntime) -> Result<(), Fail> {
     let mut count = 0_u32;
@@ -54,7 +54,7 @@ fn sixteen_of_all_types_are_known(rt: HostRuntime) -> Result<(), Fail> {
     expect(&rt, "kind", TYPES)
 }
 
-/// The types that may stand at two words, of those that ask for an instruction.
+/// The types of relocations that are allowed at two words, among those that need certain instructions.
 pub fn fitting(alloc: Global, given: &str) -> Result<String, Fail> {
     let (first, second) = cut(given);
     let (first, second) = (decode(word(first)?), decode(word(second)?));
@@ -111,7 +111,7 @@ fn the_upper_part_rounds_up_where_the_lower_is_negative(rt: HostRuntime) -> Resu
     expect(&rt, "parts", PARTS)
 }
 
-/// Whether `jal`, a branch, `c.j` and `c.beqz` reach so far, as four digits.
+/// Whether a distance is in range of `jal`, a branch, `c.j` and `c.beqz`, as four digits.
 pub fn reaching(alloc: Global, distance: &str) -> Result<String, Fail> {
     let d = distance.parse::<i32>()?;
     let long = (u8::from(jal_reaches(d)), u8::from(branch_reaches(d)));
@@ -122,7 +122,7 @@ pub fn reaching(alloc: Global, distance: &str) -> Result<String, Fail> {
     Ok(format!(in alloc; "{}{}{}{}", long.0, long.1, short.0, short.1)?)
 }
 
-// The farthest that each reaches, and the next number on each side.
+// The ends of each range, and the next number beyond each end.
 const REACHES: &str = "-1048578 = 0000
 -1048576 = 1000
 -4098 = 1000

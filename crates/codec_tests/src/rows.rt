@@ -1,7 +1,7 @@
 // Rows of a table, and numbers in them.
 //
-// The check proves each test, and pays there for each assertion and each row of a table. So rows are lines of
-// a text, and what is asserted of them stands here.
+// `rt check` proves each test, which takes time for each assertion and each element of a table. So rows are lines of
+// a text, and the assertions about them are here.
 
 use crate::base::map_of;
 use crate::forms::long_form;
@@ -18,12 +18,12 @@ pub fn word(digits: &str) -> Result<u32, Fail> {
     Ok(u32::from_str_radix(digits, 16)?)
 }
 
-/// What stands before the first space of a text, and what after it.
+/// What comes before the first space of a text, and what comes after it.
 pub fn cut(text: &str) -> (&str, &str) {
     text.split_once(' ').unwrap_or((text, ""))
 }
 
-// What a call gives for a row.
+// What a call returns for a row.
 fn answer(alloc: Global, call: &str, given: &str) -> Result<String, Fail> {
     match call {
         "decode" => instr(alloc, given),
@@ -44,7 +44,7 @@ fn answer(alloc: Global, call: &str, given: &str) -> Result<String, Fail> {
     }
 }
 
-/// The call should give for each row what stands after `=`. After a stroke stands what the row is.
+/// Checks that the call returns for each row what follows `=`. What follows `|` says what the row shows.
 pub fn expect<R: Abort + AllocGlobal>(rt: &R, call: &str, rows: &str) -> Result<(), Fail> {
     for row in rows.lines() {
         let (cells, _what) = row.split_once(" | ").unwrap_or((row, ""));

@@ -1,4 +1,4 @@
-// Words as binutils' assembler writes them for RV32IM, and words beside the table.
+// Words as binutils' assembler writes them for RV32IM, and words that aren't in the table.
 
 use crate::instrs::text;
 use crate::rows::{expect, word};
@@ -8,7 +8,7 @@ use rv_encode::encode::encode;
 use std::alloc::Global;
 use std::test::Fail;
 
-// The word of what a word spells.
+// The word that encodes what a word decodes to.
 #[tactic(auto, using(crate::proofs::Ranges::in_range))]
 fn encoded(word: u32) -> u32 {
     match decode(word) {
@@ -17,7 +17,7 @@ fn encoded(word: u32) -> u32 {
     }
 }
 
-/// The instruction that a word spells, if that has the same word.
+/// The instruction that a word decodes to, if that is encoded as the same word.
 pub fn instr(alloc: Global, digits: &str) -> Result<String, Fail> {
     let word = word(digits)?;
     if encoded(word) == word {
@@ -27,7 +27,7 @@ pub fn instr(alloc: Global, digits: &str) -> Result<String, Fail> {
     }
 }
 
-/// The normal form of what a word spells.
+/// The normal form of what a word decodes to.
 pub fn normal_form(alloc: Global, digits: &str) -> Result<String, Fail> {
     text(alloc, decode(word(digits)?).map(normal))
 }
@@ -102,7 +102,7 @@ fn words_are_decoded_and_encoded(rt: HostRuntime) -> Result<(), Fail> {
     expect(&rt, "decode", WORDS)
 }
 
-// Each has one field that no row has.
+// Each of these words has one field that no row of the table has.
 const OTHERS: &str = "00000000 = none
 FFFFFFFF = none
 00C58532 = none | the low two bits, and an opcode of floating point

@@ -11,7 +11,7 @@ use zc_encode::encode16::encode16;
 // The names of the variants of what a halfword spells, in their order.
 const NAMES: &str = "base push pop popret popretz mvsa01 mva01s table";
 
-// The number of the variant, and its two numbers; those of an instruction of 32 bits are left out.
+// The number of the variant, and its two numbers; an instruction of 32 bits has none here.
 fn fields(s: Short) -> (u32, u8, u8) {
     match s {
         Short::Base(_) => (0, 0, 0),
@@ -73,7 +73,7 @@ fn back(half: u16) -> Option<u16> {
     }
 }
 
-// `scripts/halfwords_of_llvm` prints how many of these halfwords LLVM reads, and the sum.
+// `scripts/halfwords_of_llvm` prints how many of these halfwords LLVM decodes, and the hash.
 #[test]
 fn all_halfwords_of_zcmp_and_zcmt_are_read_as_llvm_reads_them_and_come_back(rt: HostRuntime) {
     let (mut count, mut same, mut sum) = (0_u32, 0_u32, 0);

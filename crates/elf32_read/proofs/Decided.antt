@@ -1,4 +1,4 @@
--- What is known if no test of a table holds.
+-- What follows if no test of a table holds.
 use Rattle.std.proofs.Common.{◌≡◌, Bool, true, false, cond, Option, Some, None, refl}
 
 -- if the first test doesn't decide, it doesn't hold, and none of the rest does

@@ -1,4 +1,4 @@
--- A test over the values of a function from 1 on: the first value is dropped.
+-- A test of the values of a function at 1, 2 and so on: the first value is dropped.
 use Rattle.std.proofs.Common.{◌≡◌, ℕ, zero, suc, ◌+◌, ◌-◌, ◌<◌, ◌≤◌, [], ◌∷◌, drop, length, get_or, map, Bool, true, false, refl, sym, ap, ◌∙◌, arith}
 use Rattle.std.specs.List.{list_any, range_with_len}
 use Rattle.std.proofs.lemmas.Bool.{false_from_ne_true}
@@ -22,7 +22,7 @@ none_dropped_more p f (suc i) some before here =
     ap (λ n. list_any p (drop 1 (map f (range_with_len 0 n)))) next
     ∙ rw (map-range_with_len_more f 1 i (suc i) (omega arith), list_any-append p (map f (range_with_len 1 i)) (f (suc i) ∷ []), before, here) refl
 
--- if none passes where the loop ends, none passes
+-- if no value has passed when the loop ends, no value passes
 pub none_dropped : {X : Type 0} (p : X → Bool) (f : ℕ → X) (n i : ℕ) → n ≤ i → (1 ≤ n → i ≤ n) → list_any p (drop 1 (map f (range_with_len 0 i))) ≡ false → list_any p (drop 1 (map f (range_with_len 0 n))) ≡ false
 none_dropped p f zero i le within none = refl
 none_dropped p f (suc n) i le within none =
@@ -30,6 +30,6 @@ none_dropped p f (suc n) i le within none =
     let last : suc n ≡ i = omega arith in
     ap (λ k. list_any p (drop 1 (map f (range_with_len 0 k)))) last ∙ none
 
--- if none passes, this one does not
+-- if no value passes, the value at an index doesn't
 pub none_dropped_at : {X : Type 0} (p : X → Bool) (f : ℕ → X) (n i : ℕ) → list_any p (drop 1 (map f (range_with_len 0 n))) ≡ false → 1 ≤ i → i < n → p (f i) ≡ false
 none_dropped_at p f n i none some lt = false_from_ne_true (p (f i)) (λ h. cc (some_dropped p f n i (f i) refl some lt h, none))

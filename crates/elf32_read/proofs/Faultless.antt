@@ -28,7 +28,7 @@ use Rattle.elf32_read.proofs.Marks.{for_is_rela}
 use Rattle.elf32_read.proofs.Strings.{is_named}
 use Rattle.elf32_read.proofs.Tests.{changes}
 
--- none of the faults of an object
+-- an object has none of the faults
 pub record NoFault (bytes : List ℕ) : Type 0 where
   pub short : is_too_long bytes ≡ false
   pub elf : not_elf bytes ≡ false
@@ -111,7 +111,7 @@ content_short bytes header = by (is_empty_kind header.kind)
     by true = omega arith
     by false = omega (arith, length-take header.size (drop header.offset bytes), length-drop header.offset bytes)
 
--- nor are the entries of the symbols
+-- the symbol table is no longer than the file
 pub few_symbols : (bytes : List ℕ) → object_fault bytes ≡ None → length (symbol_content bytes) ≤ 0x40_0000
 few_symbols bytes h =
     let short = ltb-false 0x40_0000 (length bytes) (no_fault bytes h).short in
@@ -121,7 +121,7 @@ few_symbols bytes h =
     by None = omega arith
     by (Some header) = content_short bytes header
 
--- nor are their names
+-- the string table of the symbols is no longer than the file
 pub few_names : (bytes : List ℕ) → object_fault bytes ≡ None → length (symbol_names bytes) ≤ 0x40_0000
 few_names bytes h =
     let short = ltb-false 0x40_0000 (length bytes) (no_fault bytes h).short in
@@ -135,12 +135,12 @@ few_names bytes h =
     by None = omega arith
     by (Some header) = strings_short header.link (lacks_strings bytes header.link)
 
--- a section with content has it in the file
+-- a section's content lies within the file
 pub content_within : (bytes : List ℕ) (header : SectionHeader) → passes_end bytes header ≡ false → header.kind ≢ 0 → header.kind ≢ 8 → header.offset + header.size ≤ length bytes
 content_within bytes header e not_null not_nobits =
     ltb-false (length bytes) (header.offset + header.size) (rw (ne_eqb header.kind 0 not_null, ne_eqb header.kind 8 not_nobits) at e)
 
--- a section with content has all of it
+-- a section's content has the size that its header says
 pub content_whole : (bytes : List ℕ) (header : SectionHeader) → passes_end bytes header ≡ false → header.kind ≢ 0 → header.kind ≢ 8 → length (content_of bytes header) ≡ header.size
 content_whole bytes header e not_null not_nobits =
     let within = content_within bytes header e not_null not_nobits in
@@ -154,7 +154,7 @@ content_whole bytes header e not_null not_nobits =
 abbrev pub is_memory_kind : ℕ → Bool
 is_memory_kind kind = kind == 1 || kind == 8 || kind == 14 || kind == 15 || kind == 16
 
--- an alignment of at most so much: 0 or a power of two
+-- an alignment up to a maximum: 0 or a power of two
 pub record IsAlignment (most align : ℕ) : Type 0 where
   pub low : align ≤ most
   pub power : align ≢ 0 → is_power_of_two align ≡ true
@@ -168,7 +168,7 @@ is_alignment most align good = by (eqb align 0) refl good
         let parts = or_parts (not (is_power_of_two align)) (ltb most align) good in
         record { low = ltb-false most align parts.1; power = λ some. not-false (is_power_of_two align) parts.0 }
 
--- a kept section is of a kind that lies in memory, isn't a thread's own or compressed, and has an alignment
+-- a kept section has a type that lies in memory, is neither thread-local nor compressed, and has an alignment
 pub record IsKept (header : SectionHeader) : Type 0 where
   pub kind : is_memory_kind header.kind ≡ true
   pub shared : has_flags 0x400 header.flags ≡ false
@@ -220,7 +220,7 @@ no_cause bytes h good =
       none = a.1;
     }
 
--- what holds of a test and of another doesn't, if the first does
+-- if not both of two tests hold, and the first does, the second doesn't
 second_no : (a b : Bool) → (a && b) ≡ false → a ≡ true → b ≡ false
 second_no true b none is = none
 second_no false b none is = absurd cc
@@ -272,17 +272,17 @@ module _ (bytes : List ℕ) (read : object_fault bytes ≡ None) where
       let all = or_parts (tables || list_any (is_unnamed_section bytes) (headers_of bytes)) (list_any (is_unnamed_symbol bytes) (symbol_entries bytes)) (no_fault bytes read).named in
       ((or_parts tables (list_any (is_unnamed_section bytes) (headers_of bytes)) all.0).1, all.1)
 
-  -- each section's name has an end
+  -- each section's name is terminated
   pub section_named : (i : ℕ) → i < section_count bytes → has_end (section_names bytes) (header_of bytes i).name ≡ true
   section_named i lt =
       not-false (has_end (section_names bytes) (header_of bytes i).name) (none_listed (is_unnamed_section bytes) (header_of bytes) (section_count bytes) i named_parts.0 lt)
 
-  -- each symbol's name has an end, that of symbol 0 too
+  -- each symbol's name is terminated, including the name of symbol 0
   pub symbol_named : (k : ℕ) → k < symbol_count bytes → has_end (symbol_names bytes) (symbol_entry_of bytes k).name ≡ true
   symbol_named k lt =
       not-false (has_end (symbol_names bytes) (symbol_entry_of bytes k).name) (none_listed (is_unnamed_symbol bytes) (symbol_entry_of bytes) (symbol_count bytes) k named_parts.1 lt)
 
-  -- a section has a name exactly if the name stands where the header says
+  -- a section has a name exactly if the name is where the header says
   pub section_is_named : (name : List ℕ) (i : ℕ) → i < section_count bytes → list_any (λ byte. byte == 0) name ≡ false → pointwise nat_eq (section_parts bytes i).name name ≡ is_name_at name (section_names bytes) (header_of bytes i).name
   section_is_named name i lt whole = is_named (section_names bytes) name (header_of bytes i).name (section_named i lt) whole
 
@@ -339,7 +339,7 @@ module _ (bytes : List ℕ) (read : object_fault bytes ≡ None) where
 
   -- ---- relocations
 
-  -- none of a kept section's relocations names a symbol that isn't there
+  -- every relocation of a kept section names an existing symbol
   none_held : (i : ℕ) → i < section_count bytes → is_kept bytes (header_of bytes i) ≡ true → (hs : List SectionHeader) → list_any (is_of_no_symbol bytes) hs ≡ false → list_any (names_no_symbol bytes) (flat_map (relocs_held bytes) (filter (changes i) hs)) ≡ false
   none_held i lt kept [] none = refl
   none_held i lt kept (h ∷ hs) none =
@@ -360,7 +360,7 @@ module _ (bytes : List ℕ) (read : object_fault bytes ≡ None) where
       by true e = none_held i lt e (headers_of bytes) symbol_parts_good.1
       by false e = refl
 
-  -- each names a symbol
+  -- each relocation names a symbol of the object
   pub reloc_symbol : (i k : ℕ) (r : Reloc) → i < section_count bytes → slice_get (relocs_of bytes i) k ≡ Some r → r.symbol < symbol_count bytes
   reloc_symbol i k r lt is =
       let inside = slice_get_within (relocs_of bytes i) k r is in

@@ -1,4 +1,4 @@
--- What a filter keeps of the values of a function from 0 on.
+-- What a filter keeps of the values of a function at 0, 1, 2 and so on.
 use Rattle.std.proofs.Common.{◌≡◌, ℕ, zero, suc, ◌+◌, ◌≤◌, [], ◌∷◌, ◌++◌, length, map, Bool, true, false, cond, ap, ◌∙◌, arith, length-append, inl, inr}
 use Rattle.std.specs.Prelude.{filter}
 use Rattle.std.specs.List.{range_with_len}
@@ -16,7 +16,7 @@ pub kept_same : {X : Type 0} (p : X → Bool) (f : ℕ → X) (i : ℕ) → p (f
 kept_same p f i drop =
     filter_of_map_range_with_len_more p f 0 i i (omega arith) ∙ ap (λ b. filter p (map f (range_with_len 0 i)) ++ cond b (f i ∷ []) []) drop ∙ append-nil (filter p (map f (range_with_len 0 i)))
 
--- more values keep no less
+-- a filter keeps at least as many of more values
 pub kept_length : {X : Type 0} (p : X → Bool) (f : ℕ → X) (n i : ℕ) → i ≤ n → length (filter p (map f (range_with_len 0 i))) ≤ length (filter p (map f (range_with_len 0 n)))
 kept_length p f zero i le =
     let none : i ≡ 0 = omega arith in

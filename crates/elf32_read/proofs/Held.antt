@@ -1,4 +1,4 @@
--- The content of a section, and the relocations that a content holds.
+-- The content of a section, and the relocations in it.
 use Rattle.std.proofs.Common.{◌≡◌, ℕ, ◌+◌, ◌*◌, ◌/◌, ◌<◌, ◌≤◌, List, length, Some, sym, ap, ◌∙◌, arith}
 use Rattle.std.specs.Prelude.{slice_get}
 use Rattle.std.proofs.lemmas.List.FromFn.{length-map-range_with_len}
@@ -7,7 +7,7 @@ use Rattle.elf32_read.specs.Relocs.{reloc_at, relocs_in}
 use Rattle.elf32_read.specs.declared.header.SectionHeader.{SectionHeader}
 use Rattle.elf32_read.proofs.Listed.{slice_get-listed}
 
--- the content that was read is that of the section
+-- the content that was read is the section's content
 pub is_content : (inside bytes : List ℕ) (i : ℕ) (header : SectionHeader) (content : List ℕ) → inside ≡ bytes → header ≡ header_of inside i → content ≡ content_of inside header
     → content ≡ content_of bytes (header_of bytes i)
 is_content inside bytes i header content same is read =
@@ -18,7 +18,7 @@ module _ (content : List ℕ) where
   pub held_count : length content / 12 ≡ length (relocs_in content)
   held_count = sym (length-map-range_with_len (reloc_at content) 0 (length content / 12))
 
-  -- each lies in the content
+  -- each relocation lies in the content
   pub held_within : (k : ℕ) → k < length (relocs_in content) → 12 * k + 12 ≤ length content
   held_within k lt = omega (arith, lt, held_count)
 

@@ -1,4 +1,4 @@
--- A test over the values of a function from 0 on.
+-- A test of the values of a function at 0, 1, 2 and so on.
 use Rattle.std.proofs.Common.{◌≡◌, ℕ, zero, suc, ◌+◌, ◌<◌, ◌≤◌, List, [], ◌∷◌, length, get_or, map, Bool, true, false, Some, refl, sym, ap, ◌∙◌, arith}
 use Rattle.std.specs.Prelude.{◌||◌, ◌&&◌, filter, cond, slice_get}
 use Rattle.std.specs.List.{list_any, range_with_len}
@@ -23,7 +23,7 @@ pub none_listed_more : {X : Type 0} (p : X → Bool) (f : ℕ → X) (i : ℕ) �
 none_listed_more p f i before here =
     rw (map-range_with_len_more f 0 i i (omega arith), list_any-append p (map f (range_with_len 0 i)) (f i ∷ []), before, here) refl
 
--- if none passes, this one does not
+-- if no value passes, the value at an index doesn't
 pub none_listed : {X : Type 0} (p : X → Bool) (f : ℕ → X) (n i : ℕ) → list_any p (map f (range_with_len 0 n)) ≡ false → i < n → p (f i) ≡ false
 none_listed p f n i none lt = false_from_ne_true (p (f i)) (λ h. cc (list_any_listed p f n i lt h, none))
 
@@ -37,7 +37,7 @@ list_any-filter p q (x ∷ xs) =
       | false ↦ rest
     ]
 
--- if none passes, none of what a filter keeps does
+-- if no value passes, no value that a filter keeps passes
 pub none_kept : {X : Type 0} (p q : X → Bool) (xs : List X) → list_any q xs ≡ false → list_any q (filter p xs) ≡ false
 none_kept p q [] none = refl
 none_kept p q (x ∷ xs) none =
@@ -48,7 +48,7 @@ none_kept p q (x ∷ xs) none =
       | false ↦ rest
     ]
 
--- if none of a list passes, none at an index does
+-- if no value of a list passes, the value at an index doesn't
 pub none_at : {X : Type 0} (p : X → Bool) (xs : List X) (i : ℕ) (d : X) → list_any p xs ≡ false → i < length xs → p (get_or xs i d) ≡ false
 none_at p xs i d none lt = false_from_ne_true (p (get_or xs i d)) (λ h. cc (list_any_at p xs i d lt h, none))
 
@@ -59,11 +59,11 @@ some_in_range p n i lt h =
     let inside : i < length (range_with_len 0 n) = rw (length-range_with_len 0 n) lt in
     list_any_at p (range_with_len 0 n) i i inside (ap p here ∙ h)
 
--- if none passes, this one does not
+-- if no value passes, the value at an index doesn't
 pub none_in_range : (p : ℕ → Bool) (n i : ℕ) → list_any p (range_with_len 0 n) ≡ false → i < n → p i ≡ false
 none_in_range p n i none lt = false_from_ne_true (p i) (λ h. cc (some_in_range p n i lt h, none))
 
--- if no index passes, none of them does
+-- if each index fails, no index in the range passes
 pub no_index : (p : ℕ → Bool) (a n : ℕ) → ((i : ℕ) → a ≤ i → i < a + n → p i ≡ false) → list_any p (range_with_len a n) ≡ false
 no_index p a zero fails = refl
 no_index p a (suc n) fails =

@@ -1,4 +1,4 @@
--- Marks at the kept sections that a RELA was seen for.
+-- Marks of the kept sections for which a RELA section was seen.
 use Rattle.std.proofs.Common.{◌≡◌, ◌≢◌, ℕ, ◌+◌, ◌<◌, ◌≤◌, List, length, get_or, set, map, Bool, true, false, cond, refl, sym, ap, ◌∙◌, arith, eqb, ltb, eq-eqb}
 use Rattle.std.specs.Prelude.{◌&&◌, filter, nat_lt}
 use Rattle.std.specs.List.{range_with_len}
@@ -16,7 +16,7 @@ use Rattle.elf32_read.proofs.Tests.{changes}
 abbrev pub relas_until : List ℕ → ℕ → ℕ → ℕ
 relas_until bytes k n = length (filter (changes k) (map (header_of bytes) (range_with_len 0 n)))
 
--- each kept section has a mark if one of the first n sections is a RELA for it, and no second one is
+-- each kept section is marked exactly if one of the first n sections is a RELA for it, and no two of them are
 pub record AreMarked (bytes : List ℕ) (marks : List Bool) (n : ℕ) : Type 0 where
   pub room : section_count bytes ≤ length marks
   pub each : (k : ℕ) → k < section_count bytes → is_kept bytes (header_of bytes k) ≡ true → relas_until bytes k n ≡ cond (get_or marks k false) 1 0
@@ -38,7 +38,7 @@ module _ (bytes : List ℕ) where
         changes = ap (λ b. b && eqb h.info h.info) parts.0 ∙ eq-eqb h.info h.info refl;
       }
 
-  -- what changes a kept section is a RELA for a kept section
+  -- a section with the relocations of a kept section is a RELA for a kept section
   pub for_is_rela : (h : SectionHeader) (k : ℕ) → IsFor h k → is_kept_rela bytes h ≡ true
   for_is_rela h k for =
       let parts = and_parts (eqb h.kind 4) (eqb h.info k) for.changes in
@@ -48,7 +48,7 @@ module _ (bytes : List ℕ) where
       ∙ ap (λ b. b && is_kept bytes (header_of bytes h.info)) (lt-ltb h.info (section_count bytes) lt)
       ∙ ap (λ n. is_kept bytes (header_of bytes n)) same ∙ for.kept
 
-  -- a section that is no such RELA
+  -- the marks after a section that is no RELA for a kept section
   pub marked_same : (marks : List Bool) (n : ℕ) (h : SectionHeader) → h ≡ header_of bytes n → AreMarked bytes marks n → is_kept_rela bytes h ≡ false → AreMarked bytes marks (n + 1)
   marked_same marks n h is before other = record { room = before.room; each = each }
     where
@@ -57,7 +57,7 @@ module _ (bytes : List ℕ) where
           let not_for : changes k h ≡ false = false_from_ne_true (changes k h) (λ yes. cc (other, for_is_rela h k (record { within = lt; kept = kept; changes = yes }))) in
           count_same (changes k) (header_of bytes) n (sym (ap (changes k) is) ∙ not_for) ∙ before.each k lt kept
 
-  -- the first one for its section
+  -- the marks after the first RELA for a kept section
   pub marked_more : (marks : List Bool) (n : ℕ) (h : SectionHeader) → h ≡ header_of bytes n → AreMarked bytes marks n → is_kept_rela bytes h ≡ true → get_or marks h.info false ≡ false → AreMarked bytes (set marks h.info true) (n + 1)
   marked_more marks n h is before rela new =
       record { room = omega (arith, before.room, length-set marks h.info true); each = λ k lt kept. by k lt kept (eqb k h.info) refl }
@@ -78,7 +78,7 @@ module _ (bytes : List ℕ) where
           count_same (changes k) (header_of bytes) n (sym (ap (changes k) is) ∙ no) ∙ before.each k lt kept
           ∙ sym (ap (λ b. cond b 1 0) (get_or-set_other marks h.info k true false other))
 
-  -- a second one
+  -- a second RELA for the same kept section
   pub marked_twice : (marks : List Bool) (n : ℕ) (h : SectionHeader) → h ≡ header_of bytes n → n < section_count bytes → AreMarked bytes marks n → is_kept_rela bytes h ≡ true → get_or marks h.info false ≡ true → has_two_relas bytes ≡ true
   marked_twice marks n h is inside before rela marked =
       let for = rela_is_for h rela in
@@ -89,7 +89,7 @@ module _ (bytes : List ℕ) where
       let two : 1 < relas_until bytes h.info count = omega (arith, one, more, all) in
       some_in_range (is_changed_twice bytes) count h.info for.within (ap (λ b. b && nat_lt 1 (relas_until bytes h.info count)) for.kept ∙ lt-ltb 1 (relas_until bytes h.info count) two)
 
-  -- no second one among all sections
+  -- no kept section has two RELA among all sections
   pub marked_once : (marks : List Bool) → AreMarked bytes marks (section_count bytes) → has_two_relas bytes ≡ false
   marked_once marks marked =
       let count = section_count bytes in

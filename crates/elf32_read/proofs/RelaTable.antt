@@ -16,14 +16,15 @@ use Rattle.elf32_read.proofs.Listed.{none_in_range}
 use Rattle.elf32_read.proofs.Marks.{for_is_rela, rela_is_for}
 use Rattle.elf32_read.proofs.Tests.{changes}
 
--- of the first n sections, the table has the one that is a RELA for each kept section, and nothing for a dropped one
+-- the table has, for each kept section, the one of the first n sections that is a RELA for it, and `None` for a
+-- dropped section
 pub record AreFound (bytes : List ℕ) (table : List (Option ℕ)) (n : ℕ) : Type 0 where
   pub room : length table ≡ section_count bytes
   pub kept : (s : ℕ) → s < section_count bytes → is_kept bytes (header_of bytes s) ≡ true → Found (changes s) (header_of bytes) n (get_or table s None)
   pub dropped : (s : ℕ) → s < section_count bytes → is_kept bytes (header_of bytes s) ≡ false → get_or table s None ≡ None
 
 module _ (bytes : List ℕ) (once : has_two_relas bytes ≡ false) where
-  -- no kept section has two
+  -- no kept section has two RELA sections
   one : (s : ℕ) → s < section_count bytes → is_kept bytes (header_of bytes s) ≡ true → length (relas_for bytes s) ≤ 1
   one s within kept =
       ltb-false 1 (length (relas_for bytes s)) (sym (ap (λ b. b && nat_lt 1 (length (relas_for bytes s))) kept) ∙ none_in_range (is_changed_twice bytes) (section_count bytes) s once within)
@@ -36,7 +37,7 @@ module _ (bytes : List ℕ) (once : has_two_relas bytes ≡ false) where
     dropped = λ s within dropped. get_or-replicate (section_count bytes) s None None within;
   }
 
-  -- a section that is no RELA for a kept one
+  -- the next section is no RELA for a kept section
   pub found_next_same : (table : List (Option ℕ)) (n : ℕ) (h : SectionHeader) → h ≡ header_of bytes n → AreFound bytes table n → is_kept_rela bytes h ≡ false → AreFound bytes table (n + 1)
   found_next_same table n h is before other = record {
     room = before.room;
@@ -76,7 +77,7 @@ module _ (bytes : List ℕ) (once : has_two_relas bytes ≡ false) where
   held s (Some rela) kept only =
       (only.0, ap (λ b. cond b (flat_map (relocs_held bytes) (relas_for bytes s)) []) kept ∙ ap (flat_map (relocs_held bytes)) only.1 ∙ append-nil (relocs_held bytes (header_of bytes rela)))
 
-  -- the whole table
+  -- the table once all sections were looked at
   pub found_all : (table : List (Option ℕ)) (n : ℕ) → n ≡ section_count bytes → AreFound bytes table n → (s : ℕ) → s < section_count bytes → IsRelaOf bytes s (get_or table s None)
   found_all table n all found s within = elim (cases_Bool (is_kept bytes (header_of bytes s))) [
     | inl kept ↦

@@ -8,7 +8,7 @@ use Rattle.std.proofs.lemmas.List.{drop_all, length-drop, take_all}
 use Rattle.std.proofs.lemmas.List.Sums.{prefix_len_is, take_while-cons}
 use Rattle.elf32_read.specs.Names.{has_end, is_name_at, name_at}
 
--- a test of two numbers doesn't ask for their order
+-- the test whether two numbers are equal is symmetric
 eqb_flip : (a b : ℕ) → eqb a b ≡ eqb b a
 eqb_flip a b =
     elim (cases_eq a b) [
@@ -32,7 +32,7 @@ before_zero table rest at i is within before zero =
     let long : prefix_len more rest ≡ i = prefix_len_is more rest i 0 within (λ k lt. ap not (ne_eqb (get_or rest k 0) 0 (before k lt))) (λ lt. ap not (eq-eqb (get_or rest i 0) 0 (zero lt))) in
     ap (λ n. take n rest) (sym long) ∙ ap (λ l. take (prefix_len more l) l) is
 
--- in a table where a name ends, it is the one that begins there exactly if all its bytes and the zero stand there
+-- if a name in a table is terminated, it is this name exactly if the table has this name's bytes and a zero there
 pub named : (rest name : List ℕ) → list_any (λ byte. byte == 0) rest ≡ true → list_any (λ byte. byte == 0) name ≡ false → pointwise nat_eq (take_while (λ byte. not (byte == 0)) rest) name ≡ starts_with nat_eq rest (name ++ 0 ∷ [])
 named [] name ends whole = absurd cc
 named (x ∷ xs) name ends whole = by (eqb x 0) refl name whole (named xs)

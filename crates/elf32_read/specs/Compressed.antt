@@ -7,6 +7,6 @@ use Rattle.elf32_read.specs.Kept.{has_flags}
 abbrev pub has_rvc : ℕ → Bool
 has_rvc flags = has_flags 1 flags
 
--- what the starts, the sizes and the end of code are multiples of
+-- the number that the addresses and sizes of code are multiples of
 abbrev pub code_step : Bool → ℕ
 code_step compressed = if compressed then 2 else 4

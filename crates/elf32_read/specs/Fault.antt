@@ -43,7 +43,7 @@ fault_name (Range section at) = codes "Range"
 fault_name NoEntry = codes "NoEntry"
 fault_name TooLarge = codes "TooLarge"
 
--- the symbol that a fault names, by its index in the object
+-- the index, in the object, of the symbol that a fault names
 abbrev pub fault_symbol : Fault → Option ℕ
 fault_symbol NotElf = None
 fault_symbol Truncated = None

@@ -22,7 +22,7 @@ section_table bytes = word_in bytes 32
 abbrev pub file_flags : List ℕ → ℕ
 file_flags bytes = word_in bytes 36
 
--- e_flags has no bit but RVC (0x1) and TSO (0x10)
+-- e_flags has no bits other than RVC (0x1) and TSO (0x10)
 abbrev pub are_known_flags : ℕ → Bool
 are_known_flags flags = flags == 0 || flags == 0x1 || flags == 0x10 || flags == 0x11
 
@@ -67,7 +67,7 @@ header_of bytes i = let at = section_table bytes + 40 * i in record {
 abbrev pub headers_of : List ℕ → List SectionHeader
 headers_of bytes = map (header_of bytes) (range_with_len 0 (section_count bytes))
 
--- the section with this index is the only one that passes a test, or none does
+-- the section with this index is the only one that passes a test; `None` if no section does
 abbrev pub IsOnly : (SectionHeader → Bool) → List ℕ → Option ℕ → Type 0
 IsOnly test bytes None = filter test (headers_of bytes) ≡ []
 IsOnly test bytes (Some i) = (i < section_count bytes) × (filter test (headers_of bytes) ≡ header_of bytes i ∷ [])

@@ -15,8 +15,8 @@ use Rattle.elf32_read.specs.Segments.{is_code, is_entry_of, is_in_place, loads_o
 use Rattle.elf32_read.specs.declared.image_fault.ImageFault.{ImageFault}
 use Rattle.elf32_read.specs.declared.image_fault.ImageFault.TheVariants.{NotElf, Truncated, BadSegment, BadPlaces, TooLarge}
 
--- shorter than its header, not an executable RISC-V file (type 2) with known flags, or with program headers that don't have
--- 32 bytes (e_phentsize) or section headers that don't have 40
+-- the file is shorter than its header, isn't an executable RISC-V file (type 2) with known flags, or has program
+-- headers whose size isn't 32 bytes (e_phentsize), or section headers whose size isn't 40
 abbrev pub not_image : List ℕ → Bool
 not_image bytes =
     nat_lt (length bytes) 52 || not (begins_as 2 bytes) || not (are_known_flags (file_flags bytes))
@@ -28,7 +28,8 @@ image_truncated bytes =
     nat_lt (length bytes) (program_table bytes + 32 * program_count bytes) || truncated bytes
     || list_any (λ header. nat_lt (length bytes) (header.offset + header.file_size)) (loads_of bytes)
 
--- a segment with more bytes in the file than in memory, with code that can be written, PF_W (2), or out of its place in memory
+-- a segment that is longer in the file than in memory, has writable code, PF_W (2), or lies outside the region for its
+-- kind
 abbrev pub is_bad_load : MemMap → ProgramHeader → Bool
 is_bad_load memory header =
     nat_lt header.memory_size header.file_size || (is_code header && bit_and header.flags 2 == 2) || not (is_in_place memory header)
@@ -38,8 +39,8 @@ abbrev pub some_overlap : List ProgramHeader → Bool
 some_overlap [] = false
 some_overlap (header ∷ headers) = list_any (overlap_in_memory header) headers || some_overlap headers
 
--- more than 16 segments, a bad one, two that overlap, or an entry that is odd, or neither in the bytes of a segment of code
--- nor where they end
+-- there are more than 16 segments, a bad one, or two that overlap; or the entry address is odd, or neither inside the
+-- bytes of a code segment nor at their end
 abbrev pub bad_segments : List ℕ → MemMap → Bool
 bad_segments bytes memory =
     nat_lt 16 (length (loads_of bytes)) || list_any (is_bad_load memory) (loads_of bytes) || some_overlap (loads_of bytes)
@@ -52,14 +53,15 @@ is_bad_section bytes memory header =
     let entries = entries_of (content_of bytes header) in
     is_empty_kind header.kind || not (header.size % 12 == 0) || not (is_ascending entries) || list_any (is_outside memory) entries
 
--- there are sections, but no table of their names, or a name in it has no end, or more than one lists places, or one badly
+-- there are sections, but no table of their names, or a name in it has no end, or there are two lists of places or a
+-- bad one
 abbrev pub bad_places : List ℕ → MemMap → Bool
 bad_places bytes memory =
     not (section_count bytes == 0)
     && (lacks_strings bytes (name_section bytes) || list_any (is_unnamed_section bytes) (headers_of bytes)
     || nat_lt 1 (length (places_sections bytes)) || list_any (is_bad_section bytes memory) (places_sections bytes))
 
--- the first fault of an image's bytes under a memory map, or none: an image has at most 8 MiB
+-- the first fault of an image's bytes under a memory map, if there is one; an image has at most 8 MiB
 unfoldable pub image_fault : List ℕ → MemMap → Option ImageFault
 image_fault bytes memory = first_of (
     (nat_lt 0x80_0000 (length bytes), TooLarge) ∷ (not_image bytes, NotElf) ∷ (image_truncated bytes, Truncated)

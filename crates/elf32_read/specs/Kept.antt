@@ -7,7 +7,7 @@ use Rattle.elf32_read.specs.declared.header.SectionHeader.{SectionHeader}
 abbrev pub has_flags : ℕ → ℕ → Bool
 has_flags bits flags = bit_and flags bits == bits
 
--- the section has ALLOC (2), and isn't the table for unwinding the stack, .eh_frame
+-- the section has ALLOC (2), and isn't .eh_frame, the table for unwinding the stack
 abbrev pub is_kept : List ℕ → SectionHeader → Bool
 is_kept bytes h = has_flags 2 h.flags && not (is_name_at (codes ".eh_frame") (section_names bytes) h.name)
 

@@ -1,4 +1,4 @@
--- Sections and symbols, as the code lends them.
+-- Sections and symbols, as the code returns them with borrowed bytes.
 use Rattle.std.specs.Prelude.{◌≡◌, not, true, ◌==◌}
 use Rattle.std.specs.List.{list_any, take_while}
 use Rattle.elf32_read.specs.Parts.{SectionParts, SymbolParts}
@@ -6,7 +6,7 @@ use Rattle.elf32_read.specs.declared.section.Section.{Section}
 use Rattle.elf32_read.specs.declared.section_entry.SectionEntry.{SectionEntry}
 use Rattle.elf32_read.specs.declared.symbol.Symbol.{Symbol}
 
--- the section is this one; its relocations are lent one by one
+-- a borrowed section is this one; its relocations are read one by one
 pub record IsSection (section : Section) (parts : SectionParts) : Type 0 where
   pub name : section.name.now ≡ parts.name
   pub kind : section.kind ≡ parts.kind
@@ -15,7 +15,7 @@ pub record IsSection (section : Section) (parts : SectionParts) : Type 0 where
   pub align : section.align ≡ parts.align
   pub bytes : section.bytes.now ≡ parts.bytes
 
--- the section is this one; the table of names from where its own begins is lent in place of the name
+-- a borrowed section is this one; instead of its name it has the table of names from its name on
 pub record IsSectionEntry (entry : SectionEntry) (parts : SectionParts) : Type 0 where
   pub ends : list_any (λ byte. byte == 0) entry.names.now ≡ true
   pub name : take_while (λ byte. not (byte == 0)) entry.names.now ≡ parts.name
@@ -25,7 +25,7 @@ pub record IsSectionEntry (entry : SectionEntry) (parts : SectionParts) : Type 0
   pub align : entry.align ≡ parts.align
   pub bytes : entry.bytes.now ≡ parts.bytes
 
--- the symbol is this one
+-- a borrowed symbol is this one
 pub record IsSymbol (symbol : Symbol) (parts : SymbolParts) : Type 0 where
   pub name : symbol.name.now ≡ parts.name
   pub value : symbol.value ≡ parts.value

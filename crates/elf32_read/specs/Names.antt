@@ -16,11 +16,11 @@ name_at table at = take_while (λ byte. not (byte == 0)) (drop at table)
 abbrev pub is_name_at : List ℕ → List ℕ → ℕ → Bool
 is_name_at name table at = starts_with nat_eq (drop at table) (name ++ 0 ∷ [])
 
--- the section with this index is none, or no STRTAB (3)
+-- there is no section with this index, or it is no STRTAB (3)
 abbrev pub lacks_strings : List ℕ → ℕ → Bool
 lacks_strings bytes i = nat_le (section_count bytes) i || not ((header_of bytes i).kind == 3)
 
--- the strings of the section with this index: empty if it has none
+-- the string table with this section index; empty if that section is no string table
 abbrev pub strings_of : List ℕ → ℕ → List ℕ
 strings_of bytes i = if lacks_strings bytes i then [] else content_of bytes (header_of bytes i)
 

@@ -18,16 +18,16 @@ use Rattle.elf32_read.specs.declared.symbol_entry.SymbolEntry.{SymbolEntry}
 
 -- ---- the file as a whole
 
--- longer than 4 MiB
+-- the file is longer than 4 MiB
 abbrev pub is_too_long : List ℕ → Bool
 is_too_long bytes = nat_lt 0x40_0000 (length bytes)
 
--- shorter than its header, not a relocatable RISC-V file (type 1), or with sections whose headers
--- do not have 40 bytes
+-- the file is shorter than its header, isn't a relocatable RISC-V file (type 1), or has section headers whose size
+-- isn't 40 bytes
 abbrev pub not_elf : List ℕ → Bool
 not_elf bytes = nat_lt (length bytes) 52 || not (begins_as 1 bytes) || has_other_section_headers bytes
 
--- more than 4,096 sections
+-- the file has more than 4,096 sections
 abbrev pub has_too_many_sections : List ℕ → Bool
 has_too_many_sections bytes = nat_lt 4096 (section_count bytes)
 
@@ -51,15 +51,15 @@ has_other_flags bytes = not (are_known_flags (file_flags bytes))
 
 -- ---- sections that are never linked
 
--- no section is counted, but section headers have a place: how a file says that it has too many for e_shnum
+-- e_shnum is 0, but e_shoff isn't: how a file says that it has too many sections for e_shnum
 abbrev pub counts_elsewhere : List ℕ → Bool
 counts_elsewhere bytes = section_count bytes == 0 && not (section_table bytes == 0)
 
--- REL (9), GROUP (17), or SYMTAB_SHNDX (18)
+-- the type is REL (9), GROUP (17), or SYMTAB_SHNDX (18)
 abbrev pub is_foreign_kind : SectionHeader → Bool
 is_foreign_kind h = h.kind == 9 || h.kind == 17 || h.kind == 18
 
--- COMPRESSED (0x800)
+-- the flags have COMPRESSED (0x800)
 abbrev pub is_compressed : SectionHeader → Bool
 is_compressed h = has_flags 0x800 h.flags
 
@@ -67,20 +67,20 @@ is_compressed h = has_flags 0x800 h.flags
 abbrev pub has_second_symbol_table : List ℕ → Bool
 has_second_symbol_table bytes = nat_lt 1 (length (symbol_tables bytes))
 
--- a SYMTAB whose entries don't have 16 bytes, or with a part of one at its end
+-- a SYMTAB whose entries don't have 16 bytes, or whose last entry is incomplete
 abbrev pub is_odd_symbol_table : SectionHeader → Bool
 is_odd_symbol_table h = h.kind == 2 && (not (h.entry_size == 16) || not (h.size % 16 == 0))
 
--- kept, and each thread has one of its own: TLS (0x400)
+-- a kept section of thread-local data: TLS (0x400)
 abbrev pub is_kept_by_thread : List ℕ → SectionHeader → Bool
 is_kept_by_thread bytes h = is_kept bytes h && has_flags 0x400 h.flags
 
--- kept, and none of PROGBITS (1), NOBITS (8), INIT_ARRAY (14), FINI_ARRAY (15) and PREINIT_ARRAY (16)
+-- a kept section of another type than PROGBITS (1), NOBITS (8), INIT_ARRAY (14), FINI_ARRAY (15) and PREINIT_ARRAY (16)
 abbrev pub is_kept_unknown : List ℕ → SectionHeader → Bool
 is_kept_unknown bytes h =
     is_kept bytes h && not (h.kind == 1 || h.kind == 8 || h.kind == 14 || h.kind == 15 || h.kind == 16)
 
--- code that the program may write to, WRITE (1), or that isn't PROGBITS
+-- kept code that is writable, WRITE (1), or isn't PROGBITS
 abbrev pub is_odd_code : List ℕ → SectionHeader → Bool
 is_odd_code bytes h = is_kept_code bytes h && (has_flags 1 h.flags || not (h.kind == 1))
 
@@ -88,19 +88,19 @@ is_odd_code bytes h = is_kept_code bytes h && (has_flags 1 h.flags || not (h.kin
 abbrev pub is_kept_rela : List ℕ → SectionHeader → Bool
 is_kept_rela bytes h = h.kind == 4 && nat_lt h.info (section_count bytes) && is_kept bytes (header_of bytes h.info)
 
--- a RELA for a kept section whose entries don't have 12 bytes, or that ends with a part of one
+-- a RELA for a kept section, whose entries don't have 12 bytes or whose last entry is incomplete
 abbrev pub is_odd_rela : List ℕ → SectionHeader → Bool
 is_odd_rela bytes h = is_kept_rela bytes h && (not (h.entry_size == 12) || not (h.size % 12 == 0))
 
--- the section with this index is none, or no SYMTAB
+-- there is no section with this index, or it is no SYMTAB
 abbrev pub lacks_symbols : List ℕ → ℕ → Bool
 lacks_symbols bytes i = nat_le (section_count bytes) i || not ((header_of bytes i).kind == 2)
 
--- a RELA for a kept section whose sh_link doesn't name the SYMTAB
+-- a RELA for a kept section, whose sh_link doesn't name the SYMTAB
 abbrev pub has_other_symbols : List ℕ → SectionHeader → Bool
 has_other_symbols bytes h = is_kept_rela bytes h && lacks_symbols bytes h.link
 
--- a kept section with two RELA
+-- a kept section with two RELA sections
 abbrev pub is_changed_twice : List ℕ → ℕ → Bool
 is_changed_twice bytes i = is_kept bytes (header_of bytes i) && nat_lt 1 (length (relas_for bytes i))
 
@@ -108,11 +108,11 @@ is_changed_twice bytes i = is_kept bytes (header_of bytes i) && nat_lt 1 (length
 abbrev pub has_two_relas : List ℕ → Bool
 has_two_relas bytes = list_any (is_changed_twice bytes) (range_with_len 0 (section_count bytes))
 
--- a RELA for a section that isn't there
+-- a RELA for a section that doesn't exist
 abbrev pub is_rela_of_none : List ℕ → SectionHeader → Bool
 is_rela_of_none bytes h = h.kind == 4 && nat_le (section_count bytes) h.info
 
--- a section for one of these causes that are its own
+-- a section that is never linked, for one of the causes that can be seen from its own header
 abbrev pub is_unlinked : List ℕ → SectionHeader → Bool
 is_unlinked bytes h =
     is_foreign_kind h || is_compressed h || is_odd_symbol_table h || is_kept_by_thread bytes h || is_kept_unknown bytes h
@@ -125,15 +125,15 @@ has_unlinked_sections bytes =
 
 -- ---- alignments and sizes
 
--- neither 0 nor a power of two, or above the most
+-- an alignment that is neither 0 nor a power of two, or is above the maximum
 abbrev pub is_bad_alignment : ℕ → ℕ → Bool
 is_bad_alignment most align = not (align == 0) && (not (is_power_of_two align) || nat_lt most align)
 
--- a kept section: code is aligned to 256 bytes at most, data to 4,096
+-- a kept section with a bad alignment: at most 256 bytes are allowed for code, and 4,096 for data
 abbrev pub is_badly_aligned : List ℕ → SectionHeader → Bool
 is_badly_aligned bytes h = is_kept bytes h && is_bad_alignment (if has_flags 4 h.flags then 256 else 4096) h.align
 
--- a common symbol (SHN_COMMON, 0xFFF2), whose value is its alignment
+-- a common symbol (SHN_COMMON, 0xFFF2) with a bad alignment, which its value holds
 abbrev pub is_bad_common : SymbolEntry → Bool
 is_bad_common e = e.home == 0xFFF2 && is_bad_alignment 4096 e.value
 
@@ -142,17 +142,17 @@ abbrev pub has_bad_alignment : List ℕ → Bool
 has_bad_alignment bytes =
     list_any (is_badly_aligned bytes) (headers_of bytes) || list_any is_bad_common (drop 1 (symbol_entries bytes))
 
--- code that ends inside a word, or of a compressed object inside a halfword
+-- kept code that ends inside a word, or in a compressed object inside a halfword
 abbrev pub is_cut_code : List ℕ → SectionHeader → Bool
 is_cut_code bytes h = is_kept_code bytes h && not (h.size % code_step (has_rvc (file_flags bytes)) == 0)
 
--- some section is such code
+-- some section is code that ends inside a word, or in a compressed object inside a halfword
 abbrev pub has_cut_code : List ℕ → Bool
 has_cut_code bytes = list_any (is_cut_code bytes) (headers_of bytes)
 
 -- ---- names
 
--- sections without a table of names
+-- there are sections, but no table of their names
 abbrev pub lacks_section_names : List ℕ → Bool
 lacks_section_names bytes = not (section_count bytes == 0) && lacks_strings bytes (name_section bytes)
 
@@ -160,7 +160,7 @@ lacks_section_names bytes = not (section_count bytes == 0) && lacks_strings byte
 abbrev pub is_unnamed_symbol : List ℕ → SymbolEntry → Bool
 is_unnamed_symbol bytes e = not (has_end (symbol_names bytes) e.name)
 
--- a SYMTAB without a table of names
+-- a SYMTAB without a table of its symbols' names
 abbrev pub lacks_symbol_names : List ℕ → SectionHeader → Bool
 lacks_symbol_names bytes h = lacks_strings bytes h.link
 
@@ -182,41 +182,41 @@ has_other_binding e = nat_lt 2 e.bind
 abbrev pub has_other_kind : SymbolEntry → Bool
 has_other_kind e = e.kind == 6 || e.kind == 10
 
--- local and undefined (SHN_UNDEF, 0)
+-- a symbol that is local and undefined (SHN_UNDEF, 0)
 abbrev pub is_undefined_local : SymbolEntry → Bool
 is_undefined_local e = e.bind == 0 && e.home == 0
 
--- neither in a section, which UNDEF counts as here, nor ABS (0xFFF1) nor COMMON (0xFFF2)
+-- st_shndx is neither the index of a section (UNDEF, 0, is one) nor ABS (0xFFF1) nor COMMON (0xFFF2)
 abbrev pub is_homeless : List ℕ → SymbolEntry → Bool
 is_homeless bytes e = nat_le (section_count bytes) e.home && not (e.home == 0xFFF1) && not (e.home == 0xFFF2)
 
--- past the end of the kept section that it is in
+-- a symbol past the end of the kept section that it is defined in
 abbrev pub passes_section : List ℕ → SymbolEntry → Bool
 passes_section bytes e =
     not (e.home == 0) && nat_lt e.home (section_count bytes) && is_kept bytes (header_of bytes e.home)
     && nat_lt (header_of bytes e.home).size e.value
 
--- a symbol for one of these causes
+-- a symbol that isn't accepted, for one of the causes above
 abbrev pub is_bad_symbol : List ℕ → SymbolEntry → Bool
 is_bad_symbol bytes e =
     has_other_binding e || has_other_kind e || is_undefined_local e || is_homeless bytes e || passes_section bytes e
 
--- a relocation that names a symbol which isn't there
+-- a relocation whose symbol index is past the end of the symbol table
 abbrev pub names_no_symbol : List ℕ → Reloc → Bool
 names_no_symbol bytes r = nat_le (symbol_count bytes) r.symbol
 
--- a kept section is changed by such a relocation
+-- a RELA for a kept section with a relocation whose symbol doesn't exist
 abbrev pub is_of_no_symbol : List ℕ → SectionHeader → Bool
 is_of_no_symbol bytes h = is_kept_rela bytes h && list_any (names_no_symbol bytes) (relocs_in (content_of bytes h))
 
--- a symbol other than 0 is bad, or a relocation that counts names none
+-- a symbol other than 0 is bad, or a relocation of a kept section names no symbol
 abbrev pub has_bad_symbol : List ℕ → Bool
 has_bad_symbol bytes =
     list_any (is_bad_symbol bytes) (drop 1 (symbol_entries bytes)) || list_any (is_of_no_symbol bytes) (headers_of bytes)
 
 -- ---- the first fault
 
--- the first fault of an object's bytes, or none
+-- the first fault of an object's bytes, if there is one
 unfoldable pub object_fault : List ℕ → Option Fault
 object_fault bytes = first_of (
     (is_too_long bytes, TooLarge) ∷ (not_elf bytes, NotElf) ∷ (has_too_many_sections bytes, TooLarge) ∷ (truncated bytes, Truncated)

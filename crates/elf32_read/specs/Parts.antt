@@ -13,8 +13,8 @@ use Rattle.elf32_read.specs.declared.header.SectionHeader.{SectionHeader}
 use Rattle.elf32_read.specs.declared.reloc.Reloc.{Reloc}
 use Rattle.elf32_read.specs.declared.symbol_entry.SymbolEntry.{SymbolEntry}
 
--- a section: its name, type, flags and alignment, its size in memory, its content, what changes it, and whether its object is
--- compressed
+-- a section: its name, type, flags and alignment, its size in memory, its content, its relocations, and whether its
+-- object is compressed
 pub record SectionParts : Type 0 where
   pub name : List ℕ
   pub kind : ℕ
@@ -25,7 +25,7 @@ pub record SectionParts : Type 0 where
   pub relocs : List Reloc
   pub compressed : Bool
 
--- a symbol: its name, value and size, its binding and type, and its home: a section's index, or no section
+-- a symbol: its name, value and size, its binding and type, and st_shndx: a section's index, or UNDEF, ABS or COMMON
 pub record SymbolParts : Type 0 where
   pub name : List ℕ
   pub value : ℕ
@@ -42,7 +42,7 @@ pub record ObjectParts : Type 0 where
 
 -- ---- sections and names, as parts
 
--- the section has ALLOC (2), and isn't the table for unwinding the stack: all others are dropped
+-- a section that is kept: it has ALLOC (2), and isn't .eh_frame, the table for unwinding the stack
 abbrev pub is_kept_section : SectionParts → Bool
 is_kept_section s = has_flags 2 s.flags && not (pointwise nat_eq s.name (codes ".eh_frame"))
 
@@ -52,11 +52,11 @@ is_code_section s = is_kept_section s && has_flags 4 s.flags
 
 -- ---- what a file reads as
 
--- the relocations that a section holds
+-- the relocations that are the content of a section
 abbrev pub relocs_held : List ℕ → SectionHeader → List Reloc
 relocs_held file h = relocs_in (content_of file h)
 
--- the relocations of a section; a section that is dropped has none
+-- the relocations that apply to a section; a section that is dropped has none
 abbrev pub relocs_of : List ℕ → ℕ → List Reloc
 relocs_of file i = if is_kept file (header_of file i) then flat_map (relocs_held file) (relas_for file i) else []
 
@@ -84,7 +84,7 @@ symbol_parts file e = record {
   home = e.home;
 }
 
--- all of it
+-- the object that a file is
 unfoldable pub object_parts : List ℕ → ObjectParts
 object_parts file = record {
   flags = file_flags file;

@@ -23,7 +23,7 @@ place_entry_at content i =
 abbrev pub entries_of : List ℕ → List (Place × ℕ)
 entries_of content = map (place_entry_at content) (range_with_len 0 (length content / 12))
 
--- the places that the image lists, each with its address: none without the section
+-- the places that the image lists, each with its address; an empty list if it has no such section
 abbrev pub place_list : List ℕ → List (Place × ℕ)
 place_list bytes = flat_map (λ header. entries_of (content_of bytes header)) (places_sections bytes)
 
@@ -33,6 +33,6 @@ is_ascending [] = true
 is_ascending (entry ∷ []) = true
 is_ascending (entry ∷ next ∷ entries) = is_before entry.0 next.0 && is_ascending (next ∷ entries)
 
--- the address is no address of code, nor the one where code ends at the latest
+-- the address is outside the region for code, whose end is allowed
 abbrev pub is_outside : MemMap → Place × ℕ → Bool
 is_outside memory entry = nat_lt entry.1 memory.text || nat_lt memory.data_low entry.1

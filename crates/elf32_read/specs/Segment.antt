@@ -1,4 +1,4 @@
--- A segment, as the code lends it.
+-- A segment, as the code returns it with borrowed bytes.
 use Rattle.elf32_read.specs.Segments.{SegmentData}
 use Rattle.elf32_read.specs.declared.segment.Segment.{Segment}
 

@@ -17,7 +17,7 @@ is_code header = bit_and header.flags 1 == 1
 abbrev pub memory_end : ProgramHeader → ℕ
 memory_end header = header.address + header.memory_size
 
--- code lies from text to below data_low, all else in the 4 MiB from data_low on
+-- a segment lies in the region for its kind: code from text to below data_low, all else in the 4 MiB from data_low on
 abbrev pub is_in_place : MemMap → ProgramHeader → Bool
 is_in_place memory header =
     if is_code header
@@ -29,7 +29,7 @@ abbrev pub overlap_in_memory : ProgramHeader → ProgramHeader → Bool
 overlap_in_memory first second =
     nat_lt (max first.address second.address) (min (memory_end first) (memory_end second))
 
--- the address is in the bytes of a code segment that come from the file, or where they end
+-- an address inside the bytes that a code segment has in the file, or at their end
 abbrev pub is_entry_of : ℕ → ProgramHeader → Bool
 is_entry_of entry header = is_code header && nat_le header.address entry && nat_le entry (header.address + header.file_size)
 

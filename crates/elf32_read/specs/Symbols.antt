@@ -12,7 +12,7 @@ use Rattle.elf32_read.specs.declared.symbol_entry.SymbolEntry.{SymbolEntry}
 abbrev pub symbol_tables : List ℕ → List SectionHeader
 symbol_tables bytes = filter (λ h. h.kind == 2) (headers_of bytes)
 
--- the one that is read
+-- the SYMTAB that is read: the first one
 abbrev pub symbol_table : List ℕ → Option SectionHeader
 symbol_table bytes = slice_get (symbol_tables bytes) 0
 

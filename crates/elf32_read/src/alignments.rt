@@ -1,5 +1,5 @@
-// Whether sections and common symbols are aligned as they may be, and code has whole words, or of a
-// compressed object whole halfwords.
+// Whether the alignments of sections and common symbols are allowed, and code ends at a whole word, or in
+// a compressed object at a whole halfword.
 
 ghost use Rattle.std.specs.Prelude.{◌≡◌, ◌<◌, drop};
 ghost use Rattle.std.specs.List.{list_any};
@@ -19,7 +19,7 @@ const MOST_OF_CODE: u32 = 256;
 
 const MOST_OF_DATA: u32 = 4096;
 
-// Whether an alignment is neither 0 nor a power of two, or above the most.
+// Whether an alignment is neither 0 nor a power of two, or is above the maximum.
 fn is_bad_alignment(most: u32, align: u32) -> bool
     ensures { result ≡ is_bad_alignment most align }
 {
@@ -77,7 +77,7 @@ pub fn has_bad_alignment(sections: &Sections, entries: &[u8]) -> bool
     has_badly_aligned(sections) || has_bad_common(entries)
 }
 
-// What the starts, the sizes and the end of code are multiples of, by the flags of its object.
+// The number that the addresses and sizes of code are multiples of, by the flags of its object.
 fn code_step(flags: u32) -> u32
     ensures some { 0 < result }
     ensures value { result ≡ code_step (has_rvc flags) }
@@ -85,14 +85,14 @@ fn code_step(flags: u32) -> u32
     if has_rvc(flags) { 2 } else { 4 }
 }
 
-// Whether a section is code that ends inside a word, or of a compressed object inside a halfword.
+// Whether a section is kept code that ends inside a word, or in a compressed object inside a halfword.
 fn is_cut_code(sections: &Sections, header: &SectionHeader) -> bool
     ensures { result ≡ is_cut_code sections.now header.now }
 {
     sections.is_kept_code(header) && header.size % code_step(file_flags(sections.bytes())) != 0
 }
 
-/// Whether some section is such code.
+/// Whether some section is kept code that ends inside a word, or in a compressed object inside a halfword.
 #[tactic(auto, using(crate::proofs::Listed::none_listed_more))]
 pub fn has_cut_code(sections: &Sections) -> bool
     ensures { result ≡ has_cut_code sections.now }

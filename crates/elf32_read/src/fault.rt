@@ -6,51 +6,51 @@ ghost use Rattle.elf32_read.specs.Fault.{fault_name, fault_number, fault_symbol}
 use std::error::Error;
 use std::fmt;
 
-/// Why the linker refuses an object. A fault is shown as its name. `Object::read` gives those from
-/// `NotElf` to `BadSymbol`, and `TooLarge`; the crates above find the others.
+/// Why the linker rejects an object. A fault is printed as its name. `Object::read` returns those from
+/// `NotElf` to `BadSymbol`, and `TooLarge`; the other crates of the linker find the others.
 ///
-/// `symbol` is the index of a symbol in its object, `section` that of a section, and `at` the
+/// `symbol` and `section` are the indices of a symbol and of a section in the object, and `at` is the
 /// offset of a relocation or of a branch in that section.
 #[derive(Clone, Copy, PartialEq, Eq, Debug)]
 pub enum Fault {
     /// The file is shorter than its header, isn't a relocatable RISC-V file of class 32, or has
-    /// sections whose headers don't have 40 bytes.
+    /// section headers whose size isn't 40 bytes.
     NotElf,
     /// The section headers, or the content of a section, pass the file's end.
     Truncated,
-    /// The file's flags have another bit than RVC and TSO.
+    /// e_flags has bits other than RVC and TSO.
     Flags,
-    /// A section has a kind, flags or entries that are never linked.
+    /// A section has a type, flags or entries that the linker doesn't support.
     SectionKind,
     /// The alignment of a section, or of a common symbol, is neither 0 nor a power of two, or is
     /// too large.
     Alignment,
     /// A section of code ends inside a word, or in a compressed object inside a halfword.
     CodeSize,
-    /// There is no table of names, or a name has no end in it.
+    /// There is no table of names, or a name in it isn't terminated.
     BadName,
-    /// A symbol has a binding, a kind, a home or a value that isn't taken, or a relocation names a
-    /// symbol that the object lacks.
+    /// A symbol has a binding, a type, a section index or a value that isn't accepted, or a
+    /// relocation names a symbol that the object doesn't have.
     BadSymbol,
-    /// The symbol is a second strong definition of its name.
+    /// The symbol is the second strong definition of its name.
     Duplicate { symbol: u32 },
     /// No object defines this global symbol, which a relocation uses.
     Undefined { symbol: u32 },
-    /// The relocation is of a kind that its section can't take.
+    /// The relocation has a type that isn't allowed in its section.
     RelocKind { section: u16, at: u32 },
-    /// The relocation doesn't fit where it stands, or overlaps another one.
+    /// The relocation doesn't fit the bytes at its offset, or overlaps another one.
     RelocPlace { section: u16, at: u32 },
-    /// The low half of an address relative to pc has an addend, or lacks the `auipc` of its section
-    /// that has the high half.
+    /// A PCREL_LO12 relocation has an addend, or there is no PCREL_HI20 `auipc` in its section where
+    /// its symbol points.
     LoPair { section: u16, at: u32 },
-    /// The relocation's target lies nowhere in the program, or inside an item, or is a plain number
-    /// that code is to go to.
+    /// The relocation's target isn't in the program, is inside an item, or is an absolute number
+    /// where a jump or branch needs a place in code.
     BadTarget { section: u16, at: u32 },
-    /// The branch, or the jump of 2 bytes, doesn't reach its target.
+    /// The target of the branch, or of the 2-byte jump, is out of range.
     Range { section: u16, at: u32 },
-    /// `_start` names no item of code.
+    /// `_start` isn't defined at an item of code.
     NoEntry,
-    /// There are too many objects or sections, or an object, or a sum over the objects, is too
+    /// There are too many objects or sections, or an object, or a total over all objects, is too
     /// large.
     TooLarge,
 }
@@ -81,7 +81,7 @@ impl Fault {
         }
     }
 
-    /// The fault's name, as it is written above.
+    /// The fault's name, as spelled in this enum.
     pub fn name(&self) -> &'static str
         ensures { result.now ≡ fault_name self.now }
     {
@@ -106,7 +106,7 @@ impl Fault {
         }
     }
 
-    /// The index of the symbol that the fault names, if it names one.
+    /// The index of the symbol that the fault names, if any.
     pub fn symbol(&self) -> Option<u32>
         ensures { result ≡ fault_symbol self.now }
     {

@@ -11,7 +11,7 @@ use crate::section_flags::SectionFlags;
 use bitflags::Flags;
 use zc_base::fields::{u16_at, u32_at};
 
-/// Types of files, e_type.
+/// File types, e_type.
 pub const RELOCATABLE: u16 = 1;
 
 pub const EXECUTABLE: u16 = 2;
@@ -24,10 +24,10 @@ pub const RVC: u32 = 0x1;
 
 pub const TSO: u32 = 0x10;
 
-/// The kind of a program header that loads a segment, PT_LOAD.
+/// The type of a program header that loads a segment, PT_LOAD.
 pub const LOAD: u32 = 1;
 
-/// Kinds of sections, sh_type.
+/// Section types, sh_type.
 pub const NULL: u32 = 0;
 
 pub const PROGBITS: u32 = 1;
@@ -69,7 +69,7 @@ pub struct SectionHeader {
 }
 
 impl SectionHeader {
-    /// Whether these are among the section's flags.
+    /// Whether the section has all of these flags.
     pub fn has(&self, flags: SectionFlags) -> bool
         ensures { result ≡ has_flags flags.bits self.now.flags }
     {
@@ -136,22 +136,22 @@ pub fn file_flags(bytes: &[u8]) -> u32
     u32_at(bytes, 36)
 }
 
-/// Whether e_flags has no bit but RVC and TSO.
+/// Whether e_flags has no bits other than RVC and TSO.
 pub fn are_known_flags(flags: u32) -> bool
     ensures { result ≡ are_known_flags flags }
 {
     flags == 0 || flags == RVC || flags == TSO || flags == RVC | TSO
 }
 
-/// Whether an object with these e_flags is compressed, so that its code may have instructions of 2
-/// bytes: RVC is among them.
+/// Whether an object with these e_flags is compressed: RVC is set, so its code may have 2-byte
+/// instructions.
 pub fn has_rvc(flags: u32) -> bool
     ensures { result ≡ has_rvc flags }
 {
     flags & RVC == RVC
 }
 
-/// The bytes of a program header, e_phentsize.
+/// The size of a program header in bytes, e_phentsize.
 pub fn program_header_size(bytes: &[u8]) -> u16
     requires { 52 ≤ length bytes.now }
     ensures { result ≡ half_in bytes.now 42 }
@@ -167,7 +167,7 @@ pub fn program_count(bytes: &[u8]) -> u16
     u16_at(bytes, 44)
 }
 
-/// The bytes of a section header, e_shentsize.
+/// The size of a section header in bytes, e_shentsize.
 pub fn section_header_size(bytes: &[u8]) -> u16
     requires { 52 ≤ length bytes.now }
     ensures { result ≡ half_in bytes.now 46 }
@@ -191,7 +191,7 @@ pub fn name_section(bytes: &[u8]) -> u16
     u16_at(bytes, 50)
 }
 
-/// Whether there are section headers, but not of 40 bytes.
+/// Whether there are section headers, and their size isn't 40 bytes.
 pub fn has_other_section_headers(bytes: &[u8]) -> bool
     requires { 52 ≤ length bytes.now }
     ensures { result ≡ has_other_section_headers bytes.now }
@@ -241,7 +241,7 @@ pub fn program_header(bytes: &[u8], i: u32) -> ProgramHeader
     }
 }
 
-/// Whether the file holds no content for sections of this kind: NULL or NOBITS.
+/// Whether sections of this type, NULL or NOBITS, have no content in the file.
 pub fn is_without_content(kind: u32) -> bool
     ensures { result ≡ is_empty_kind kind }
 {

@@ -74,7 +74,7 @@ impl<'a> Model for Image<'a> {
 }
 
 impl<'a> Image<'a> {
-    /// The image that the bytes are under a memory map, or their first fault. It reads each header
+    /// Reads an image under a memory map, or returns the first fault of its bytes. It reads each header
     /// and each place a fixed number of times.
     #[tactic(auto, unfolding(crate::specs::Image::image_fault))]
     pub fn read(bytes: &'a [u8], map: MemMap) -> Result<Image<'a>, ImageFault>

@@ -5,26 +5,26 @@ ghost use Rattle.elf32_read.specs.ImageFault.{image_fault_number};
 
 use thiserror::Error;
 
-/// Why bytes are no image that the machine runs. A fault is shown as its name.
+/// Why the machine can't run these bytes as an image. A fault is printed as its name.
 #[derive(Clone, Copy, PartialEq, Eq, Debug, Error)]
 pub enum ImageFault {
     /// The file is shorter than its header, isn't an executable RISC-V file of class 32, or has
-    /// flags other than RVC and TSO, or headers of another size.
+    /// flags other than RVC and TSO, or program or section headers of an unexpected size.
     #[error("NotElf")]
     NotElf,
     /// A table of headers, a segment's bytes or a section's content passes the file's end.
     #[error("Truncated")]
     Truncated,
-    /// There are more than 16 segments, one is longer in the file than in memory, holds code that
-    /// can be written or lies out of its place, or two overlap; or the entry is odd, or neither in
-    /// the bytes of a segment of code nor where they end.
+    /// There are more than 16 segments; or one is longer in the file than in memory, holds writable
+    /// code, or lies outside the region for its kind; or two overlap; or the entry address is odd,
+    /// or neither inside the bytes of a code segment nor at their end.
     #[error("BadSegment")]
     BadSegment,
-    /// There are sections, and they lack names, or more than one lists places, or one lists them in
-    /// part, out of order, or at addresses below text or above where data begins.
+    /// There are sections, and they lack names, or more than one lists places, or the list is
+    /// incomplete, out of order, or has addresses below text or above the start of data.
     #[error("BadPlaces")]
     BadPlaces,
-    /// The file has more than 8 MiB.
+    /// The file is longer than 8 MiB.
     #[error("TooLarge")]
     TooLarge,
 }

@@ -14,7 +14,7 @@ use crate::section_flags::SectionFlags;
 use crate::sections::Sections;
 use crate::symbols::SYMBOL_SIZE;
 
-// Whether no section is counted, but section headers have a place.
+// Whether e_shnum is 0, but e_shoff isn't.
 fn counts_elsewhere(sections: &Sections) -> bool
     ensures { result ≡ counts_elsewhere sections.now }
 {
@@ -84,7 +84,7 @@ fn is_odd_rela(sections: &Sections, header: &SectionHeader) -> bool
         && (header.entry_size != RELA_SIZE || header.size % RELA_SIZE != 0)
 }
 
-// Whether a section is no table of symbols.
+// Whether there is no section with this index, or it is no symbol table.
 fn lacks_symbols(sections: &Sections, i: u32) -> bool
     ensures { result ≡ lacks_symbols sections.now i }
 {
@@ -103,7 +103,7 @@ fn is_rela_of_none(sections: &Sections, header: &SectionHeader) -> bool
     header.kind == RELA && sections.count() <= header.info
 }
 
-// Whether a section is never linked, for a cause of its own.
+// Whether a section is never linked, for a cause that can be seen from its own header.
 fn is_unlinked(sections: &Sections, header: &SectionHeader) -> bool
     ensures { result ≡ is_unlinked sections.now header.now }
 {
@@ -118,7 +118,7 @@ fn is_unlinked(sections: &Sections, header: &SectionHeader) -> bool
         || is_rela_of_none(sections, header)
 }
 
-// Whether some section is never linked, for a cause of its own.
+// Whether some section is never linked, for a cause that can be seen from its own header.
 #[tactic(auto, using(crate::proofs::Listed::none_listed_more))]
 fn has_unlinked_section(sections: &Sections) -> bool
     ensures { result ≡ list_any (is_unlinked sections.now) (headers_of sections.now) }

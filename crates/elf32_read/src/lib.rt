@@ -1,6 +1,6 @@
 //! Reads ELF files of 32-bit RISC-V: relocatable objects, by their sections, and images, by their
 //! segments and the places that they list. A value borrows the bytes that it was read from, and
-//! nothing here takes memory.
+//! nothing here allocates.
 #![tactic(auto)]
 
 mod alignments;

@@ -4,23 +4,23 @@ ghost use Rattle.std.specs.Prelude.{◌≡◌, ℕ, ◌==◌, nat_eq, nat_lt, dr
 ghost use Rattle.std.specs.List.{starts_with};
 ghost use Rattle.elf32_read.specs.Names.{has_end, name_at};
 
-/// A table from an offset on.
+/// A string table from an offset on; empty if the offset is past its end.
 pub fn names_from(table: &[u8], at: u32) -> &[u8]
     ensures { result.now ≡ drop at table.entry.now }
 {
     &table[table.len().min(at as usize)..]
 }
 
-/// Whether a name, which is given with the zero that ends it, begins at an offset of a table. It looks
-/// at no more bytes than are given.
+/// Whether a name, given with its terminating zero, is the one at an offset of a table. It looks at no
+/// more bytes than the name has.
 pub fn is_name_at(ended: &[u8], table: &[u8], at: u32) -> bool
     ensures { result ≡ starts_with nat_eq (drop at table.now) ended.now }
 {
     names_from(table, at).starts_with(ended)
 }
 
-/// Where the last name ends: an offset has a zero at it or after it exactly if it is below. It looks
-/// at no byte before that zero.
+/// The offset just after the last zero, or 0 if there is none: the names that begin below it are
+/// terminated, and no others. It looks at no byte before that zero.
 pub fn names_end(names: &[u8]) -> usize
     ensures { (k : ℕ) → has_end names.now k ≡ nat_lt k result }
 {

@@ -67,7 +67,7 @@ impl<'a> Model for Object<'a> {
 }
 
 impl<'a> Object<'a> {
-    /// The object that the bytes are, or their first fault. It looks at each header, symbol,
+    /// Reads an object, or returns the first fault of its bytes. It looks at each header, symbol,
     /// relocation and byte of a name table a fixed number of times.
     #[tactic(auto, unfolding(crate::specs::Object::object_fault))]
     pub fn read(bytes: &'a [u8]) -> Result<Object<'a>, Fault>
@@ -115,8 +115,8 @@ impl<'a> Object<'a> {
         })
     }
 
-    /// The object of bytes that were read before. It looks through the headers for the symbols,
-    /// and tests nothing again.
+    /// The object of bytes that `read` accepted before. It looks for the symbol table in the headers,
+    /// and checks nothing again.
     pub fn known(bytes: &'a [u8]) -> Object<'a>
         requires { object_fault bytes.now ≡ None }
         ensures { result ≡ bytes.entry.now }
@@ -125,8 +125,8 @@ impl<'a> Object<'a> {
         Object::known_with(bytes, section)
     }
 
-    /// The object of bytes that were read before, with what `symbol_section` was then. It looks at
-    /// a fixed number of headers.
+    /// The object of bytes that `read` accepted before, with what `symbol_section` returned then. It
+    /// looks at a fixed number of headers.
     pub fn known_with(bytes: &'a [u8], symbol_section: Option<u32>) -> Object<'a>
         requires faultless { object_fault bytes.now ≡ None }
         requires symbols { IsSymbolSection bytes.now symbol_section }
@@ -148,15 +148,14 @@ impl<'a> Object<'a> {
         file_flags(self.sections.bytes())
     }
 
-    /// Whether it is compressed, so that its code may have instructions of 2 bytes: RVC is among its
-    /// flags.
+    /// Whether it is compressed: RVC is among its flags, so its code may have 2-byte instructions.
     pub fn is_compressed(&self) -> bool
         ensures { result ≡ has_rvc (file_flags self.now) }
     {
         has_rvc(self.flags())
     }
 
-    /// The number of sections, with the first, which is NULL in most files.
+    /// The number of sections, including section 0, which is NULL in most files.
     pub fn section_count(&self) -> u32
         ensures count { result ≡ section_count self.now }
         ensures most { result ≤ 4096 }
@@ -204,7 +203,7 @@ impl<'a> Object<'a> {
         self.symbol_section
     }
 
-    /// The number of symbols, with symbol 0.
+    /// The number of symbols, including symbol 0.
     pub fn symbol_count(&self) -> u32
         ensures { result ≡ symbol_count self.now }
     {
@@ -227,7 +226,7 @@ impl<'a> Object<'a> {
         }
     }
 
-    /// What the table of symbols says of a symbol, by its index. It looks at no byte of its name.
+    /// The symbol table's entry for a symbol, by its index. It looks at no byte of the symbol's name.
     pub fn symbol_entry(&self, i: u32) -> SymbolEntry
         requires { i < symbol_count self.now }
         ensures { result ≡ symbol_entry_of self.now i }
@@ -242,7 +241,7 @@ impl<'a> Object<'a> {
         self.symbols.names
     }
 
-    /// The section with the relocations of a section, by its index; none if the section is dropped
+    /// The index of the section with the relocations of a section; `None` if the section is dropped
     /// or has no relocations. It looks through all headers.
     pub fn rela_of(&self, section: u32) -> Option<u32>
         requires { section < section_count self.now }
@@ -254,8 +253,8 @@ impl<'a> Object<'a> {
         rela_for(&self.sections, section)
     }
 
-    /// Fills a table with the section that holds the relocations of each section, by the section's
-    /// index. It looks at each header twice.
+    /// Fills a table: for each section, by its index, the section that holds its relocations. It looks
+    /// at each header twice.
     pub fn relas(&self, table: &mut [Option<u32>])
         requires { table.old ≡ replicate (section_count self.now) None }
         ensures { (s : ℕ) → s < section_count self.now → IsRelaOf self.now s (slice_index_or table.new s None) }
@@ -263,7 +262,7 @@ impl<'a> Object<'a> {
         fill_relas(&self.sections, table);
     }
 
-    /// The relocations that a section holds, by its own index.
+    /// The relocations that are the content of the section with this index.
     pub fn relocs_held(&self, rela: u32) -> Relocs<'a>
         requires { rela < section_count self.now }
         ensures { result ≡ relocs_held self.now (header_of self.now rela) }
@@ -272,7 +271,7 @@ impl<'a> Object<'a> {
         Relocs::new(self.sections.content(&header))
     }
 
-    /// The number of relocations that a section holds, by its own index.
+    /// The number of relocations that are the content of the section with this index.
     pub fn rela_count(&self, rela: u32) -> u32
         requires { rela < section_count self.now }
         ensures { result ≡ length (relocs_held self.now (header_of self.now rela)) }
@@ -280,7 +279,7 @@ impl<'a> Object<'a> {
         self.relocs_held(rela).len()
     }
 
-    /// A relocation, by the index of the section that holds it and its own index there.
+    /// A relocation, by the index of the section that holds it and its index there.
     pub fn rela(&self, rela: u32, k: u32) -> Reloc
         requires rela { rela < section_count self.now }
         requires k { k < length (relocs_held self.now (header_of self.now rela)) }
@@ -289,7 +288,7 @@ impl<'a> Object<'a> {
         self.relocs_held(rela).get(k)
     }
 
-    /// The number of a section's relocations; none if it is dropped. It looks through all headers.
+    /// The number of a section's relocations; 0 if the section is dropped. It looks through all headers.
     pub fn reloc_count(&self, section: u32) -> u32
         requires { section < section_count self.now }
         ensures { result ≡ length (relocs_of self.now section) }

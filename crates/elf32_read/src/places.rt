@@ -22,7 +22,7 @@ use zc_base::place::Place;
 
 const NAME: &[u8; 13] = b".zcld.places\0";
 
-/// The bytes of an entry: a place and its address.
+/// The size in bytes of an entry: a place and its address.
 pub const ENTRY_SIZE: usize = 12;
 
 /// An entry of a list of places.
@@ -99,7 +99,7 @@ fn is_bad_list(header: &SectionHeader) -> bool
     is_without_content(header.kind) || header.size as usize % ENTRY_SIZE != 0
 }
 
-// The section with places, unless there is more than one.
+// The section that lists places, if there is one; a fault if there are two.
 #[tactic(auto, unfolding(crate::specs::Places::places_sections))]
 fn places_section(sections: &Sections) -> Result<Option<SectionHeader>, ImageFault>
     ensures { MatchResult result
@@ -120,7 +120,7 @@ fn places_section(sections: &Sections) -> Result<Option<SectionHeader>, ImageFau
     Ok(found)
 }
 
-// The list of a section of places, unless it is bad.
+// The entries of a section that lists places, unless the list is bad.
 fn list_in<'a>(
     sections: &Sections<'a>,
     map: &MemMap,
@@ -143,8 +143,8 @@ fn list_in<'a>(
     Ok(list)
 }
 
-/// The entries of the places that an image lists, none if it has no list, unless the list is
-/// bad.
+/// The entries of the places that an image lists, unless the list is bad. They are empty if the
+/// image has no list.
 pub fn places_in<'a>(sections: &Sections<'a>, map: &MemMap) -> Result<&'a [u8], ImageFault>
     ensures { MatchResult result
         (λ list. (bad_places sections.now map.now ≡ false)

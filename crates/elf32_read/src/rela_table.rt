@@ -1,4 +1,4 @@
-// The sections with the relocations of all sections.
+// For all sections at once, which section holds their relocations.
 
 ghost use Rattle.std.specs.Prelude.{◌≡◌, ◌<◌, ℕ, None, false, replicate, slice_index_or};
 ghost use Rattle.elf32_read.specs.Header.{section_count};
@@ -8,8 +8,8 @@ ghost use Rattle.elf32_read.specs.Relas.{IsRelaOf};
 use crate::relas::is_kept_rela;
 use crate::sections::Sections;
 
-/// Fills a table with the section that holds the relocations of each section. It looks at each
-/// header twice.
+/// Fills a table: for each section the section that holds its relocations. It looks at each header
+/// twice.
 pub fn fill_relas(sections: &Sections, table: &mut [Option<u32>])
     requires empty { table.old ≡ replicate (section_count sections.now) None }
     requires once { has_two_relas sections.now ≡ false }

@@ -12,7 +12,7 @@ use crate::reloc::Reloc;
 use crate::sections::Sections;
 use zc_base::fields::u32_at;
 
-/// The bytes of a relocation's entry.
+/// The size of a relocation's entry in bytes.
 pub const RELA_SIZE: u32 = 12;
 
 /// The most sections of an object.
@@ -34,7 +34,7 @@ pub fn reloc(content: &[u8], k: usize) -> Reloc
     }
 }
 
-/// Whether a section has the relocations of a section that is kept.
+/// Whether a section is a RELA for a section that is kept.
 pub fn is_kept_rela(sections: &Sections, header: &SectionHeader) -> bool
     ensures { result ≡ is_kept_rela sections.now header.now }
 {
@@ -61,7 +61,7 @@ pub fn has_two_relas(sections: &Sections) -> bool
     false
 }
 
-/// Whether some relocation of a section's content names a symbol with this index or a later one.
+/// Whether a relocation in this content has a symbol index that isn't below `count`.
 #[tactic(auto, using(crate::proofs::Listed::none_listed_more))]
 pub fn has_symbol_from(count: usize, content: &[u8]) -> bool
     ensures { result ≡ list_any (λ r. nat_le count r.symbol) (relocs_in content.now) }
@@ -74,7 +74,7 @@ pub fn has_symbol_from(count: usize, content: &[u8]) -> bool
     false
 }
 
-// Whether a section has the relocations of the section with this index.
+// Whether the section `rela` holds the relocations of the section with index `section`.
 fn changes(sections: &Sections, rela: u32, section: u32) -> bool
     requires { rela < section_count sections.now }
     ensures { let header = header_of sections.now rela in
@@ -84,8 +84,8 @@ fn changes(sections: &Sections, rela: u32, section: u32) -> bool
     header.kind == RELA && header.info == section
 }
 
-/// The section with the relocations of a section, by its index; none if the section is dropped or
-/// has no relocations. It looks through all headers.
+/// The index of the section with the relocations of a section; `None` if the section is dropped or has
+/// no relocations. It looks through all headers.
 pub fn rela_for(sections: &Sections, section: u32) -> Option<u32>
     requires within { section < section_count sections.now }
     requires once { is_changed_twice sections.now section ≡ false }

@@ -5,8 +5,8 @@ use crate::section_flags::SectionFlags;
 /// A section of an object, by its header (System V gABI, "Sections").
 ///
 /// `name` is without the zero that ends it, `kind` is sh_type, `size` is sh_size in bytes, and
-/// `align` is sh_addralign as it stands. `bytes` is the section's content; it is empty if the file
-/// holds none, for the kinds NULL and NOBITS.
+/// `align` is the raw sh_addralign. `bytes` is the section's content; it is empty for NULL and NOBITS,
+/// which have none in the file.
 #[derive(Clone, Copy)]
 pub struct Section<'a> {
     pub name: &'a [u8],

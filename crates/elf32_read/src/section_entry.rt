@@ -8,11 +8,11 @@ ghost use Rattle.elf32_read.specs.Parts.{SectionParts};
 
 use crate::section_flags::SectionFlags;
 
-/// A section of an object, by its header (System V gABI, "Sections"), as `Section` is, but for its
-/// name.
+/// A section of an object, by its header (System V gABI, "Sections"): like `Section`, but without
+/// looking for the end of its name.
 ///
-/// `names` is the table of names from the section's name on: it has the zero that ends the name, and
-/// what stands after that.
+/// `names` is the table of names from the section's name on: the name, its terminating zero, and all
+/// that follows in the table.
 #[derive(Clone, Copy)]
 pub struct SectionEntry<'a> {
     pub names: &'a [u8],
@@ -24,8 +24,8 @@ pub struct SectionEntry<'a> {
 }
 
 impl<'a> SectionEntry<'a> {
-    /// Whether the section has a name, which is given with the zero that ends it. It looks at no more
-    /// bytes than are given.
+    /// Whether the section has this name, which is given with its terminating zero. It looks at no more
+    /// bytes than the given name has.
     pub fn is_named(&self, ended: &[u8]) -> bool
         ensures { (parts : SectionParts) (name : List ℕ) → IsSectionEntry self.now parts
             → list_any (λ byte. byte == 0) name ≡ false → ended.now ≡ name ++ 0 ∷ []
@@ -34,8 +34,8 @@ impl<'a> SectionEntry<'a> {
         self.names.starts_with(ended)
     }
 
-    /// Whether the section's name begins with bytes, of which none is zero. It looks at no more bytes
-    /// than are given.
+    /// Whether the section's name begins with these bytes, of which none is zero. It looks at no more
+    /// bytes than are given.
     pub fn name_starts_with(&self, start: &[u8]) -> bool
         ensures { (parts : SectionParts) → IsSectionEntry self.now parts
             → list_any (λ byte. byte == 0) start.now ≡ false

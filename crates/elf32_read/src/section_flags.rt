@@ -11,16 +11,16 @@ pub struct SectionFlags {
 }
 
 impl SectionFlags {
-    /// The program may write to it.
+    /// The section is writable.
     pub const WRITE: SectionFlags = SectionFlags { bits: 1 };
 
-    /// The section lies in the program's memory.
+    /// The section occupies memory while the program runs.
     pub const ALLOC: SectionFlags = SectionFlags { bits: 2 };
 
     /// The section holds instructions.
     pub const EXECINSTR: SectionFlags = SectionFlags { bits: 4 };
 
-    /// The section holds data that each thread has of its own.
+    /// The section holds thread-local data.
     pub const TLS: SectionFlags = SectionFlags { bits: 0x400 };
 
     /// The section's content is compressed.

@@ -12,10 +12,10 @@ use crate::section_flags::SectionFlags;
 use bitflags::Flags;
 use std::marker::Model;
 
-// The name of the table for unwinding the stack, and the zero that ends it.
+// The name of the table for unwinding the stack, with its terminating zero.
 const EH_FRAME: &[u8; 10] = b".eh_frame\0";
 
-// Whether a section is none, or no table of strings.
+// Whether there is no section with this index, or it is no string table.
 fn lacks_strings(bytes: &[u8], i: u32) -> bool
     requires { IsWholeFile bytes.now }
     ensures { result ≡ lacks_strings bytes.now i }
@@ -23,7 +23,7 @@ fn lacks_strings(bytes: &[u8], i: u32) -> bool
     u32::from(section_count(bytes)) <= i || section_header(bytes, i).kind != STRTAB
 }
 
-// The strings of a section, none if it is no table of strings.
+// The string table with this section index; empty if that section is no string table.
 fn strings(bytes: &[u8], i: u32) -> &[u8]
     requires { IsWholeFile bytes.now }
     ensures { result.now ≡ strings_of bytes.entry.now i }
@@ -104,14 +104,14 @@ impl<'a> Sections<'a> {
         self.names
     }
 
-    /// Whether a section is none, or no table of strings.
+    /// Whether there is no section with this index, or it is no string table.
     pub fn lacks_strings(&self, i: u32) -> bool
         ensures { result ≡ lacks_strings self.now i }
     {
         lacks_strings(self.bytes, i)
     }
 
-    /// The strings of a section, none if it is no table of strings.
+    /// The string table with this section index; empty if that section is no string table.
     pub fn strings(&self, i: u32) -> &'a [u8]
         ensures { result.now ≡ strings_of self.now i }
     {

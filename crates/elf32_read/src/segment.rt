@@ -2,8 +2,8 @@
 
 /// A segment of an image (System V gABI, "Program Header").
 ///
-/// A segment: it lies in memory from the address `at` on, and has `size` bytes: `bytes`, which come from the file, and
-/// zeros after them. `code` says whether it is executable.
+/// It lies in memory from the address `at` on, and has `size` bytes: `bytes`, which come from the file, and zeros after
+/// them. `code` is whether it is executable.
 #[derive(Clone, Copy)]
 pub struct Segment<'a> {
     pub at: u32,

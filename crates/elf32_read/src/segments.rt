@@ -1,4 +1,4 @@
-// Whether the segments of an image lie where they may.
+// Whether the segments of an image lie in the regions for their kinds.
 
 ghost use Rattle.std.specs.Prelude.{◌≡◌, ◌≤◌, ◌+◌, length};
 ghost use Rattle.std.specs.List.{list_any};
@@ -27,7 +27,8 @@ fn memory_end(header: &ProgramHeader) -> u64
     u64::from(header.address) + u64::from(header.memory_size)
 }
 
-// Code lies from text to below data_low, all else in the 4 MiB from data_low on.
+// Whether a segment lies in the region for its kind: code from text to below data_low, all else in the 4 MiB from
+// data_low on.
 fn is_in_place(map: &MemMap, header: &ProgramHeader) -> bool
     ensures { result ≡ is_in_place map.now header.now }
 {
@@ -92,8 +93,8 @@ fn is_in_code(entry: u32, loads: &[ProgramHeader]) -> bool
     loads.iter().any(|header| starts_in(entry, header))
 }
 
-/// Whether the segments of an image, which these headers load, lie where they may not, or the entry
-/// is no place of their code.
+/// Whether one of the segments that these headers load is bad, two of them overlap, or the entry address
+/// isn't in their code.
 pub fn has_bad_segments(bytes: &[u8], map: &MemMap, loads: &[ProgramHeader]) -> bool
     requires start { 52 ≤ length bytes.now }
     requires loads { loads.now ≡ loads_of bytes.now }

@@ -1,13 +1,13 @@
 // Symbols.
 
-/// Bindings of symbols, the upper half of st_info.
+/// Symbol bindings, the upper four bits of st_info.
 pub const LOCAL: u8 = 0;
 
 pub const GLOBAL: u8 = 1;
 
 pub const WEAK: u8 = 2;
 
-/// Homes of symbols that are in no section, st_shndx: undefined, a number, and one that shares with others what it has room for.
+/// Values of st_shndx for symbols in no section: undefined, absolute, and common.
 pub const UNDEF: u16 = 0;
 
 pub const ABS: u16 = 0xFFF1;
@@ -16,8 +16,8 @@ pub const COMMON: u16 = 0xFFF2;
 
 /// A symbol of an object (System V gABI, "Symbol Table").
 ///
-/// `name` is without the zero that ends it, `bind` and `kind` are the two halves of st_info, and `home` is st_shndx: the index
-/// of the symbol's section, or UNDEF, ABS or COMMON. `value` is its offset in that section.
+/// `name` is without its terminating zero, `bind` and `kind` are the binding and the type in st_info, and `home` is
+/// st_shndx: the index of the symbol's section, or UNDEF, ABS or COMMON. `value` is the offset in that section.
 #[derive(Clone, Copy)]
 pub struct Symbol<'a> {
     pub name: &'a [u8],

@@ -1,7 +1,7 @@
 // Entries of symbol tables.
 
-/// A symbol as its table has it, Elf32_Sym (System V gABI, "Symbol Table"): `name` is the offset of its name in the table of
-/// strings, and `bind` and `kind` are the two halves of st_info.
+/// An entry of the symbol table, Elf32_Sym (System V gABI, "Symbol Table"): `name` is the offset of the name in the
+/// string table, and `bind` and `kind` are the binding and the type in st_info.
 #[derive(Clone, Copy)]
 pub struct SymbolEntry {
     pub name: u32,

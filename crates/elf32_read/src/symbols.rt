@@ -13,7 +13,7 @@ use crate::symbol::{ABS, COMMON, LOCAL, UNDEF, WEAK};
 use crate::symbol_entry::SymbolEntry;
 use zc_base::fields::{u16_at, u32_at};
 
-/// The bytes of a symbol's entry.
+/// The size of a symbol's entry in bytes.
 pub const SYMBOL_SIZE: u32 = 16;
 
 const TLS: u8 = 6;
@@ -45,7 +45,7 @@ pub fn symbol_entry(entries: &[u8], i: usize) -> SymbolEntry
     }
 }
 
-/// The section with the symbols, by its index, if there is one. It looks through all headers.
+/// The index of the symbol table's section, if there is one. It looks through all headers.
 pub fn symbol_section(sections: &Sections) -> Option<u32>
     requires { has_second_symbol_table sections.now ≡ false }
     ensures { IsSymbolSection sections.now result }
@@ -138,7 +138,7 @@ fn has_bad_entry(sections: &Sections, entries: &[u8]) -> bool
     false
 }
 
-// Whether a section has relocations of a section that is kept, and one of them names no symbol.
+// Whether a section is a RELA for a kept section, and one of its relocations names no symbol.
 fn is_of_no_symbol(sections: &Sections, header: &SectionHeader, entries: &[u8]) -> bool
     requires whole { passes_end sections.now header.now ≡ false }
     requires entries { entries.now ≡ symbol_content sections.now }
@@ -151,7 +151,7 @@ fn is_of_no_symbol(sections: &Sections, header: &SectionHeader, entries: &[u8]) 
         )
 }
 
-// Whether some relocation that counts names no symbol.
+// Whether some relocation of a kept section names no symbol.
 #[tactic(auto, using(crate::proofs::Listed::none_listed_more))]
 fn has_reloc_of_none(sections: &Sections, entries: &[u8]) -> bool
     requires { entries.now ≡ symbol_content sections.now }
@@ -165,7 +165,7 @@ fn has_reloc_of_none(sections: &Sections, entries: &[u8]) -> bool
     false
 }
 
-/// Whether a symbol other than 0 is bad, or a relocation that counts names none.
+/// Whether a symbol other than 0 is bad, or a relocation of a kept section names no symbol.
 pub fn has_bad_symbol(sections: &Sections, entries: &[u8]) -> bool
     requires { entries.now ≡ symbol_content sections.now }
     ensures { result ≡ has_bad_symbol sections.now }

@@ -1,4 +1,4 @@
-// Whether the names of an object have an end.
+// Whether the names of an object are terminated.
 
 ghost use Rattle.std.specs.Prelude.{◌≡◌, not};
 ghost use Rattle.std.specs.List.{list_any};
@@ -30,7 +30,7 @@ fn lacks_symbol_names(sections: &Sections, section: Option<u32>) -> bool
     }
 }
 
-/// Whether the name of some section has no end.
+/// Whether the name of some section isn't terminated.
 #[tactic(auto, using(crate::proofs::Listed::none_listed_more))]
 pub fn has_unnamed_section(sections: &Sections) -> bool
     ensures { result ≡ list_any (is_unnamed_section sections.now) (headers_of sections.now) }
@@ -44,7 +44,7 @@ pub fn has_unnamed_section(sections: &Sections) -> bool
     false
 }
 
-// Whether the name of some symbol has no end.
+// Whether the name of some symbol isn't terminated.
 #[tactic(auto, using(crate::proofs::Listed::none_listed_more))]
 fn has_unnamed_symbol(symbols: &SymbolTable) -> bool
     ensures { result
@@ -59,7 +59,7 @@ fn has_unnamed_symbol(symbols: &SymbolTable) -> bool
     false
 }
 
-/// Whether a table of names is missing, or a name has no end.
+/// Whether a table of names is missing, or a name isn't terminated.
 pub fn has_bad_name(sections: &Sections, section: Option<u32>, symbols: &SymbolTable) -> bool
     requires section { IsSymbolSection sections.now section }
     requires entries { symbols.now.entries.now ≡ symbol_content sections.now }

@@ -1,4 +1,4 @@
--- What the three instructions do.
+-- What the stub's three instructions do.
 use Rattle.std.proofs.Common.{◌≡◌, ℕ, ℤ, ◌+◌, ◌*◌, ◌/◌, ◌%◌, ◌^◌, ◌<◌, get_or, refl, ◌∙◌, arith, get_or-set_same, set}
 use Rattle.rv_decode.specs.Bits.{add32}
 use Rattle.rv_decode.specs.Results.{upper_result}

@@ -9,7 +9,8 @@ use Rattle.rv_decode.specs.Decode.{decoded}
 use Rattle.rv_decode.specs.Effect.{Commits, effect}
 use Rattle.rv_decode.specs.State.{ZcCore}
 
--- `lui t0` with the table's address, which is that of the text, `csrrw x0,jvt,t0`, and `jal x0` to where the program starts
+-- `lui t0` with the address of the table, which is where the text begins, `csrrw x0,jvt,t0`, and `jal x0` to the
+-- program's start
 abbrev pub stub_instrs : ℕ → ℤ → List Instr
 stub_instrs text distance = Upper Lui 5 (text / 4096) ∷ Csrrw 0 5 ∷ Jal 0 distance ∷ []
 
@@ -31,6 +32,6 @@ abbrev pub after_stub : ℕ → ℤ → ZcCore → ZcCore
 after_stub text distance z =
     record z { pc = add32 (z.pc + 8) distance; regs = slice_set z.regs 5 text; jvt = text; commits = z.commits + 3 }
 
--- the stub's instructions, one after another, come to the state after the stub
+-- running the stub's instructions one after another gives the state after the stub
 abbrev pub SetsBase : ℕ → ℤ → Type 0
 SetsBase text distance = (z : ZcCore) → length z.regs ≡ 32 → CommitInTurn (stub_instrs text distance) z (after_stub text distance z)

@@ -1,4 +1,4 @@
-//! The code at the entry of an image with a jump table. Nothing here takes memory.
+//! The code at the entry of an image with a jump table. Nothing here allocates.
 #![tactic(auto)]
 
 pub mod stub;

@@ -10,8 +10,8 @@ use zc_base::fields::put_u32;
 use zc_base::reg::Reg;
 
 /// The code at the entry of an image with a jump table: it sets the table base register jvt (RISC-V Zc specification
-/// 1.0, "Zcmt"), by way of t0, to the address of the text, at which the table stands, in mode 0; and jumps to the
-/// program. The distance is in bytes, from the jump to where the program starts.
+/// 1.0, "Zcmt"), by way of t0, to the address of the text, where the table lies, in mode 0; and jumps to the program.
+/// The distance is in bytes, from the jump to the program's start.
 #[tactic(auto, using(crate::proofs::BaseLaws::sets_base))]
 pub fn stub(text: u32, distance: i32) -> [u8; 12]
     requires page { text % 4096 ≡ 0 }

@@ -1,4 +1,4 @@
--- The lines of a plan are read from the front: the entries so far, and those of the other lines.
+-- The lines of a plan are read from the first on: the entries so far, followed by the entries of the other lines.
 use Rattle.std.proofs.Common.{◌≡◌, ℕ, ◌+◌, ◌-◌, ◌<◌, ◌≤◌, Some, None, Ok, Err, cond, Result, List, [], ◌∷◌, ◌++◌, length, get_or, ltb, eqb, refl, ap, sym, subst, ◌∙◌, append_assoc, length-append, arith}
 use Rattle.std.proofs.lemmas.Bool.{cond-false, cond-true, le-ltb, lt-ltb}
 use Rattle.std.proofs.lemmas.List.{get_or_push}
@@ -11,19 +11,19 @@ use Rattle.interrupt_plan.specs.Text.{entries_of_lines, entry_of_words, entry_th
 use Rattle.interrupt_plan.specs.declared.fault.PlanFault.{PlanFault}
 use Rattle.interrupt_plan.specs.declared.fault.PlanFault.TheVariants.{BadLine, OutOfOrder}
 
--- entries, and those behind them
+-- entries, followed by the entries after them
 abbrev pub with_entries : List Entry → Result (List Entry) PlanFault → Result (List Entry) PlanFault
 with_entries es (Ok more) = Ok (es ++ more)
 with_entries es (Err fault) = Err fault
 
--- a line with a line feed, and those behind it
+-- a line with its line feed, followed by the lines after it
 pub line_step : (number low : ℕ) (line behind : List ℕ) → entries_of_lines number low (line ∷ lines_of behind) ≡ entry_then number low (entry_of_words (words_of line)) (λ at. entries_of_lines (number + 1) at (lines_of behind))
 line_step number low line behind =
     let parts = some_part (λ b. eqb b 10) behind in
     ap (λ more. entries_of_lines number low (line ∷ more)) parts.2
     ∙ ap (λ more. entry_then number low (entry_of_words (words_of line)) (λ at. entries_of_lines (number + 1) at more)) (sym parts.2)
 
--- ---- the line at which the reader stands, behind these entries
+-- ---- the line that the reader has reached, after the entries so far
 
 module _ (es : List Entry) (number low : ℕ) (rest line behind : List ℕ) (is : lines_of rest ≡ line ∷ lines_of behind) where
   here : with_entries es (entries_of_lines number low (lines_of rest)) ≡ with_entries es (entry_then number low (entry_of_words (words_of line)) (λ at. entries_of_lines (number + 1) at (lines_of behind)))

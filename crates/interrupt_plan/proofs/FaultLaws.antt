@@ -1,4 +1,4 @@
--- The fault that is found says what stands in the text: the lines before it are those of a plan, and it can't go on.
+-- What the fault that is found means for the text: the lines before it are a plan's, and no plan goes on with its line.
 use Rattle.std.proofs.Common.{◌≡◌, ◌⊎◌, ℕ, ◌+◌, ◌-◌, ◌<◌, ◌≤◌, Some, None, Ok, Err, Bool, true, false, cond, Option, Result, List, [], ◌∷◌, ◌++◌, length, get_or, take, drop, ltb, eqb, inl, inr, refl, ap, sym, subst, ◌∙◌, append_assoc, length-append, arith}
 use Rattle.std.specs.Prelude.{bytes_eq, codes, flat_map}
 use Rattle.std.specs.List.{join_with_byte, position}
@@ -21,7 +21,7 @@ use Rattle.interrupt_plan.proofs.PlainLaws.{no_line_feed, words_back}
 use Rattle.interrupt_plan.proofs.SpellLaws.{entry_back, entry_of_is}
 use Rattle.interrupt_plan.proofs.TextLaws.{ended, title_line}
 
--- ---- the first line of some
+-- ---- the first of the remaining lines
 
 abbrev Rest : List ℕ → List ℕ → List (List ℕ) → Type 0
 Rest text line lines = (rest : List ℕ) × (text ≡ line ++ (10 ∷ rest)) × (lines_of rest ≡ lines)
@@ -113,7 +113,7 @@ unended text before low rest line fault false at is some stops =
     (λ none. let alone : line ≡ [] = let parts = ap lines_of none in cc in let yes = (bytes_eq-Decides line []).1 alone in false≢true (sym some ∙ yes))
     (λ e more fits same. let parts = ap lines_of same ∙ line_behind e more fits in no_part more (let none : lines_of more ≡ [] = cc in none)))
 
--- a line that is no entry's
+-- a line that spells no entry
 no_entry : (text : List ℕ) (before : List Entry) (low : ℕ) (rest line next : List ℕ) (lines : List (List ℕ)) → Reached text before low rest → lines_of rest ≡ line ∷ (next ∷ lines) → entry_of_words (words_of line) ≡ None → IsPlanFault text (BadLine (length before + 2))
 no_entry text before low rest line next lines at is bad =
     bad_line before rest at.begins
@@ -185,7 +185,7 @@ limited : (text : List ℕ) (fault : PlanFault) (b : Bool) → ltb 8388608 (leng
 limited text fault true is h = same_fault text TooLarge fault h (large (ltb-true 8388608 (length text) is))
 limited text fault false is h = text_stop text (lines_of text) fault refl h
 
--- a fault that is found, or want of memory
+-- a fault that is found in the text, or running out of memory
 pub fault_read : (text : List ℕ) (fault : PlanFault) → (fault ≡ OutOfMemory) ⊎ (plan_in text ≡ Err fault) → IsPlanFault text fault
 unfolding plan_in
 fault_read text fault (inl want) = let P : PlanFault → Type 0 = IsPlanFault text in subst P (sym want) memory

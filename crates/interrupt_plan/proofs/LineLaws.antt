@@ -1,4 +1,4 @@
--- A line's words are read from the front: what is read so far, and what the others are.
+-- A line's words are read from the first on: what is read so far, followed by what the other words spell.
 use Rattle.std.proofs.Common.{◌≡◌, ℕ, ◌+◌, Some, None, Option, List, [], ◌∷◌, ◌++◌, true, false, length, ap, ◌∙◌}
 use Rattle.std.specs.Option.{option_map, option_and_then}
 use Rattle.std.specs.Prelude.{bytes_eq, codes}
@@ -17,7 +17,7 @@ room (Some line) = length line + 1
 abbrev pub with_accesses : List ℕ → Interrupt → Interrupt
 with_accesses done c = interrupt (done ++ c.done) c.dirt
 
--- ---- a line's first two words, and what the others spell
+-- ---- a line's first two words, and what its other words spell
 
 -- the words of a line, taken off one after another
 pub two_words : (line first rest number : List ℕ) (behind others : Option (List ℕ)) → words_of line ≡ first ∷ words_in behind → behind ≡ Some rest → words_of rest ≡ number ∷ words_in others → words_of line ≡ first ∷ (number ∷ words_in others)
@@ -33,7 +33,7 @@ other_word words [] first is other = ap entry_of_words is
 other_word words (number ∷ others) first is other =
     ap entry_of_words is ∙ cond-false (bytes_eq first (codes "cut")) (option_and_then (λ at. option_map (entry at) (interrupt_of others)) (decimal_of 0xFFFF_FFFF_FFFF_FFFF number)) None other
 
--- behind `cut`, a number and words
+-- after `cut` come a number and other words
 entry_behind : (words others : List (List ℕ)) (first number : List ℕ) → words ≡ first ∷ (number ∷ others) → bytes_eq first (codes "cut") ≡ true → entry_of_words words ≡ option_and_then (λ at. option_map (entry at) (interrupt_of others)) (decimal_of 0xFFFF_FFFF_FFFF_FFFF number)
 unfolding entry_of_words
 entry_behind words others first number is cut =

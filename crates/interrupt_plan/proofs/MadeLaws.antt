@@ -1,4 +1,4 @@
--- Plans that are made from a number: one interrupt more, the order, and what is written are bytes.
+-- Plans that are generated from a number: one more interrupt, their order, and that they write bytes.
 use Rattle.std.proofs.Common.{◌≡◌, ℕ, zero, suc, ◌+◌, ◌-◌, ◌/◌, ◌%◌, ◌^◌, ◌<◌, ◌≤◌, List, [], ◌∷◌, ◌++◌, length, get_or, filter, Bool, true, false, cond, eqb, sym, ap, subst, ◌∙◌, arith, append-nil, append_assoc}
 use Rattle.std.specs.Prelude.{All}
 use Rattle.std.specs.List.{range_with_len}
@@ -66,7 +66,7 @@ length-cuts : (n at x : ℕ) → length (cuts_from n at x) ≡ n
 length-cuts zero at x = omega arith
 length-cuts (suc n) at x = let rest = length-cuts n (at + drawn (stepped x) % 64) (after_dirt 4 (stepped (stepped x))) in omega (arith, rest)
 
--- at the end of the loop all are drawn
+-- at the end of the loop all interrupts are drawn
 all_drawn : (out : List Entry) (number n i at x : ℕ) → n ≤ i → out ++ cuts_from (n - i) at x ≡ cuts_from n 0 number → out ≡ cuts_from n 0 number
 all_drawn out number n i at x le are =
     let none : n - i ≡ 0 = omega arith in
@@ -78,7 +78,7 @@ drawn_order out number n i at x le are = subst IsInOrder (sym (all_drawn out num
 pub drawn_few : (out : List Entry) (number n i at x : ℕ) → n ≤ i → out ++ cuts_from (n - i) at x ≡ cuts_from n 0 number → length out ≡ n
 drawn_few out number n i at x le are = ap length (all_drawn out number n i at x le are) ∙ length-cuts n 0 number
 
--- ---- bytes are bytes
+-- ---- all values that are written fit in a byte
 
 dirt_bytes : (n x : ℕ) → All (λ d. d.1 < 256) (dirt_from n x)
 dirt_bytes zero x = All-nil (λ d. d.1 < 256)
@@ -92,7 +92,7 @@ cuts_bytes (suc n) at x =
     let next = stepped (stepped x) in
     All-cons (λ e. IsInterrupt e.cut) (cut_after at x) (cuts_from n (at + drawn (stepped x) % 64) (after_dirt 4 next)) (dirt_bytes 4 next) (cuts_bytes n (at + drawn (stepped x) % 64) (after_dirt 4 next))
 
--- a plan that is made writes bytes
+-- a generated plan writes bytes
 pub IsPlan-made : (number count : ℕ) → IsPlan (made_plan number count)
 unfolding made_plan
 IsPlan-made number count = cuts_bytes count 0 number

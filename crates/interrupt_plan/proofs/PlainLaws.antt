@@ -38,7 +38,7 @@ words_plain e fits =
     All-cons IsPlain (codes "cut") (decimal e.at ∷ interrupt_words e.cut) cut_plain
     (All-cons IsPlain (decimal e.at) (interrupt_words e.cut) (decimal_plain e.at fits.0) (interrupt_plain e.cut fits.1))
 
--- ---- so a line is split into its words again, and has no line feed
+-- ---- a line is split into its words again, and has no line feed
 
 pub words_back : (e : Entry) → FitsEntry e → words_of (entry_line e) ≡ entry_words e
 words_back e fits = words_again (codes "cut") (decimal e.at ∷ interrupt_words e.cut) (words_plain e fits)

@@ -1,4 +1,5 @@
--- The interrupts of a plan before a commit: that they write bytes, and which entries they are, by how far one has come.
+-- The interrupts of a plan before a commit: that they write bytes, and which entries they are, by the index of the
+-- next entry.
 use Rattle.std.proofs.Common.{◌≡◌, ℕ, zero, suc, ◌+◌, ◌<◌, ◌≤◌, List, [], ◌∷◌, length, get_or, drop, Bool, true, false, cond, eqb, refl, ap, ◌∙◌, arith}
 use Rattle.std.specs.Prelude.{All}
 use Rattle.std.proofs.lemmas.Bool.{cond-true, cond-false, eq-eqb, ne_eqb}

@@ -13,7 +13,7 @@ use Rattle.interrupt_plan.specs.Plan.{Entry, Interrupt}
 use Rattle.interrupt_plan.specs.Text.{FitsByte, FitsEntry, access_of, access_or_bytes, access_word, dirt_of, dirt_word, dirt_in, entry, entry_of_words, entry_words, interrupt, interrupt_of, interrupt_words, with_access}
 use Rattle.interrupt_plan.proofs.WordLaws.{access_of-None, access_of-Some, access_of_is, dirt_of-Some, byte_of_is}
 
--- ---- words that spell something are its words
+-- ---- if words spell an entry, they are the entry's words
 
 ReadBytes : List (List ℕ) → List (ℕ × ℕ) → Type 0
 ReadBytes words dirt = (words ≡ map dirt_word dirt) × All FitsByte dirt
@@ -63,7 +63,7 @@ entry_of_is (first ∷ (number ∷ words)) e is =
     let there = interrupt_of_is words c others in
     subst (ReadEntry (first ∷ (number ∷ words))) same (ap₂ (λ w ws. w ∷ ws) cut (ap₂ (λ w ws. w ∷ ws) n.1 there.0), (omega (arith, n.0), there.1, there.2))))
 
--- ---- and back
+-- ---- the words of an entry spell it
 
 bytes_back : (dirt : List (ℕ × ℕ)) → All FitsByte dirt → dirt_in (map dirt_word dirt) ≡ Some dirt
 bytes_back [] fits = refl

@@ -1,4 +1,4 @@
--- A text spells a plan where it is the plan's text, and no other text does.
+-- The text of a plan spells it, and no other text does.
 use Rattle.std.proofs.Common.{◌≡◌, ◌⊎◌, ℕ, ◌+◌, ◌<◌, ◌≤◌, zero, suc, Some, None, Ok, Err, Bool, true, false, cond, Option, Result, List, [], ◌∷◌, ◌++◌, length, get_or, ltb, eqb, inl, inr, refl, ap, ap₂, sym, subst, ◌∙◌, append_assoc, arith, lit<}
 use Rattle.std.specs.Prelude.{All, bytes_eq, codes, flat_map}
 use Rattle.std.specs.List.{join_with_byte}
@@ -75,7 +75,7 @@ title_line =
     All-weaker (λ b. 31 < b) (λ b. eqb b 10 ≡ false) (λ b over. ne_eqb b 10 (λ same. omega (arith, over, same))) (codes "zcld plan 1")
     (All-from_recursion (λ b. 31 < b) (codes "zcld plan 1") (lit< tt, (lit< tt, (lit< tt, (lit< tt, (lit< tt, (lit< tt, (lit< tt, (lit< tt, (lit< tt, (lit< tt, (lit< tt, tt))))))))))))
 
--- behind the first line come the others
+-- the other lines come after the first line
 pub behind_title : (title rest : List ℕ) → title ≡ codes "zcld plan 1" → entries_behind (title ∷ lines_of rest) ≡ entries_of_lines 2 0 (lines_of rest)
 behind_title title rest is =
     let parts = some_part (λ b. eqb b 10) rest in
@@ -171,15 +171,15 @@ pub text_read : (text : List ℕ) (plan : List Entry) → plan_in text ≡ Ok pl
 unfolding plan_in
 text_read text plan ok = text_of text (lines_of text) plan (join_with_byte-slice_split 10 text) (not_large text plan (ltb 8388608 (length text)) ok)
 
--- the text of a plan isn't refused for anything in it
+-- reading the text of a plan finds no fault in it
 pub refused : (text : List ℕ) (fault : PlanFault) (plan : List Entry) → (fault ≡ OutOfMemory) ⊎ (plan_in text ≡ Err fault) → IsPlanText text plan → length text ≤ 8388608 → (◌≡◌ {A = Result (List Entry) PlanFault} (Err fault) (Ok plan)) ⊎ (◌≡◌ {A = Result (List Entry) PlanFault} (Err fault) (Err OutOfMemory))
 refused text fault plan (inl memory) is small = inr (ap Err memory)
 refused text fault plan (inr bad) is small = let good = plan_read text plan is small in absurd cc
 
--- nor read as another plan
+-- the text of a plan isn't read as another plan
 pub same_plan : (text : List ℕ) (plan other : List Entry) → plan_in text ≡ Ok plan → IsPlanText text other → length text ≤ 8388608 → plan ≡ other
 same_plan text plan other ok is small = let good = plan_read text other is small in cc
 
--- what a plan writes are bytes
+-- all values that a plan writes fit in a byte
 pub bytes_read : (plan : List Entry) → All FitsEntry plan → IsPlan plan
 bytes_read plan fits = All-weaker FitsEntry (λ e. IsInterrupt e.cut) (λ e here. All-weaker FitsByte (λ d. d.1 < 256) (λ d small. small.1) e.cut.dirt here.2) plan fits

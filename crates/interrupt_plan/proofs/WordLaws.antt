@@ -67,12 +67,12 @@ byte_of_is word d is =
 
 -- ---- what the readers find
 
--- a word without these marks is no byte's
+-- a word without `d` and `:` in their places spells no byte
 pub dirt_of-marks : (word : List ℕ) → ((length word ≡ 12) × (get_or word 0 0 ≡ 100) × (get_or word 9 0 ≡ 58) → ⊥) → dirt_of word ≡ None
 dirt_of-marks word never =
     dirt_of-None word (λ d l r same. never (ap length same, ap (λ w. get_or w 0 0) same, ap (λ w. get_or w 9 0) same))
 
--- nor one without an address or a byte between them
+-- a word whose digits are no address or no byte spells no byte
 pub dirt_of-address : (word : List ℕ) → hex_word_of (take 8 (drop 1 word)) ≡ None → dirt_of word ≡ None
 dirt_of-address word bad =
     dirt_of-None word (λ d l r same. let good = hex_word_of-Some d.0 (take 8 (drop 1 word)) l (ap (λ w. take 8 (drop 1 w)) same) in cc)

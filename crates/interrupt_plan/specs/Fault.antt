@@ -1,4 +1,4 @@
--- What the fault of a text says of it.
+-- What each fault of a plan's text means.
 use Rattle.std.specs.Prelude.{◌≡◌, ◌≢◌, ℕ, ◌+◌, ◌<◌, List, [], ◌∷◌, ◌++◌, length, All, codes}
 use Rattle.interrupt_plan.specs.Plan.{Entry}
 use Rattle.interrupt_plan.specs.Order.{IsInOrder}
@@ -6,13 +6,13 @@ use Rattle.interrupt_plan.specs.Text.{FitsEntry, entry_line, plan_text}
 use Rattle.interrupt_plan.specs.declared.fault.PlanFault.{PlanFault}
 use Rattle.interrupt_plan.specs.declared.fault.PlanFault.TheVariants.{BadLine, OutOfMemory, OutOfOrder, TooLarge}
 
--- the text begins with the lines of a plan, and this stands behind them
+-- the text begins with the lines of a plan, and `rest` follows them
 pub record BeginsAsPlan (text : List ℕ) (before : List Entry) (rest : List ℕ) : Type 0 where
   pub spells : text ≡ plan_text before ++ rest
   pub fits : All FitsEntry before
   pub in_order : IsInOrder before
 
--- no entry's line stands first
+-- the text doesn't begin with the line of an entry
 abbrev pub IsNoEntry : List ℕ → Type 0
 IsNoEntry rest = (e : Entry) (more : List ℕ) → FitsEntry e → rest ≢ entry_line e ++ 10 ∷ more
 
@@ -20,7 +20,7 @@ IsNoEntry rest = (e : Entry) (more : List ℕ) → FitsEntry e → rest ≢ entr
 abbrev pub IsEarlier : List Entry → Entry → Type 0
 IsEarlier before e = IsInOrder (before ++ e ∷ []) → ⊥
 
--- a bad line is the first one, or stands behind those of a plan and is no entry's; want of memory may come at any text
+-- a bad line is the first one, or it comes after the lines of a plan and is no entry's; memory may run out at any text
 pub data IsPlanFault (text : List ℕ) : PlanFault → Type 0 where
   first_line : ((rest : List ℕ) → text ≢ codes "zcld plan 1" ++ 10 ∷ rest) → IsPlanFault text (BadLine 1)
   bad_line : (before : List Entry) (rest : List ℕ) → BeginsAsPlan text before rest → rest ≢ [] → IsNoEntry rest → IsPlanFault text (BadLine (length before + 2))

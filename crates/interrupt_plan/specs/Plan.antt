@@ -1,8 +1,8 @@
 -- Interrupts, and plans of them.
 use Rattle.std.specs.Prelude.{ℕ, ◌<◌, ◌==◌, if◌then◌else◌, List, [], ◌∷◌, All}
 
--- an interrupt, as far as it is seen: the numbers of the accesses that were done of the push or pop at pc, and the bytes
--- that were then written, by address
+-- what a program can see of an interrupt: which accesses of the push or pop at pc were completed, by their numbers,
+-- and which bytes were then written, by address
 pub record Interrupt : Type 0 where
   pub done : List ℕ
   pub dirt : List (ℕ × ℕ)
@@ -17,14 +17,14 @@ abbrev pub interrupts_at : List Entry → ℕ → List Interrupt
 interrupts_at [] k = []
 interrupts_at (e ∷ es) k = if e.at == k then e.cut ∷ interrupts_at es k else interrupts_at es k
 
--- what an interrupt writes are bytes
+-- all values that an interrupt writes fit in a byte
 abbrev pub IsInterrupt : Interrupt → Type 0
 IsInterrupt c = All (λ d. d.1 < 256) c.dirt
 
--- what each interrupt before a commit writes are bytes
+-- all values that the interrupts before a commit write fit in a byte
 abbrev pub AreInterrupts : (ℕ → List Interrupt) → Type 0
 AreInterrupts cuts = (k : ℕ) → All IsInterrupt (cuts k)
 
--- what each interrupt of a plan writes are bytes
+-- all values that the interrupts of a plan write fit in a byte
 abbrev pub IsPlan : List Entry → Type 0
 IsPlan plan = All (λ e. IsInterrupt e.cut) plan

@@ -42,7 +42,7 @@ FitsByte d = (d.0 < 2 ^ 32) × (d.1 < 256)
 abbrev pub FitsEntry : Entry → Type 0
 FitsEntry e = (e.at < 2 ^ 64) × All (λ n. n < 256) e.cut.done × All FitsByte e.cut.dirt
 
--- the text is that of a plan whose numbers fit their types, in order
+-- the text spells this plan, whose numbers fit their types and which is in order
 pub record IsPlanText (text : List ℕ) (plan : List Entry) : Type 0 where
   pub spells : text ≡ plan_text plan
   pub fits : All FitsEntry plan
@@ -50,7 +50,7 @@ pub record IsPlanText (text : List ℕ) (plan : List Entry) : Type 0 where
 
 -- ---- the plan that a text spells
 
--- the access, or the byte, whose word this is
+-- the access, or the byte with its address, that a word spells
 unfoldable pub access_of : List ℕ → Option ℕ
 access_of word = let n = digits_value 10 (drop 1 word) in if_text_of (nat_lt n 256) access_word n word
 
@@ -59,29 +59,29 @@ dirt_of word =
     let d : ℕ × ℕ = (digits_value 16 (slice_range word 1 9), digits_value 16 (drop 10 word)) in
     if_text_of (nat_lt d.0 (2 ^ 32) && nat_lt d.1 256) dirt_word d word
 
--- the bytes of words that are all bytes
+-- the bytes that words spell, if all of them spell bytes
 abbrev pub dirt_in : List (List ℕ) → Option (List (ℕ × ℕ))
 dirt_in [] = Some []
 dirt_in (word ∷ words) = option_and_then (λ d. option_map (λ dirt. d ∷ dirt) (dirt_in words)) (dirt_of word)
 
--- an interrupt of these parts, or with one access more before the others
+-- an interrupt from its accesses and bytes, and an interrupt with one more access before its others
 abbrev pub interrupt : List ℕ → List (ℕ × ℕ) → Interrupt
 interrupt done dirt = record { done = done; dirt = dirt }
 
 abbrev pub with_access : ℕ → Interrupt → Interrupt
 with_access n c = interrupt (n ∷ c.done) c.dirt
 
--- where the first word is an access, that and the interrupt of the others, or else bytes alone
+-- if the first word is an access, the interrupt of the other words with it; otherwise an interrupt of bytes alone
 abbrev pub access_or_bytes : Option ℕ → Option Interrupt → Option (List (ℕ × ℕ)) → Option Interrupt
 access_or_bytes (Some n) others bytes = option_map (with_access n) others
 access_or_bytes None others bytes = option_map (interrupt []) bytes
 
--- the interrupt of words: accesses, and from the first word on that is none, bytes
+-- the interrupt that words spell: accesses, and from the first word on that is no access, bytes
 abbrev pub interrupt_of : List (List ℕ) → Option Interrupt
 interrupt_of [] = Some (interrupt [] [])
 interrupt_of (word ∷ words) = access_or_bytes (access_of word) (interrupt_of words) (dirt_in (word ∷ words))
 
--- words are those of these accesses, and then others that are to be bytes
+-- words begin with these accesses, and the others have to be bytes
 abbrev pub BeginsWith : List (List ℕ) → List ℕ → List (List ℕ) → Type 0
 BeginsWith words done others = interrupt_of words ≡ option_map (interrupt done) (dirt_in others)
 
@@ -97,35 +97,35 @@ entry_of_words (first ∷ (number ∷ words)) =
 entry_of_words (first ∷ []) = None
 entry_of_words [] = None
 
--- an entry, and those behind it
+-- a plan with one more entry before the others
 abbrev pub with_first : Entry → Result (List Entry) PlanFault → Result (List Entry) PlanFault
 with_first e (Ok es) = Ok (e ∷ es)
 with_first e (Err fault) = Err fault
 
--- an entry may not stand before commit `low`; those behind it may not stand before its own
+-- an entry's commit may not be before commit `low`, and the entries after it may not be before its own commit
 abbrev pub entry_then : ℕ → ℕ → Option Entry → (ℕ → Result (List Entry) PlanFault) → Result (List Entry) PlanFault
 entry_then line low None behind = Err (BadLine line)
 entry_then line low (Some e) behind = if nat_lt e.at low then Err (OutOfOrder line) else with_first e (behind e.at)
 
--- the entries of the lines from this one on; nothing stands behind the last line feed
+-- the entries of the lines from the one with number `line` on; nothing may follow the last line feed
 abbrev pub entries_of_lines : ℕ → ℕ → List (List ℕ) → Result (List Entry) PlanFault
 entries_of_lines line low (text ∷ (next ∷ lines)) =
     entry_then line low (entry_of_words (words_of text)) (λ at. entries_of_lines (line + 1) at (next ∷ lines))
 entries_of_lines line low (rest ∷ []) = if bytes_eq rest [] then Ok [] else Err (BadLine line)
 entries_of_lines line low [] = Ok []
 
--- the entries behind the first line
+-- the entries after the first line
 abbrev pub entries_behind : List (List ℕ) → Result (List Entry) PlanFault
 entries_behind (title ∷ (next ∷ lines)) =
     if bytes_eq title (codes "zcld plan 1") then entries_of_lines 2 0 (next ∷ lines) else Err (BadLine 1)
 entries_behind (rest ∷ []) = Err (BadLine 1)
 entries_behind [] = Err (BadLine 1)
 
--- the plan that a text is, or the first fault in it
+-- the plan that a text spells, or the first fault in it
 unfoldable pub plan_in : List ℕ → Result (List Entry) PlanFault
 plan_in text = if nat_lt 8388608 (length text) then Err TooLarge else entries_behind (lines_of text)
 
--- a text within the limit that is a plan is read as that plan, unless memory runs out
+-- a text within the limit that spells a plan is read as that plan, unless memory runs out
 abbrev pub ReadsEachPlan : List ℕ → Result (List Entry) PlanFault → Type 0
 ReadsEachPlan text result =
     (plan : List Entry) → IsPlanText text plan → length text ≤ 8388608 → (result ≡ Ok plan) ⊎ (result ≡ Err OutOfMemory)

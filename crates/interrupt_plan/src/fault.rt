@@ -6,10 +6,10 @@ use thiserror::Error;
 /// Why a text is no plan. `number` counts lines from 1.
 #[derive(Clone, Copy, PartialEq, Eq, Debug, Error)]
 pub enum PlanFault {
-    /// A line isn't what may stand there, or is missing.
+    /// A line isn't allowed where it is, or is missing.
     #[error("line {number} isn't one of a plan")]
     BadLine { number: u32 },
-    /// A line's commit comes before that of the line before it.
+    /// A line's commit is before the commit of the line before it.
     #[error("line {number} comes before the line above it")]
     OutOfOrder { number: u32 },
     /// The text is longer than `PLAN_LIMIT`.

@@ -1,4 +1,4 @@
-// The lines of a plan that stand for interrupts.
+// The lines of a plan after the first: one for each interrupt.
 
 ghost use Rattle.std.specs.Prelude.{◌≡◌, IfOk};
 ghost use Rattle.std.specs.Option.{option_copied, option_map};
@@ -11,7 +11,7 @@ use std::alloc::{AllocError, Global};
 use text_lines::number::read_number;
 use text_lines::split::split_word;
 
-/// The interrupt of a line.
+/// The interrupt that a line spells.
 pub fn read_cut(alloc: Global, line: &[u8]) -> Result<Option<PlanCut>, AllocError>
     ensures { IfOk result (λ cut. cut ≡ entry_of_words (words_of line.now)) }
 {
@@ -33,7 +33,7 @@ pub fn read_cut(alloc: Global, line: &[u8]) -> Result<Option<PlanCut>, AllocErro
     Ok(Some(PlanCut { at, done, dirt }))
 }
 
-// The accesses that words begin with, and the words from there on.
+// The accesses that a list of words begins with, and the words after them.
 fn read_accesses(
     alloc: Global,
     words: Option<&[u8]>,
@@ -54,7 +54,7 @@ fn read_accesses(
     Ok((done, rest))
 }
 
-// The bytes of words that are all bytes.
+// The bytes that words spell, if all of them spell bytes.
 fn read_bytes(alloc: Global, words: Option<&[u8]>) -> Result<Option<Vec<(u32, u8)>>, AllocError>
     ensures { IfOk result (λ dirt. option_map (λ d. d.items) dirt ≡ dirt_in (words_in (option_copied words.entry))) }
 {

@@ -1,4 +1,4 @@
-// Plans that are made from a number.
+// Plans that are generated from a number.
 
 ghost use Rattle.std.specs.Prelude.{◌≡◌, ◌+◌, ◌<◌, ◌≤◌, ◌^◌, IfOk, OnOk};
 ghost use Rattle.interrupt_plan.specs.Made.{after_dirt, cut_after, dirt_from, drawn_accesses, made_plan};
@@ -8,7 +8,7 @@ use crate::plan::{Plan, PlanCut};
 use std::alloc::{AllocError, Global};
 use zc_base::draws::Draws;
 
-/// The plan of `count` interrupts that is drawn from a number, at most 63 commits apart.
+/// The plan of `count` interrupts, at most 63 commits apart, that is generated from a number.
 #[tactic(auto, unfolding(crate::specs::Made::made_plan), using(crate::proofs::MadeLaws::cuts_more))]
 pub fn make_plan(alloc: Global, number: u64, count: u32) -> Result<Plan, AllocError>
     requires { count ≤ 10000 }
@@ -39,7 +39,7 @@ fn draw_cut(alloc: Global, before: u64, draws: &mut Draws) -> Result<PlanCut, Al
     Ok(PlanCut { at, done, dirt })
 }
 
-// The accesses that a draw says are done.
+// The completed accesses by a drawn number: those whose bits are set.
 fn drawn_accesses(alloc: Global, bits: u32) -> Result<Vec<u8>, AllocError>
     ensures { IfOk result (λ done. done.items ≡ drawn_accesses bits) }
 {

@@ -5,8 +5,8 @@ ghost use Rattle.std.specs.Prelude.{◌≡◌, ◌<◌, ◌^◌, [], length, sli
 use std::alloc::Global;
 use std::marker::Model;
 
-/// An interrupt before the commit number `at`: the accesses of the push or pop at the program counter
-/// that were already done, by their numbers, and the bytes that were then written, by address.
+/// An interrupt before commit `at`: the accesses of the push or pop at pc that were already completed, by
+/// their numbers, and the bytes that were then written, by address.
 #[derive(Drop)]
 pub struct PlanCut {
     pub at: u64,

@@ -16,7 +16,7 @@ use text_lines::split::split_line;
 /// The longest text that is read, in bytes.
 pub const PLAN_LIMIT: usize = 8_388_608;
 
-/// The plan in a text. Faults are named by their line: the first one in the text counts.
+/// The plan that a text spells, or the first fault in the text, with the number of its line.
 pub fn read_plan(alloc: Global, text: &[u8]) -> Result<Plan, PlanFault>
     ensures ok { IfOk result (λ plan. plan_in text.now ≡ Ok plan) }
     ensures err { IfErr result (λ fault. (fault ≡ PlanFault.OutOfMemory) ⊎ (plan_in text.now ≡ Err fault)) }

@@ -6,7 +6,7 @@ ghost use Rattle.interrupt_plan.specs.Text.{access_of, dirt_of};
 use text_lines::hex::{read_hex_byte, read_hex_word};
 use text_lines::number::read_number;
 
-/// The access that a word names.
+/// The number of the access that a word spells.
 pub fn read_access(word: &[u8]) -> Option<u8>
     ensures { result ≡ access_of word.now }
 {
@@ -15,7 +15,7 @@ pub fn read_access(word: &[u8]) -> Option<u8>
     Some(number as u8)
 }
 
-/// The byte that a word names, after its address.
+/// The address and the byte that a word spells.
 pub fn read_byte(word: &[u8]) -> Option<(u32, u8)>
     ensures { result ≡ dirt_of word.now }
 {
@@ -27,7 +27,7 @@ pub fn read_byte(word: &[u8]) -> Option<(u32, u8)>
     Some((address, byte))
 }
 
-// Whether a word has the length and the marks of a byte and its address.
+// Whether a word has the length of a byte and its address, and `d` and `:` in their places.
 fn is_marked(word: &[u8]) -> bool
     ensures { IsTrue result ↔ ((length word.now ≡ 12) × (slice_index word.now 0 ≡ 100)
         × (slice_index word.now 9 ≡ 58)) }

@@ -1,4 +1,4 @@
--- Slots lead to targets.
+-- The place of each slot is the target of a saving.
 use Rattle.std.proofs.Common.{◌≡◌, ℕ, zero, suc, List, [], ◌∷◌, get_or, slice_get, refl, sym, subst, arith}
 use Rattle.std.specs.Prelude.{Option, Some, None, IfSome, option_map}
 use Rattle.std.proofs.lemmas.List.Elements.{All-from_get_or, All-map, Contains-append_right}

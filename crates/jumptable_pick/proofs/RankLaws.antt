@@ -1,5 +1,5 @@
--- Rankings: what each rank stands for, that each saving stands once, that sums over ranks are sums over savings, and that the first
--- ranks save as much as the bound by the price of the next one.
+-- Rankings: which saving each rank is for, that each saving has one rank, that sums over ranks are sums over savings,
+-- and that the first ranks save as much as the bound by the price of the next one.
 use Rattle.std.proofs.Common.{◌≡◌, ℕ, zero, suc, ◌+◌, ◌-◌, ◌*◌, ◌<◌, ◌≤◌, Bool, true, false, cond, ◌==◌, nat_lt, List, [], ◌∷◌, length, take, drop, get_or, All, refl, sym, ap, ◌∙◌, arith, inl, inr, IsPermutation}
 use Rattle.std.specs.List.{sum_by, count_by, filter}
 use Rattle.std.proofs.lemmas.List.Sorted.{sum_by-IsPermutation}
@@ -14,7 +14,7 @@ use Rattle.jumptable_pick.specs.Ranking.{rank_of, ranking, ranks_from, rank_savi
 use Rattle.jumptable_pick.specs.Tables.{first_saved}
 use Rattle.jumptable_pick.proofs.SortLaws.{All-sorted, AreInOrder, ComesBefore, before_least, in_order_from, put_in_order, same_order, sum-sorted}
 
--- a rank stands for a saving from number n + 1 on
+-- a rank is for a saving whose number is above n
 pub record StandsFrom (part : Part) (n : ℕ) (savings : List Saving) (r : Rank) : Type 0 where
   pub low : n < r.number
   pub high : r.number ≤ n + length savings
@@ -40,7 +40,7 @@ ranks_stand part n (s ∷ rest) =
     All-cons (StandsFrom part n (s ∷ rest)) _ _ first
     (All-weaker (StandsFrom part (n + 1) rest) (StandsFrom part n (s ∷ rest)) (stands_behind part n s rest) _ (ranks_stand part (n + 1) rest))
 
--- how often a number stands
+-- how many ranks have a number
 abbrev pub times : ℕ → List Rank → ℕ
 times k ranks = count_by (λ r. r.number == k) ranks
 
@@ -96,7 +96,8 @@ nothing_above m p (r ∷ rest) le h =
 times_zero : (n p : ℕ) → p ≡ 0 → n * p ≡ 0
 times_zero n p e = rw e (omega arith)
 
--- the first n ranks save, above a each, as much as all save above the price of the next one, with that price n times
+-- the first n ranks save, above `a` each, at least what all ranks save above the price of the next one, plus n times
+-- what that price exceeds `a` by
 pub top-le : (a n : ℕ) (ranks : List Rank) → Falling ranks → sum_by (λ r. rank_saving r - (a + (first_saved (drop n ranks) - a))) ranks + n * (first_saved (drop n ranks) - a) ≤ sum_by (λ r. rank_saving r - a) (take n ranks)
 top-le a zero [] falls = omega arith
 top-le a zero (r ∷ rest) falls =
@@ -113,7 +114,7 @@ above_one : (a : ℕ) (r : Rank) (rest : List Rank) (b : Bool) (fs : List Rank) 
 above_one a r rest true fs t is h = omega (arith, sum_by-cons rank_saving r fs, ltb-true a (rank_saving r) is, h)
 above_one a r rest false fs t is h = omega (arith, ltb-false a (rank_saving r) is, h)
 
--- the targets that save more than a save what all save above a, and a each
+-- the targets that save more than `a` save what all targets save above `a`, plus `a` for each of them
 pub above_sum : (a : ℕ) (ranks : List Rank) → sum_by rank_saving (filter (λ r. nat_lt a (rank_saving r)) ranks) ≡ sum_by (λ r. rank_saving r - a) ranks + a * length (filter (λ r. nat_lt a (rank_saving r)) ranks)
 above_sum a [] = omega arith
 above_sum a (r ∷ rest) =
@@ -145,7 +146,7 @@ ranked part savings =
       sums = λ g. sum-sorted (λ r. g (rank_saving r)) listed ∙ sum-ranks g part 0 savings;
     }
 
--- each saving once, in order
+-- a ranking has each saving once, and is in order
 pub record IsRanking (part : Part) (savings : List Saving) (ranks : List Rank) : Type 0 where
   pub each : IsPermutation (ranks_from part 0 savings) ranks
   pub ordered : (k : ℕ) (d : Rank) → k + 1 < length ranks → ComesBefore (get_or ranks k d) (get_or ranks (k + 1) d)

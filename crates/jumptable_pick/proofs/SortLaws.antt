@@ -1,5 +1,5 @@
--- Sorted ranks: what holds of each rank still does, and sums stay; they are in order, and no other list in this order has the same
--- sums. So what a sort of the code gives is what the definition gives.
+-- Sorted ranks: sorting keeps what holds of each rank, and all sums; the ranks are in order, and no other list in this
+-- order has the same sums. So the code's sort gives the same list as the definition.
 use Rattle.std.proofs.Common.{◌≡◌, ℕ, suc, ◌+◌, ◌<◌, ◌≤◌, Bool, true, false, cond, ◌&&◌, ◌==◌, nat_lt, List, [], ◌∷◌, length, get_or, All, refl, ap, ◌∙◌, arith, inl, inr, subst}
 use Rattle.std.specs.Prelude.{◌⊎◌}
 use Rattle.std.specs.Ordering.{is_lt, nat_cmp, ordering_then}
@@ -41,7 +41,7 @@ sum-sorted f (r ∷ rest) = omega (arith, sum-put_in f r (sorted rest), sum-sort
 
 -- ---- order
 
--- greater savings come first, and of equal ones the smaller number
+-- ranks are ordered by decreasing savings, and equal ones by their number
 abbrev pub ComesBefore : Rank → Rank → Type 0
 ComesBefore a b = (rank_saving b < rank_saving a) ⊎ ((rank_saving a ≡ rank_saving b) × (a.number ≤ b.number))
 
@@ -85,7 +85,7 @@ before_from a b h =
           inr (tie, ltb-false b.number a.number (tests.1 (eq-eqb (rank_saving a) (rank_saving b) tie)))
     ]
 
--- what stood first goes before what saves as much
+-- a rank that came first stays before an equal one
 pub put_in_order : (r : Rank) (ranks : List Rank) → All (λ q. r.number ≤ q.number) ranks → AreInOrder ranks → AreInOrder (put_in r ranks)
 put_in_order r [] low order = (All-nil (ComesBefore r), tt)
 put_in_order r (q ∷ rest) low order =
@@ -105,7 +105,7 @@ in_order_from (r ∷ (q ∷ rest)) f =
     let step : ComesBefore r q = f 0 q (omega arith) in
     (All-cons (ComesBefore r) q rest step (All-weaker (ComesBefore q) (ComesBefore r) (λ p h. before_trans r q p step h) rest later.0), later)
 
--- ---- one list alone is in order
+-- ---- only one list with these sums is in order
 
 before_both : (a b : Rank) → ComesBefore a b → ComesBefore b a → a ≡ b
 before_both a b (inl lt) (inl lt') = absurd (omega arith)
@@ -129,7 +129,7 @@ same-is q r e =
 same-self : (r : Rank) → same r r ≡ true
 same-self r = and_from (rank_saving r == rank_saving r) (r.number == r.number) (eq-eqb (rank_saving r) (rank_saving r) refl) (eq-eqb r.number r.number refl)
 
--- a rank stands in the list that begins with it
+-- a list contains its first rank
 stands : (r : Rank) (rest : List Rank) → 0 < sum_by (λ q. cond (same q r) 1 0) (r ∷ rest)
 stands r rest =
     let one : ◌≡◌ {A = ℕ} (cond (same r r) 1 0) 1 = ap (λ b. cond b 1 0) (same-self r) in
@@ -139,7 +139,7 @@ found_first : (P : Rank → Type 0) (x y : Rank) (b : Bool) (t : ℕ) → same y
 found_first P x y true t is h some later = subst P (same-is y x is) h
 found_first P x y false t is h some later = later (omega arith)
 
--- what holds of each rank of a list holds of one that stands in it
+-- what holds of each rank of a list holds of a rank that the list contains
 found : (P : Rank → Type 0) (x : Rank) (ranks : List Rank) → All P ranks → 0 < sum_by (λ q. cond (same q x) 1 0) ranks → P x
 found P x [] h some = absurd (omega arith)
 found P x (y ∷ rest) h some =
@@ -147,7 +147,7 @@ found P x (y ∷ rest) h some =
     (omega (arith, sum_by-cons (λ q. cond (same q x) 1 0) y rest, some))
     (found P x rest (All-tail P y rest h))
 
--- each of the first ranks stands in both lists
+-- each of the first ranks is in both lists
 first_same : (x y : Rank) (xs ys : List Rank) → All (ComesBefore x) xs → All (ComesBefore y) ys → ((f : Rank → ℕ) → sum_by f (x ∷ xs) ≡ sum_by f (y ∷ ys)) → x ≡ y
 first_same x y xs ys after_x after_y sums =
     let itself : (r : Rank) → ComesBefore r r = λ r. inr (refl, omega arith) in

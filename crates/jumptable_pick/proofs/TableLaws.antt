@@ -1,4 +1,4 @@
--- Tables: what the tables that are considered save, and that they are assignments.
+-- What the candidates for the jump table save, and that their slots are assignments.
 use Rattle.std.proofs.Common.{◌≡◌, ℕ, zero, suc, ◌+◌, ◌-◌, ◌*◌, ◌<◌, ◌≤◌, Bool, true, false, cond, ◌||◌, ◌==◌, nat_lt, not, List, [], ◌∷◌, ◌++◌, length, map, take, drop, replicate, get_or, All, refl, sym, ap, ◌∙◌, arith, length-append}
 use Rattle.std.specs.List.{sum_by, filter}
 use Rattle.std.proofs.lemmas.List.{take_all, drop_all, take_at, drop_at, length-map, length-take, length-replicate}
@@ -31,7 +31,7 @@ fresh_head : (b c : Bool) (t : ℕ) → cond b 1 0 + t ≡ 0 → (t ≡ 0 → c 
 fresh_head true c t e f = absurd (omega arith)
 fresh_head false c t e f = f (omega arith)
 
--- a number that doesn't stand has no slot
+-- a saving whose number isn't in the list has no slot
 fresh : (x : ℕ) (ranks : List Rank) → times x ranks ≡ 0 → has_slot (map (λ q. q.number) ranks) x ≡ false
 fresh x [] e = refl
 fresh x (r ∷ ranks) e =
@@ -40,7 +40,7 @@ fresh x (r ∷ ranks) e =
 pub no_saving : Saving
 no_saving = record { target = record { object = 0; section = 0; offset = 0 }; jump_sites = 0; call_sites = 0 }
 
--- slots for ranks with different numbers save what the ranks say
+-- slots for ranks with different numbers save the sum of what the ranks save
 slots_save : (part : Part) (savings : List Saving) (ranks : List Rank) → All (StandsFrom part 0 savings) ranks → ((k : ℕ) → times k ranks ≤ 1) → saved_in part savings (map (λ q. q.number) ranks) ≡ sum_by rank_saving ranks
 slots_save part savings [] stand once = saved_from-none (saved_by part) 0 savings
 slots_save part savings (r ∷ ranks) stand once =

@@ -1,4 +1,5 @@
-//! The choice of slots for a jump table, with prices that show that no other saves more, and where its slots lead.
+//! The choice of slots for a jump table, with prices that show that no other choice saves more, and the targets of the
+//! slots.
 #![tactic(auto)]
 
 pub mod picker;

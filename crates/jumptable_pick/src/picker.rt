@@ -1,4 +1,4 @@
-// The picker.
+// The choice of a jump table.
 
 ghost use Rattle.std.specs.Prelude.{◌≡◌, ◌≤◌, IfOk, IsTrue, length};
 ghost use Rattle.std.specs.List.{list_all};
@@ -20,14 +20,14 @@ use std::alloc::{AllocError, Global};
 
 /// The certificate of the table that saves most, with prices that show it.
 ///
-/// It takes n log n steps. A table has the 32 targets whose jump sites save most, or fewer, and from slot 32 on the 224
-/// whose call sites save most, or fewer; or it has slots for jumps alone, or none.
+/// It takes n log n steps. The table has no slots; or slots for at most 32 targets, those whose jump sites save most;
+/// or these and, from slot 32 on, slots for at most 224 targets, those whose call sites save most.
 pub fn pick(alloc: Global, savings: &[Saving]) -> Result<Certificate, AllocError>
     requires few { length savings.now ≤ 1048576 }
     requires small { IsTrue (list_all is_small savings.now) }
     ensures value { IfOk result (λ c. c ≡ picked savings.now) }
     ensures accepted { IfOk result (IsAccepted savings.now) }
-    // No assignment saves more than its net.
+    // no assignment saves more than the net of the certificate
     ensures best { IfOk result (λ c. NoneSavesMore savings.now c.net) }
 {
     let jumps = ranking(alloc, Part::Jumps, savings)?;
@@ -41,7 +41,7 @@ pub fn pick(alloc: Global, savings: &[Saving]) -> Result<Certificate, AllocError
     })
 }
 
-// The first of three tables with the greatest net: without slots, for jumps alone, and for jumps and calls.
+// The table with the greatest net, the first if equal: without slots, for jumps alone, or for jumps and calls.
 #[tactic(auto, using(crate::proofs::PickLaws::none_fit))]
 fn best_table(
     alloc: Global,

@@ -5,7 +5,7 @@ ghost use Rattle.jumptable_pick.specs.Tables.{prices_of, saved_at};
 
 use crate::ranking::Rank;
 
-/// The prices by which it can be seen that the best of these tables is the best of all.
+/// The prices that show that the best of the three candidates is the best of all tables.
 pub fn prices_of(jumps: &[Rank], calls: &[Rank]) -> [u32; 3]
     ensures { result ≡ prices_of jumps.now calls.now }
 {
@@ -14,7 +14,7 @@ pub fn prices_of(jumps: &[Rank], calls: &[Rank]) -> [u32; 3]
     [low.saturating_sub(4), low, high.saturating_sub(4)]
 }
 
-// What the target after the first `n` saves, and 0 if there is none.
+// What the target after the first `n` saves; 0 if there is no such target.
 fn saved_at(n: usize, ranks: &[Rank]) -> u32
     ensures { result ≡ saved_at n ranks.now }
 {

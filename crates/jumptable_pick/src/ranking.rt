@@ -9,8 +9,8 @@ use pick_check::saving::Saving;
 use std::alloc::{AllocError, Global};
 use std::cmp::Reverse;
 
-/// The bytes that a slot for a target saves, and the number of its saving, counted from 1. Ranks are ordered by greater
-/// savings, and equal ones by the number.
+/// The bytes that a slot for a target saves, and the number of its saving, counted from 1. Ranks are ordered by
+/// decreasing savings, and equal ones by the number.
 #[derive(Clone, Copy, PartialEq, Eq, PartialOrd, Ord)]
 pub struct Rank {
     pub saved: Reverse<u32>,

@@ -1,4 +1,4 @@
-// The slots of the tables that may be picked.
+// The slots of the candidates for the jump table.
 
 ghost use Rattle.std.specs.Prelude.{◌≡◌, ◌≤◌, IfOk, length};
 ghost use Rattle.jumptable_pick.specs.Tables.{call_table, chosen, joined, jump_table};
@@ -6,14 +6,14 @@ ghost use Rattle.jumptable_pick.specs.Tables.{call_table, chosen, joined, jump_t
 use crate::ranking::Rank;
 use std::alloc::{AllocError, Global};
 
-/// The slots for jumps, in a table without calls.
+/// The slots of a table for jumps alone.
 pub fn jump_table(alloc: Global, jumps: &[Rank]) -> Result<Vec<u32>, AllocError>
     ensures { IfOk result (λ slots. slots.items ≡ jump_table jumps.now) }
 {
     chosen(alloc, 4, 32, jumps)
 }
 
-/// The slots for jumps and for calls.
+/// The slots of a table for jumps and calls.
 pub fn call_table(alloc: Global, jumps: &[Rank], calls: &[Rank]) -> Result<Vec<u32>, AllocError>
     ensures { IfOk result (λ slots. slots.items ≡ call_table jumps.now calls.now) }
 {
@@ -22,7 +22,7 @@ pub fn call_table(alloc: Global, jumps: &[Rank], calls: &[Rank]) -> Result<Vec<u
     joined(low, &high)
 }
 
-// Slots for the targets among the first `most` that save more than `above` bytes.
+// Slots for those of the first `most` targets that save more than `above` bytes.
 fn chosen(alloc: Global, above: u32, most: usize, ranks: &[Rank]) -> Result<Vec<u32>, AllocError>
     ensures { IfOk result (λ slots. slots.items ≡ chosen above most ranks.now) }
 {
@@ -35,7 +35,7 @@ fn chosen(alloc: Global, above: u32, most: usize, ranks: &[Rank]) -> Result<Vec<
     Ok(slots)
 }
 
-// Slots for jumps and, after holes up to slot 32, slots for calls, if there are any.
+// The slots of both parts: those for jumps and, if there are any for calls, holes up to slot 32 and those for calls.
 fn joined(mut low: Vec<u32>, high: &[u32]) -> Result<Vec<u32>, AllocError>
     requires { length low.items ≤ 32 }
     ensures { IfOk result (λ slots. slots.items ≡ joined low.items high.now) }

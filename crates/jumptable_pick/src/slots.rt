@@ -1,4 +1,4 @@
-// Where the slots of a table lead.
+// The targets of a table's slots.
 
 ghost use Rattle.std.specs.Prelude.{◌≡◌, ◌≤◌, IfOk, length};
 ghost use Rattle.jumptable_pick.specs.Slots.{AreTargets, slot_place, slot_places};
@@ -9,7 +9,7 @@ use pick_check::saving::Saving;
 use std::alloc::{AllocError, Global};
 use zc_base::place::Place;
 
-/// The targets of a certificate's slots, one for each slot in their order, and none for a hole.
+/// The targets of a certificate's slots, in order; `None` for a hole.
 pub fn slot_places(
     alloc: Global,
     savings: &[Saving],

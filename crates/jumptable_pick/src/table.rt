@@ -1,4 +1,4 @@
-// Tables that may be picked.
+// Candidates for the jump table.
 
 ghost use Rattle.std.specs.Prelude.{◌≡◌};
 ghost use Rattle.jumptable_pick.specs.Tables.{better, table_of};
@@ -8,7 +8,7 @@ use pick_check::assignment::{cost_of, saved_of};
 use pick_check::saving::Saving;
 use std::marker::Model;
 
-/// A table that may be picked. The net is what its slots save less the bytes of the table itself, and 0 if these are
+/// A candidate for the jump table. The net is what its slots save, less the bytes of the table itself; 0 if these are
 /// more.
 #[derive(Drop)]
 pub struct Table {
@@ -34,7 +34,7 @@ impl Table {
         Table { slots, net }
     }
 
-    /// The other table if it has the greater net, and otherwise this one.
+    /// The other table if its net is greater, otherwise this one.
     pub fn or_better(self, other: Table) -> Table
         ensures { result ≡ better self other }
     {

@@ -1,4 +1,4 @@
-// What objects are cut into and what is linked of them, told by lines of text.
+// What objects are cut into and linked to, as lines of text.
 
 use crate::images::image_text;
 use crate::objects::{files_of, numbers_of};
@@ -45,7 +45,7 @@ fn target_text(alloc: Global, target: Target) -> Result<String, AllocError> {
     }
 }
 
-// An item of one instruction with what it leads to.
+// An item of one instruction, with its target.
 fn instr_text(alloc: Global, name: &str, instr: Instr, to: String) -> Result<String, AllocError> {
     format!(in alloc; "{name} {instr:?} {to}")
 }
@@ -87,7 +87,7 @@ fn item_text(alloc: Global, item: Item) -> Result<String, AllocError> {
     }
 }
 
-// The next place's offset and the item, if one starts there.
+// The offset after the item at a place, and the item, if one starts there.
 fn next_text(alloc: Global, cut: &Cut, p: Place) -> Result<String, Fail> {
     let (Some(next), Some(item)) = (cut.next(p), cut.item(p)) else {
         return Ok(format!(in alloc; "none")?);
@@ -210,7 +210,7 @@ fn fault_text(alloc: Global, fault: LinkFault) -> Result<String, Fail> {
     }
 }
 
-// What is asked of objects that are cut.
+// The answer to a question about objects that are cut.
 fn told(alloc: Global, cut: &Cut, question: &str) -> Result<String, Fail> {
     let (word, rest) = question.split_once(' ').unwrap_or((question, ""));
     match word {
@@ -223,7 +223,7 @@ fn told(alloc: Global, cut: &Cut, question: &str) -> Result<String, Fail> {
     }
 }
 
-// The fault of the objects with these changes, or what is asked of them.
+// The fault of the objects with these changes, or the answer to a question about them.
 fn answer(alloc: Global, changes: &str, question: &str) -> Result<String, Fail> {
     let files = files_of(alloc, changes)?;
     let objects = Objects::gather(alloc, &files, MemMap::standard())?;
@@ -240,8 +240,8 @@ fn answer(alloc: Global, changes: &str, question: &str) -> Result<String, Fail> 
     }
 }
 
-/// Each row should have its answer. It has the changes of the objects, a question after `@`, the answer after
-/// `=`, and what it shows after a stroke. Without a question it is whether the objects are linked.
+/// Checks the answer of each row. A row has the changes of the objects, a question after `@`, the answer after
+/// `=`, and what it shows after `|`. Without a question, it asks whether the objects are linked.
 pub fn expect<R: Abort + AllocGlobal>(rt: &R, rows: &str) -> Result<(), Fail> {
     for row in rows.trim().lines() {
         let (cells, _what) = row.split_once('|').unwrap_or((row, ""));

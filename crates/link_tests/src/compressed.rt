@@ -1,4 +1,4 @@
-// Objects with compressed code, by themselves and beside others. Expected answers were worked out by hand.
+// Objects with compressed code, by themselves and together with others. Expected answers were worked out by hand.
 
 use crate::answers::expect;
 use crate::compressed_rows::{BOTH, FAULTS, HINTS, ITEMS, LINKS, REACHES};

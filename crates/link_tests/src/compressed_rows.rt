@@ -1,5 +1,5 @@
-// Rows of compressed objects, most of them with their code in halfwords. Word 36 of a file is e_flags, of which 1 is RVC,
-// and word 488 the alignment of its code.
+// Rows of compressed objects, most of them with their code in halfwords. The word at 36 in a file is e_flags, where 1
+// is RVC, and the word at 488 is the alignment of its code.
 
 /// The offset after the item at a place, and the item; the plain layout, and where basic blocks begin.
 pub const ITEMS: &str = "
@@ -87,7 +87,7 @@ alone 36:1 affd 0001 0001 65537*510 115*1 0:2:0:43:4 = 0 Range 1:0 | the same ov
 alone 36:1 0000006f 65537*1024 115*1 0:0:1:17:4100 = linked | jal reaches farther
 ";
 
-/// What both links make of compressed objects: halfwords of the text, and other things.
+/// What both links write for compressed objects: halfwords of the text, and other things.
 pub const LINKS: &str = "
 alone 36:1 488:2 450d 05d00893 00000073 @ plain text = 450d 0893 05d0 0073 0000
 alone 36:1 488:2 450d 05d00893 00000073 @ plain places = 0:1:0:0 0:1:2:2 0:1:6:6 0:1:10:10
@@ -145,7 +145,7 @@ alone 36:1 a001 1075134485*511 115*1 0:0:1:45:2046 @ settled 0:2046 = 4 4092 409
 alone 36:1 c101 1075134485*63 115*1 0:0:1:44:254 @ settled 0:254 = 4 508 512 128 0 0 0 0 0 | c.beqz over them
 ";
 
-/// A compressed object beside one that isn't.
+/// A compressed object together with one that isn't compressed.
 pub const BOTH: &str = "
 bare 36:1 384:2 00000097 000080e7 4505 /00150513 /00008067 0:0:9:18:0 @ plain text = 0097 0000 80e7 00c0 4505 0000 0513 0015 8067 0000 | the first
 bare 36:1 384:2 00000097 000080e7 4505 /00150513 /00008067 0:0:9:18:0 @ plain places = 0:1:0:0 0:1:8:8 0:1:10:10 1:1:0:12 1:1:4:16 1:1:8:20

@@ -49,8 +49,8 @@ pub const LAYOUTS: &str = "
 0:28:1:18:0 @ lies 0:1:28 0:1:32 0:1:36 = 720 179 28 none 36
 ";
 
-/// The offsets of a section of the first object at which basic blocks begin; 356, 364, 372 and 380 are the values
-/// and the homes of symbols 7 and 8.
+/// The offsets of a section of the first object at which basic blocks begin; at 356, 364, 372 and 380 are the values
+/// and the section indices of symbols 7 and 8.
 pub const BLOCKS: &str = "
 @ blocks 1 = 0 20 24 28 36 | at the start, at 20 and 24, which lead to themselves, and after these and a jalr
 @ blocks 2 = 0 | at another start
@@ -81,9 +81,9 @@ pub const DATA: &str = "
 0:40:1:1:0 5:1:1:1:20 6:6:5:1:4 7:0:1:1:0 /5:0:9:1:20 /6:8:2:1:0 @ data = 100001 code 0:1:20 100006 number 20 10000c code 0:1:20 100014 code 1:1:48 | none of code or zeros
 ";
 
-/// The bytes of what is written at an offset when the code is made smaller, how far another offset then lies from the
-/// text's start, each 99 if there is none, and the counts: the text's bytes, items, short ones, long branches, pushes, pops
-/// and moves. `nodes` are those of the tree of sizes: how many there are, the first four, and the last.
+/// For `zc`: the size of what is written at an offset, how far another offset then is from the text's start, each 99
+/// if it has no answer, and the counts: the text's bytes, items, short ones, long branches, pushes, pops and moves.
+/// `nodes` asks for the nodes of the tree of sizes: how many there are, the first four, and the last.
 pub const SETTLED: &str = "
 alone 327779*1 19*126 115*1 0:0:1:16:508 @ settled 0:508 = 2 254 258 128 127 0 0 0 0 | a short branch just reaches
 alone 327779*1 19*127 115*1 0:0:1:16:512 @ settled 0:512 = 4 258 262 129 127 0 0 0 0 | and doesn't

@@ -149,8 +149,8 @@ pub const ORDER: &str = "
 /0:24:9:17:32 /1:28:1:18:0 = linked | from one into the other
 ";
 
-/// Where the program starts, and how far branches reach: 372 and 380 are the value and the home of `_start`,
-/// and 636 the size of section 5, for which the file gets 4,096 bytes more.
+/// Where the program starts, and how far branches reach: at 372 and 380 are the value and the section index of
+/// `_start`, and at 636 is the size of section 5, for which the file gets 4,096 bytes more.
 pub const REACHES: &str = "
 = linked | as they are
 372:2 = 0 NoEntry | it starts in a word

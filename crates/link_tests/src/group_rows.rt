@@ -1,6 +1,6 @@
-// Rows of code that is linked as groups of items, or is near to that, each with the halfwords of the text. Frames have 16
-// bytes where nothing else is said; `ra, s0` are the registers that are saved or restored, in the order of their slots from
-// the highest on.
+// Rows of code that is linked as groups of items, or almost is, each with the halfwords of the text. Frames have 16
+// bytes if nothing else is said; `ra, s0` are the registers that are saved or restored, in the order of their slots
+// from the highest on.
 
 /// Groups that are one instruction.
 pub const FUSED: &str = "
@@ -22,7 +22,7 @@ alone 00040513 00040593 @ zc text = ac62 | a0 and a1 get one register
 alone ff010113 00112623 00050413 00058493 00c12083 01010113 @ zc text = b842 ac26 ba42 | a push, moves and a pop
 ";
 
-/// Frames that one instruction isn't enough for: the other one stands behind a push, and before a pop.
+/// Frames that are too large for one instruction: the second one comes after a push, and before a pop.
 pub const SPLIT: &str = "
 alone fc010113 02112e23 @ zc text = b84e | 64 bytes are the most of ra by one
 alone f8010113 06812e23 06112c23 @ zc text = b85e 7139 | s0, ra in 128 bytes
@@ -34,7 +34,7 @@ alone 00000513 7ec12083 7f010113 00008067 @ zc text = 0113 7b01 bc4e | from 2032
 alone 7ec12083 7f010113 00000073 @ zc text = 0113 7b01 ba4e 0073 0000 | without a return
 ";
 
-/// Frames that are none: each item is written by itself.
+/// Code that isn't a push or pop: each item is written by itself.
 pub const FRAMES: &str = "
 alone 00c12083 00812403 01010113 00008067 @ zc text = 40b2 4422 0141 8082 | ra above s0
 alone ff010113 00812623 00912423 00112223 @ zc text = 1141 c622 c426 c206 | s0 above s1
@@ -56,7 +56,7 @@ alone ff010113 00111623 @ zc text = 1141 1623 0011 | half of ra is saved
 alone ff010113 00152623 @ zc text = 1141 2623 0015 | elsewhere
 ";
 
-/// Ends of pops that are none, or less than what stands there.
+/// Ends of pops that don't fit, or fit only a shorter ending.
 pub const ENDS: &str = "
 alone 00c12083 01010113 00028067 @ zc text = ba42 8282 | another jump
 alone 00c12083 01010113 000080e7 @ zc text = ba42 9082 | a call
@@ -70,7 +70,7 @@ alone 00c12083 00000513 01010113 00000513 00008067 @ zc text = 40b2 4501 0141 45
 alone 00c12083 01010113 00000513 00000513 00008067 @ zc text = ba42 4501 4501 8082 | twice before the return
 ";
 
-/// Moves that are no pair, or are in two.
+/// Moves that make no pair, or that could be in two pairs.
 pub const PAIRS: &str = "
 alone 00050413 00058413 @ zc text = 842a 842e | one register gets both
 alone 00050413 00050493 @ zc text = 842a 84aa | a0 goes to two
@@ -85,7 +85,7 @@ alone 00050413 00058493 00050913 00058993 @ zc text = ac26 ad2e | two pairs
 alone 00058493 00058413 00050913 @ zc text = 84ae ad22 | the first isn't in the pair
 ";
 
-/// Groups that a branch leads into, and others with a relocation.
+/// Groups that a branch would go into the middle of, and groups with a relocation.
 pub const LEADS: &str = "
 alone ff010113 00912623 00812423 00112223 00050063 0:16:1:16:8 @ zc text = 1141 c626 c422 c206 dd75 | to the second store
 alone ff010113 00912623 00812423 00112223 00050063 0:16:1:16:4 @ zc text = 1141 c626 c422 c206 dd6d | to the first

@@ -1,4 +1,4 @@
-// What a link gives, told by a line of text.
+// What a link writes, as a line of text.
 
 use elf32_read::image::Image;
 use std::alloc::Global;
@@ -7,7 +7,7 @@ use zc_base::fields::u16_at;
 use zc_base::mem_map::MemMap;
 use zc_link::linked::Linked;
 
-// The halfwords of a text. A word is two, the lower one first.
+// The halfwords of a text. A word is two halfwords, the lower one first.
 fn halves_text(alloc: Global, bytes: &[u8]) -> Result<String, Fail> {
     let mut text = String::new(alloc);
     for k in 0..bytes.len() / 2 {
@@ -43,8 +43,8 @@ fn flags_text(alloc: Global, linked: &Linked) -> Result<String, Fail> {
     Ok(format!(in alloc; "{flags:?}")?)
 }
 
-/// What is asked of a link: its `text`, the first eight bytes of it as its `start`, its `places`, its `counts`, or
-/// its `flags`.
+/// The answer to a question about a link: its `text`, the text's first eight bytes as its `start`, its `places`, its
+/// `counts`, or its `flags`.
 pub fn image_text(alloc: Global, linked: &Linked, asked: &str) -> Result<String, Fail> {
     let image = Image::read(linked.elf.as_slice(), MemMap::standard())?;
     if image.segment_count() == 0 {

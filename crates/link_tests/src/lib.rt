@@ -1,5 +1,5 @@
-//! Tests of the cut of code, its layout and the links. They stand apart, since a crate with tests is proved
-//! twice.
+//! Tests of the cut of code, its layout and the links. They have a crate of their own, since a crate with
+//! tests is proved twice.
 #![tactic(auto)]
 
 #[cfg(test)]

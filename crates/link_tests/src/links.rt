@@ -43,7 +43,7 @@ e7800000 13000000 13000000 13000000 67800000 6ff0dfff 00000000 73907201 00000000
 00000000
 ";
 
-// Where the linker's own map has them: `f` at 0x10020, and `value` at 0x100000. The padding is one word. Data
+// The bytes under the standard memory map: `f` is at 0x10020, and `value` at 0x100000. The padding is one word. Data
 // comes after it.
 const PLAIN: &str = "
 37051000 83250500 63820500 17060f00 232ab6fe 97000000 e780c000 13000000 67800000 6ff0dfff 20000100
@@ -80,7 +80,7 @@ fn counts_text(alloc: Global, linked: &Linked) -> Result<String, Fail> {
     Ok(format!(in alloc; "{before}, {after}, {flags:?}")?)
 }
 
-// A link should have these counts and flags, and these bytes after its headers.
+// Checks that a link has these counts and flags, and these bytes after its headers.
 fn expect<R: Abort + AllocGlobal>(
     rt: &R,
     is_smaller: bool,

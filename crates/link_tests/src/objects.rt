@@ -1,6 +1,6 @@
 // Objects that the tests change.
 //
-// The check proves each test, and pays there for each assertion and each row of a table. So files are
+// `rt check` proves each test, which takes time for each assertion and each element of a table. So files are
 // hexadecimal digits, and rows are lines of a text.
 
 use std::alloc::{AllocError, Global};
@@ -44,8 +44,7 @@ b4000000 18000000 0c000000 03000000 04000000 0c000000 00000000 04000000 00000000
 01000000 00000000
 ";
 
-// How many bytes the object has, and where in it the relocations begin, and where the names of symbols 8 and 9
-// are told.
+// How many bytes the object has, where in it the relocations begin, and where st_name of symbols 8 and 9 is.
 const OBJECT_SIZE: usize = 976;
 
 const RELOCS: usize = 120;
@@ -86,7 +85,7 @@ fn write_word(file: &mut [u8], at: usize, word: u32) -> Result<(), Fail> {
     }
 }
 
-// Puts a relocation into the place of one that is there: its number, offset, symbol, type and addend.
+// Replaces a relocation: its number, offset, symbol, type and addend.
 fn put_reloc(file: &mut [u8], numbers: &[i64]) -> Result<(), Fail> {
     let [number, offset, symbol, kind, addend] = numbers else {
         return Err("no relocation".into());
@@ -109,8 +108,8 @@ fn add_number(file: &mut Vec<u8>, number: u32, count: usize) -> Result<(), Alloc
     Ok(())
 }
 
-// Makes a change: `19*3` adds three words 19 at the file's end, eight hexadecimal digits add one word, and four a
-// halfword; `528:64` writes the word 64 at 528, and five numbers are a relocation.
+// Makes a change: `19*3` appends the word 19 to the file three times, eight hexadecimal digits append a word, and four
+// a halfword; `528:64` writes the word 64 at 528, and five numbers are a relocation.
 fn change(alloc: Global, file: &mut Vec<u8>, text: &str) -> Result<(), Fail> {
     if let Some((word, times)) = text.split_once('*') {
         let word = word.parse::<u32>()?;
@@ -134,7 +133,7 @@ fn change(alloc: Global, file: &mut Vec<u8>, text: &str) -> Result<(), Fail> {
     }
 }
 
-// Makes the words that were added section 1, and drops all other code. Symbols 2 and 7 are then at its start.
+// Makes section 1 of the words that were appended, and drops all other code. Symbols 2 and 7 are then at its start.
 fn leave_added(file: &mut [u8]) -> Result<(), Fail> {
     let size = u32::try_from(file.len().saturating_sub(OBJECT_SIZE))?;
     write_word(file, 472, OBJECT_SIZE as u32)?;
@@ -145,9 +144,9 @@ fn leave_added(file: &mut [u8]) -> Result<(), Fail> {
     write_word(file, 356, 0)
 }
 
-/// Two such objects with these changes, those of the second after a stroke each. There symbol 8 has another
-/// name, and 9 is the first's `_start`. With `bare` the code of each is what was added; with `alone` it is the first by
-/// itself, and so is its code. `36:1` makes an object compressed.
+/// Two of these objects with these changes; a change of the second object has `|` before it. In the second object
+/// symbol 8 has another name, and 9 is the first object's `_start`. With `bare` the code of each is what was appended;
+/// with `alone` there is only the first object, also bare. `36:1` makes an object compressed.
 pub fn files_of(alloc: Global, changes: &str) -> Result<Vec<Vec<u8>>, Fail> {
     let mut first = bytes_of(alloc, OBJECT)?;
     let mut second = bytes_of(alloc, OBJECT)?;

@@ -1,5 +1,5 @@
 //! Tests of what the command `make` generates, by the public calls of `load_maker` and `interrupt_plan`, and of
-//! reports. They stand apart, since a crate with tests is proved twice.
+//! reports. They have a crate of their own, since a crate with tests is proved twice.
 #![tactic(auto)]
 
 #[cfg(test)]

@@ -17,7 +17,7 @@ fn mixed(hash: u64, bytes: &[u8]) -> u64 {
     mixed
 }
 
-// How many objects there are, and their hash; or why there are none.
+// How many objects are generated, and their hash; or why none are.
 fn said_of(alloc: Global, number: u64, functions: u32) -> Result<String, AllocError> {
     let files = match make_objects(alloc, number, functions) {
         Ok(files) => files,

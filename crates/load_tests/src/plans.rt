@@ -16,7 +16,8 @@ fn mixed(hash: u64, value: u64) -> u64 {
     (hash ^ value).wrapping_mul(PRIME)
 }
 
-// A hash with an interrupt: its commit, the count of accesses, each access, and each byte with its address.
+// A hash with one more interrupt mixed in: its commit, the count of accesses, each access, and each byte with its
+// address.
 fn mixed_cut(hash: u64, cut: &PlanCut) -> u64 {
     let mut mixed_so_far = mixed(mixed(hash, cut.at), cut.done.len() as u64);
     for access in &cut.done {

@@ -1,15 +1,15 @@
-// Halfwords that stand for several instructions (Zcmp), by both machines: the symbolic one over the code of an object, and the
-// one that runs images over the same bytes as an image's text. What is expected is worked out by the Zc specification 1.0,
-// and the halfwords are those of LLVM's assembler (19, `-triple=riscv32 -mattr=+zca,+zcb,+zcmp`).
+// Halfwords that expand to several instructions (Zcmp), on both machines: the symbolic one runs the code of an object,
+// and the machine for images runs the same bytes as an image's text. Expected results are worked out by the Zc
+// specification 1.0, and the halfwords come from LLVM's assembler (19, `-triple=riscv32 -mattr=+zca,+zcb,+zcmp`).
 
 use crate::row::column;
 use crate::{images, objects};
 use std::alloc::Global;
 use std::test::Fail;
 
-// Each program, how the symbolic machine's run of it ends, and how the other machine's ends, with pc and a0; the input, the
-// output, and the most steps of both. Where both exit, registers and memory were alike, as the output and a0 tell. The stack
-// has 1 MiB, and sp is its end at first, 0x10000000.
+// Each program, how its run on the symbolic machine ends, and how its run on the machine for images ends, with pc and
+// a0; the input, the output, and the limit of steps of both. Where both exit, the output and a0 show that registers
+// and memory were the same. The stack has 1 MiB, and sp is its end at first, 0x10000000.
 const PROGRAMS: &str = "
 # all registers of a list, the highest number at the highest address: c.li s0,1; c.li s1,2; c.li s2,3; c.li s3,4; c.li s4,5; c.li s5,6; c.li s6,7; c.li s7,8; c.li s8,9; c.li s9,10; c.li s10,11; c.li s11,12; c.li ra,13; cm.push {ra, s0-s11},-64; c.addi4spn a1,sp,12; c.li a0,1; addi a2,x0,52; addi a7,x0,64; ecall; addi a7,x0,93; ecall
 4405 4489 490D 4991 4A15 4A99 4B1D 4BA1 4C25 4CA9 4D2D 4DB1 40B5 B8F2 006C 4505 03400613 04000893 00000073 05D00893 00000073 | out 0000000D 00000001 00000002 00000003 00000004 00000005 00000006 00000007 00000008 00000009 0000000A 0000000B 0000000C | ends exited 34 | image exited 52 10030 34

@@ -1,5 +1,5 @@
-// The machine that runs images: small texts, run and stepped. What is expected is worked out by the manual, or comes from
-// LLVM's assembler.
+// The machine that runs images: small texts, run and stepped. Expected results are worked out by the manual, or come
+// from LLVM's assembler.
 
 ghost use Rattle.std.specs.Prelude.{◌≡◌, IfOk, None};
 
@@ -40,7 +40,7 @@ fn load(alloc: Global, text: &str) -> Result<Machine, Fail>
     load_with(alloc, text, "")
 }
 
-// Loads and runs the text of a row, and says how the run ended and what it left.
+// Loads and runs the text of a row, and returns how the run ended and what it left.
 fn ran(alloc: Global, row: &str) -> Result<String, Fail> {
     let steps = u64::from(number_of(row, "steps")?);
     let fails = [number_of(row, "fails")?];
@@ -66,7 +66,7 @@ fn end_text(alloc: Global, end: RunEnd, pc: u32, a0: u32) -> Result<String, Allo
     }
 }
 
-/// Runs each row, with a text after it: it should end and write as it says.
+/// Runs each row, with this text after it: the run should end and write as the row says.
 pub fn expect_runs<R: Abort + AllocGlobal>(rt: &R, rows: &str, after: &str) -> Result<(), Fail> {
     for row in rows.trim().lines() {
         if !row.starts_with('#') {
@@ -108,7 +108,7 @@ fn a_piece_ends_with_its_page(rt: HostRuntime) -> Result<(), Fail> {
     Ok(())
 }
 
-// The numbers are those of `fuzz/frames.py`.
+// `fuzz/frames.py` prints these numbers.
 #[test]
 fn pushes_and_pops_leave_what_the_model_says(rt: HostRuntime) -> Result<(), Fail> {
     assert_eq!(rt; frames::all_lists(rt.alloc())?, 0x6A4C_6C09);
@@ -160,7 +160,7 @@ fn last_word(alloc: Global, text: &str) -> Result<Vec<(u32, u8)>, Fail> {
     Ok(dirt)
 }
 
-// Makes the steps and the interrupt of a row, and says what they leave.
+// Makes the steps and the interrupt of a row, and returns what they leave.
 fn left_by(alloc: Global, machine: &mut Machine, row: &str) -> Result<String, Fail> {
     go(machine, number_of(row, "steps")?);
     let done = bytes_of(alloc, column(row, "done"))?;
@@ -181,7 +181,7 @@ fn an_interrupted_push_or_pop_starts_again(rt: HostRuntime) -> Result<(), Fail> 
     Ok(())
 }
 
-// Makes a step, and says what it answers.
+// Makes a step, and returns its result as text.
 fn step_text(alloc: Global, machine: &mut Machine) -> Result<String, AllocError> {
     if machine.commits() >= 9 {
         return String::from_str(alloc, "no step");
@@ -200,7 +200,7 @@ fn step_text(alloc: Global, machine: &mut Machine) -> Result<String, AllocError>
     }
 }
 
-// Makes the steps of a row after an interrupt that writes these bytes: they should answer as the row says.
+// Makes the steps of a row after an interrupt that writes these bytes: their results should be as the row says.
 fn expect_steps<R: Abort + AllocGlobal>(rt: &R, row: &str, dirt: &[(u32, u8)]) -> Result<(), Fail> {
     let mut machine = load_with(rt.alloc(), column(row, "text"), column(row, "data"))?;
     machine.cut(&[], dirt);

@@ -1,5 +1,5 @@
-//! Tests of the two machines, over small programs, and of the texts of plans. They stand apart since a crate with tests is
-//! proved twice, and so these crates have none of their own.
+//! Tests of the two machines, over small programs, and of the texts of plans. They have a crate of their own, since a
+//! crate with tests is proved twice.
 #![tactic(auto)]
 
 #[cfg(test)]

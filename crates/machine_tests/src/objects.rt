@@ -1,5 +1,5 @@
-// The symbolic machine: small objects, from their bytes to the ends of their runs. What is expected is worked out by the
-// manual.
+// The symbolic machine: small objects, from their bytes to the ends of their runs. Expected results are worked out by
+// the manual.
 
 ghost use Rattle.std.specs.Prelude.{◌≡◌, IfOk};
 ghost use Rattle.psabi_sym.specs.Inputs.{parsed};
@@ -57,7 +57,7 @@ fn start(alloc: Global, cut: &Cut, row: &str) -> Result<Sym, Fail>
     Ok(Sym::start(alloc, cut, input.as_slice())?)
 }
 
-// Runs a cut as a row says, and says how the run ended and what it wrote.
+// Runs a cut as a row says, and returns how the run ended and what it wrote.
 fn ran(alloc: Global, cut: &Cut, row: &str) -> Result<String, Fail> {
     let steps = u64::from(number_of(row, "steps")?);
     let fails = [number_of(row, "fails")?];
@@ -196,7 +196,7 @@ fn runs_go_from_section_to_section(rt: HostRuntime) -> Result<(), Fail> {
     Ok(())
 }
 
-// Makes a step, and says what it answers.
+// Makes a step, and returns its result as text.
 fn step_text(alloc: Global, sym: &mut Sym, cut: &Cut) -> Result<String, AllocError>
     requires { IsOf (program_of (parsed cut.now)) sym.old }
     ensures { IsOf (program_of (parsed cut.now)) sym.new }
@@ -210,7 +210,7 @@ fn step_text(alloc: Global, sym: &mut Sym, cut: &Cut) -> Result<String, AllocErr
     }
 }
 
-// Makes the steps of a row, which should answer as the row says.
+// Makes the steps of a row: their results should be as the row says.
 fn expect_steps<R: Abort + AllocGlobal>(rt: &R, cut: &Cut, row: &str) -> Result<(), Fail> {
     let mut sym = start(rt.alloc(), cut, row)?;
     for want in column(row, "answers").split(';') {

@@ -1,5 +1,5 @@
-// Texts of plans, and what is read: `|` stands for a line feed, `^` for a carriage return, `~` for a tab, and `%`
-// for a byte of zero.
+// Texts of plans, and what is read from them: `|` means a line feed, `^` a carriage return, `~` a tab, and `%` a byte
+// of zero.
 
 use interrupt_plan::plan::Plan;
 use interrupt_plan::read_plan::read_plan;
@@ -92,7 +92,7 @@ fn answer(alloc: Global, text: &str) -> Result<String, AllocError> {
     read(alloc, bytes.as_slice())
 }
 
-// What is read of a text.
+// What is read from a text.
 fn read(alloc: Global, text: &[u8]) -> Result<String, AllocError> {
     match read_plan(alloc, text) {
         Ok(plan) => told(alloc, &plan),

@@ -1,5 +1,6 @@
-// Rows of tables. The check proves each test, and pays there for each statement and each element of an array; so a table is
-// a text, and a row one of its lines, with columns between `|`. A column begins with its key, and may be missing.
+// Rows of tables. `rt check` proves each test, which takes time for each statement and each element of an array; so a
+// table is a text, and a row one of its lines, with columns between `|`. A column begins with its key, and may be
+// missing.
 
 use std::alloc::Global;
 use std::test::Fail;
@@ -43,7 +44,7 @@ pub fn shown(alloc: Global, end: &str, console: &MemConsole) -> Result<String, F
     Ok(format!(in alloc; "{end} {out:?} {err:?}")?)
 }
 
-/// The same as a row wants it.
+/// The end of a run as a row expects it, with the same text.
 pub fn end_of(alloc: Global, row: &str) -> Result<String, Fail> {
     let out = bytes_of(alloc, column(row, "out"))?;
     let err = bytes_of(alloc, column(row, "err"))?;

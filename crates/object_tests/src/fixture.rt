@@ -4,7 +4,7 @@ use std::alloc::Global;
 use std::test::Fail;
 use zc_base::fields::put_u32;
 
-/// The bytes of words: `0a1b` is two bytes, `00*28` is 28 zeros, and `=.text` these letters and a zero.
+/// The bytes that words of a text spell: `0a1b` is two bytes, `00*28` is 28 zeros, and `=.text` is `.text` and a zero.
 pub fn bytes_of(alloc: Global, words: &str) -> Result<Vec<u8>, Fail> {
     let mut bytes = Vec::new(alloc);
     for word in words.split_whitespace() {
@@ -22,7 +22,7 @@ pub fn bytes_of(alloc: Global, words: &str) -> Result<Vec<u8>, Fail> {
     Ok(bytes)
 }
 
-// A place, or the sum of two numbers with `+` between them.
+// An offset: a number, or the sum of two numbers with `+` between them.
 fn place_of(text: &str) -> Result<usize, Fail> {
     let (start, field) = text.split_once("+").unwrap_or((text, "0"));
     Ok(
@@ -32,8 +32,8 @@ fn place_of(text: &str) -> Result<usize, Fail> {
     )
 }
 
-/// A file after the changes of a line: of its words, those with a colon each write a word of the file, as
-/// `408+4:11` writes 0x11 at 412, and `<51` leaves the first 51 bytes.
+/// A file after the changes of a line. Each of its words is a change: one with a colon writes a word of the file, so
+/// `408+4:11` writes 0x11 at 412, and `<51` leaves only the first 51 bytes.
 pub fn changed(alloc: Global, file: &str, line: &str) -> Result<Vec<u8>, Fail> {
     let mut bytes = bytes_of(alloc, file)?;
     for word in line.split_whitespace() {

@@ -1,4 +1,4 @@
-// An image made by hand: what it reads as, its first fault after changes, and that it is written so.
+// An image made by hand: what it reads as, its first fault after changes, and that `elf32_write` writes the same bytes.
 
 use crate::fixture::{bytes_of, changed};
 use elf32_read::image::Image;

@@ -1,5 +1,5 @@
-//! Tests of `elf32_read`, `elf32_write` and `psabi_sym`, by their public calls. They stand apart, since a
-//! crate with tests is proved twice.
+//! Tests of `elf32_read`, `elf32_write` and `psabi_sym`, by their public calls. They have a crate of their
+//! own, since a crate with tests is proved twice.
 #![tactic(auto)]
 
 #[cfg(test)]

@@ -70,8 +70,8 @@ const SECOND: &str = "
 00*4 03000000 00*8 a0000000 09000000 00*8 01000000 00*4
 00*4 03000000 00*8 ac000000 0f000000 00*8 01000000 00*4";
 
-// Code that calls `g`, which is undefined: its symbol stands at 84, and the kind of the symbol at 96. The size of its
-// zeroed data stands at 216.
+// Code that calls `g`, which is undefined: its symbol is at 84, and the type of the symbol at 96. The size of the
+// zeroed data is at 216.
 const CALLER: &str = "
 7f454c46010101 00*9
 0100 f300 01000000 00*8 74000000 00*4
@@ -109,7 +109,7 @@ const ENDS: &str = "
 00*4 02000000 00*8 34000000 80000000 02000000 01000000 04000000 10000000
 00*4 03000000 00*8 b4000000 84000000 00*8 01000000 00*4";
 
-// Weak symbols that aren't defined, with names in a table where the same text stands a byte later. It begins with
+// Weak symbols that aren't defined, with names in a table where the same text is a byte later. The table begins with
 // another byte, which the first name has too.
 const LATER_ENDS: &str = "
 7f454c46010101 00*9
@@ -134,7 +134,7 @@ const LATER_ENDS: &str = "
 00*4 02000000 00*8 34000000 e0000000 02000000 01000000 04000000 10000000
 00*4 03000000 00*8 14010000 85000000 00*8 01000000 00*4";
 
-// Code of 262,144 bytes. The alignment of the code stands at 262276, and its size at 262264.
+// Code of 262,144 bytes. The alignment of the code is at 262276, and its size at 262264.
 const LONG: &str = "
 7f454c46010101 00*9
 0100 f300 01000000 00*8 3c000400 00*4
@@ -194,7 +194,7 @@ fn data_text(alloc: Global, objects: &Objects) -> Result<String, Fail> {
     Ok(format!(in alloc; "{file_end:x} {end:x} {digits}")?)
 }
 
-// The flags of each object, and whether it is compressed, as it says itself and as all of them do.
+// The flags of each object, and whether it is compressed, as the object says and as the list of objects says.
 fn flags_text(alloc: Global, objects: &Objects) -> Result<String, AllocError> {
     let mut text = String::new(alloc);
     for i in 0..objects.object_count() {
@@ -209,7 +209,7 @@ fn flags_text(alloc: Global, objects: &Objects) -> Result<String, AllocError> {
     Ok(text)
 }
 
-// How many objects there are, whether the map is the standard one, and the number of the first section after all.
+// How many objects there are, whether the map is the standard one, and the number that a next section would have.
 fn counts_text(alloc: Global, objects: &Objects) -> Result<String, AllocError> {
     let count = objects.object_count();
     let is_standard = objects.map() == MemMap::standard();
@@ -217,7 +217,7 @@ fn counts_text(alloc: Global, objects: &Objects) -> Result<String, AllocError> {
     format!(in alloc; "{count} {is_standard} {after:?}")
 }
 
-// Of each section of the first object, which one has its relocations, and whether it is code.
+// For each section of the first object, which section has its relocations, and whether it is code.
 fn relas_text(alloc: Global, objects: &Objects) -> Result<String, Fail> {
     if objects.object_count() == 0 {
         return Err("no object".into());
@@ -230,8 +230,8 @@ fn relas_text(alloc: Global, objects: &Objects) -> Result<String, Fail> {
     Ok(text)
 }
 
-// A section by its number among all: its object and its index there, the number by these, its type, alignment, size and
-// bytes, whether it is code, whether its object is compressed, and the offsets of its relocations.
+// A section by its number among all: its object and its index there, its number by these two, its type, alignment, size
+// and bytes, whether it is code, whether its object is compressed, and the offsets of its relocations.
 fn section_text(alloc: Global, objects: &Objects, number: u32) -> Result<String, Fail> {
     if objects.section_count() <= number {
         return Err("no section".into());
@@ -260,7 +260,7 @@ fn fault_text(alloc: Global, fault: LinkFault) -> Result<String, AllocError> {
     }
 }
 
-// What is asked of objects: where a symbol leads, or what the words below stand for.
+// A question about objects: the target of a symbol, or what one of the words below means.
 fn told(alloc: Global, objects: &Objects, question: &str) -> Result<String, Fail> {
     let (word, number) = question.split_once(" ").unwrap_or((question, ""));
     match word {
@@ -275,7 +275,7 @@ fn told(alloc: Global, objects: &Objects, question: &str) -> Result<String, Fail
     }
 }
 
-// The fault of objects, or what is asked of them.
+// The fault of objects, or the answer to a question about them.
 fn answer(alloc: Global, list: &str, question: &str) -> Result<String, Fail> {
     let files = files_of(alloc, list)?;
     match Objects::gather(alloc, &files, MemMap::standard()) {
@@ -284,7 +284,7 @@ fn answer(alloc: Global, list: &str, question: &str) -> Result<String, Fail> {
     }
 }
 
-// Each line, after the same text, should have the objects, what is asked of them, and what comes.
+// Checks each line, after the same text: the objects, a question about them, and the expected answer.
 fn expect<R: Abort + AllocGlobal>(rt: &R, before: &str, lines: &str) -> Result<(), Fail> {
     for line in lines.lines() {
         let row = format!(in rt.alloc(); "{before}{line}")?;
@@ -331,8 +331,8 @@ fn data_stands_class_after_class(rt: HostRuntime) -> Result<(), Fail> {
     expect(&rt, "first;second @ ", DATA)
 }
 
-// Each name of the second object is one of the first, but for the whole text, two that aren't defined, and
-// the empty one.
+// Each name of the second object is a name of the first, except the whole text, two names that aren't defined, and the
+// empty name.
 const NAMES: &str = "1 1 0 = absent 0
 1 2 0 = number 1
 1 3 0 = number 2
@@ -352,7 +352,7 @@ fn names_that_end_alike_are_told_apart(rt: HostRuntime) -> Result<(), Fail> {
     expect(&rt, "ends;later @ ", NAMES)
 }
 
-// In the names of symbols, `_start` begins at 11, in the place of `abs`, and `t` at 16.
+// In the names of symbols, `_start` begins at 11, where `abs` was, and `t` at 16.
 const STARTS: &str = " @ start = number 1234
  104:b 168:10 @ start = code 0 1 4
  120:b 168:10 @ start = number 100011
@@ -414,8 +414,8 @@ fn objects_with_rvc_among_their_flags_are_compressed(rt: HostRuntime) -> Result<
     expect(&rt, "", FLAGS)
 }
 
-// The bytes of code and its alignment are 262,144 at most, where bytes of compressed objects count twice, and neither
-// their alignments nor their data do.
+// The bytes of code and its alignments are 262,144 at most. Bytes of compressed objects count twice, but not their
+// alignments and their data.
 const SUMS: &str = "long 262264:3fffc @ linked = linked
 long @ linked = 0 TooLarge
 long 36:10 262264:20000 @ linked = linked

@@ -128,7 +128,7 @@ SectionKind 408+28:1 two RELA for code
 SectionKind 448+4:8 a SYMTAB of zeros is none, and a RELA lacks it
 SectionKind 408+4:11 248+32:3 an unaligned group";
 
-// Of a symbol, its value stands at 4, and its binding and type at 12, with the home above these.
+// A symbol's value is at 4, and its binding and type at 12, in the same word as st_shndx above them.
 const OTHERS: &str = "Alignment 248+32:3 code aligned to 3
 - 248+32:100 code aligned to 256
 Alignment 248+32:200 code aligned to 512
@@ -180,7 +180,7 @@ BadSymbol 116+4:11 116+12:30012 past the end of zeros
 BadSymbol 76:400 a relocation of no symbol
 BadSymbol 368:17 .eh_frame by another name";
 
-// A section, which says the same in its entry.
+// A section as text; its `SectionEntry` should have the same fields.
 fn section_text(alloc: Global, object: &Object, i: u32) -> Result<String, Fail> {
     if object.section_count() <= i {
         return Err("no section".into());
@@ -232,7 +232,7 @@ fn told(alloc: Global, object: &Object, word: &str, i: u32) -> Result<String, Fa
     }
 }
 
-// The object's parts of this kind, from the first on, should be as the lines say.
+// Checks the object's parts of this kind, from the first on, against the lines.
 fn expect<R: Abort + AllocGlobal>(rt: &R, word: &str, lines: &str) -> Result<(), Fail> {
     let bytes = bytes_of(rt.alloc(), OBJECT)?;
     let object = Object::read(&bytes)?;
@@ -267,7 +267,7 @@ fn fault_of(bytes: &[u8]) -> &'static str {
     }
 }
 
-// The object with the changes of each line has the fault that the line begins with.
+// Checks that the object with the changes of each line has the fault that the line begins with.
 fn expect_faults<R: Abort + AllocGlobal>(rt: &R, lines: &str) -> Result<(), Fail> {
     for line in lines.lines() {
         let bytes = changed(rt.alloc(), OBJECT, line)?;

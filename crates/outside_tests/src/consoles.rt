@@ -1,9 +1,8 @@
 // What consoles take and write.
 //
-// These bodies fail here: `take` that answers 0, that reads into the buffer's end, or
-// that gives up at an interruption; `out` that stops at a short write, that takes a refusal for the
-// end, or that writes to the other stream; and any of them that tells want of memory as a fault, or a
-// fault as want of memory.
+// These wrong bodies fail here: a `take` that returns 0, reads to the buffer's end instead of its start, or gives up
+// when it is interrupted; an `out` that stops after a short write, takes a refusal for the end, or writes to the other
+// stream; and each of them if it reports running out of memory as a fault, or a fault as running out of memory.
 
 use crate::drip::Drip;
 use std::alloc::Global;
@@ -35,7 +34,7 @@ fn written(alloc: Global, answer: Result<(), ConsoleFault>) -> Result<String, Fa
     }
 }
 
-// What a console answers to `take ROOM`, `out BYTES` or `err BYTES`.
+// What a console returns for `take ROOM`, `out BYTES` or `err BYTES`.
 fn answer<C: Console>(alloc: Global, console: &mut C, call: &str) -> Result<String, Fail> {
     let (kind, value) = call.split_once(" ").ok_or("no call")?;
     match kind {
@@ -60,7 +59,7 @@ fn expect_calls<R: Abort + AllocGlobal, C: Console>(
     Ok(())
 }
 
-// The calls are numbered from 0, but for those with an empty piece. The fourth is listed.
+// The calls are numbered from 0, except those with an empty piece. The fourth is to fail.
 #[test]
 fn a_console_in_memory_moves_bytes_but_for_the_listed_calls(rt: HostRuntime) -> Result<(), Fail> {
     let mut console = MemConsole::new(rt.alloc(), b"hello", &[3])?;
@@ -79,7 +78,7 @@ err to err => written";
     Ok(())
 }
 
-// Both ways that a stream may be refused.
+// Both ways in which a stream's call may be refused.
 const ENDS: [(ErrorKind, &str); 2] = [
     (ErrorKind::Other, "the console can't be read or written"),
     (ErrorKind::OutOfMemory, "out of memory"),

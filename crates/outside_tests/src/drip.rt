@@ -1,4 +1,4 @@
-// A stream in memory that is short, is interrupted, and ends.
+// A stream in memory with short reads and writes, interruptions, and an end.
 
 ghost use Rattle.std.specs.Prelude.{◌≤◌, IfOk};
 
@@ -6,7 +6,7 @@ use std::alloc::Global;
 use std::io;
 use std::io::{ErrorKind, Read, Write};
 
-/// A stream that moves one byte a call at most, and is interrupted at each other call. At its end a
+/// A stream that moves at most one byte per call, and is interrupted at every second call. At its end a
 /// read or a write is refused for a reason, or moves nothing.
 #[derive(Drop)]
 pub struct Drip {

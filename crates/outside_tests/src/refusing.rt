@@ -21,8 +21,8 @@ const RENAME: u32 = 4;
 /// The number of calls that may be refused.
 pub const CALLS: u32 = 5;
 
-/// The system's files, or one of them, but that the call of this number is refused for this reason. What a
-/// store doesn't need isn't there.
+/// The system's files, or one of them, except that the call with this number is refused for this reason. What a
+/// store doesn't need isn't implemented.
 #[derive(Drop)]
 pub struct Refusing<F> {
     pub over: F,
@@ -41,7 +41,7 @@ impl<F> Refusing<F> {
     }
 }
 
-// What isn't there.
+// Methods that a store doesn't need.
 fn unneeded<T>() -> io::Result<T> {
     Err(io::Error::from(ErrorKind::Unsupported))
 }

@@ -1,11 +1,11 @@
-// What stores hold.
+// What stores hold, and how calls are refused.
 //
-// These bodies of `DiskStore` fail here: `get` that drops a byte, or answers a long file; `put` that
-// writes nothing, that leaves its new file, that ignores a refused creation, change of permissions, write,
-// sync or renaming, that answers Done or changes the old file at one, that writes over a link or over the file
-// that it put under another name, that remembers names of files that are gone, and that tells want of memory
-// as a fault. That a body ignores a short or refused write, or stops a read before the end, is refused by the
-// proof; `scripts/check_program` has permissions.
+// These wrong bodies of `DiskStore` fail here: a `get` that drops a byte, or returns a file that is too long; a `put`
+// that writes nothing, leaves its new file, ignores a refused creation, change of permissions, write, sync or
+// renaming, returns Done or changes the old file after one, writes over a link or over the file that it put under
+// another name, remembers names of files that are gone, or reports running out of memory as a fault. The proof refuses
+// a body that ignores a short or refused write, or stops a read before the end; `scripts/check_program` tests
+// permissions.
 
 use crate::refusing::{CALLS, Refusing};
 use std::alloc::{AllocError, Global};
@@ -46,7 +46,7 @@ fn path_of(alloc: Global, folder: &str, name: &str) -> Result<String, AllocError
     }
 }
 
-// What a store answers to `get LIMIT NAME`, or to `put BYTES NAME` of one word.
+// What a store returns for `get LIMIT NAME`, or for `put BYTES NAME` with bytes of one word.
 fn answer<S: Store>(
     alloc: Global,
     store: &mut S,
@@ -82,7 +82,7 @@ fn expect_calls<R: Abort + AllocGlobal, S: Store>(
     Ok(())
 }
 
-// The second put and the third get are listed.
+// The second put and the third get are to fail.
 #[test]
 fn a_store_in_memory_keeps_files_but_for_the_listed_calls(rt: HostRuntime) -> Result<(), Fail> {
     let mut store = MemStore::new(rt.alloc(), &[1, 5])?;
@@ -129,8 +129,8 @@ fn change(rt: &HostRuntime, folder: &str, lines: &str) -> Result<(), Fail> {
     Ok(())
 }
 
-// Puts, and gets at the limit and one byte over it, of a file, of devices, and of names that are no file's. A
-// folder can be removed if no other file is left.
+// Puts, and gets at the limit and one byte over it, of a file, of devices, and of names that no file has. That the
+// folder can be removed shows that no other file is left.
 #[test]
 fn a_disk_gives_what_was_put_where_a_file_may_be(rt: HostRuntime) -> Result<(), Fail> {
     let folder = make_folder(&rt, "files")?;
@@ -154,7 +154,7 @@ put bytes none/file => the file can't be read or written";
     Ok(fs::remove_dir(&rt, folder.as_str())?)
 }
 
-// Both ways that a call may be refused; the answer is then a refusal of that kind.
+// Both ways in which a call may be refused; the result is then a refusal of that kind.
 const KINDS: [(ErrorKind, &str); 2] = [
     (ErrorKind::Other, "the file can't be read or written"),
     (ErrorKind::OutOfMemory, "out of memory"),
@@ -177,9 +177,9 @@ fn a_refused_call_leaves_the_old_file(rt: HostRuntime) -> Result<(), Fail> {
     Ok(fs::remove_dir(&rt, folder.as_str())?)
 }
 
-// A link that leads over a link, at first to nothing, stays. Then the file `b` is renamed to `a`, and is known
-// by the name that it was put under until that is put again. At last `a` is removed. A system that gives its
-// number to the next file, as ext4 does, then shows that it was forgotten.
+// A link to a link, at first to nothing, stays. Then the file `b` is renamed to `a`, and is known by the name that it
+// was put under until that name is put again. At last `a` is removed. On a system that gives its inode number to the
+// next file, as ext4 does, this shows that it was forgotten.
 #[test]
 fn links_stay_and_files_are_known_by_their_last_names(rt: HostRuntime) -> Result<(), Fail> {
     let folder = make_folder(&rt, "names")?;

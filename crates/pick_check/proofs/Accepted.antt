@@ -1,4 +1,4 @@
--- The test of a certificate says whether it is accepted.
+-- The test of a certificate decides whether it is accepted.
 use Rattle.std.proofs.Common.{◌≡◌, ℕ, ◌+◌, ◌≤◌, Bool, List, length, refl, leb}
 use Rattle.std.proofs.lemmas.Bool.{leb-true, le-leb}
 use Rattle.std.proofs.lemmas.Bool.Decides.{Decides-and, Decides-by_and, Decides-eqb, Decides-like, same_from_decides}
@@ -25,6 +25,6 @@ accepted_decides savings c =
     (λ a. (((a.assignment.few, a.assignment.in_range), a.saves), a.bound))
     (Decides-and _ _ (Decides-and _ _ (Decides-and _ _ few in_range) saves) bound)
 
--- an answer that says whether a certificate is accepted is the test
+-- a result that is true exactly if a certificate is accepted equals the test
 pub accepted_test : (savings : List Saving) (c : Certified) (answer : Bool) → (IsTrue answer ↔ IsAccepted savings c) → answer ≡ is_accepted savings c
 accepted_test savings c answer is = same_from_decides answer (is_accepted savings c) is (accepted_decides savings c)

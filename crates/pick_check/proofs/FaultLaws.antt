@@ -1,5 +1,5 @@
--- The fault that is found says what stands in the text. The lines before a bad line begin some certificate's text. Whether a
--- line is bad depends on it and the lines before it alone, so no certificate's text goes on with it.
+-- What the fault that is found means for the text: the lines before a bad line begin some certificate's text. Whether
+-- a line is bad depends only on this line and those before it, so no certificate's text goes on with it.
 use Rattle.std.proofs.Common.{◌≡◌, ◌⊎◌, ℕ, ◌+◌, ◌<◌, ◌≤◌, Some, None, Ok, Err, Bool, true, false, cond, Option, Result, List, [], ◌∷◌, ◌++◌, map, length, take, drop, ltb, eqb, inl, inr, refl, ap, ap₂, sym, subst, ◌∙◌, append_assoc, length-append, length-drop, length-take, arith}
 use Rattle.std.specs.Prelude.{All, codes}
 use Rattle.std.specs.List.{join_with_byte}
@@ -35,7 +35,7 @@ certified_err : (savings : List Saving) (slots : List ℕ) (r : Result (List ℕ
 certified_err savings slots (Ok last) fault is = wrong (whole savings slots last) fault is
 certified_err savings slots (Err other) fault is = let same : other ≡ fault = same_err other fault is in ap Err same
 
--- ---- where the reading of lines stops: behind these, at this one
+-- ---- the line at which reading stops, and the lines before it
 
 -- lines before a bad one, which has a number if the first of them has that number
 record Stops (number : ℕ) (lines : List (List ℕ)) (fault : CertFault) (Begins : List (List ℕ) → Type 0) : Type 0 where
@@ -46,7 +46,7 @@ record Stops (number : ℕ) (lines : List (List ℕ)) (fault : CertFault) (Begin
   names : BadLine (number + length before) ≡ fault
   begins : Begins before
 
--- lines begin with these
+-- a list of lines begins with these lines
 abbrev BeginsWith : List (List ℕ) → List (List ℕ) → Type 0
 BeginsWith lines before = (others : List (List ℕ)) × (lines ≡ before ++ others)
 
@@ -56,7 +56,7 @@ BeginsNet before = (net : ℕ) × AreWithin net_limits (net ∷ []) × BeginsWit
 abbrev BeginsLast : List (List ℕ) → Type 0
 BeginsLast before = (prices : List ℕ) × (net : ℕ) × AreWithin price_limits prices × AreWithin net_limits (net ∷ []) × BeginsWith (last_lines prices net) before
 
--- at the first line
+-- reading stops at the first line
 at_once : (number : ℕ) (line : List ℕ) (lines : List (List ℕ)) (fault : CertFault) (Begins : List (List ℕ) → Type 0) → BadLine number ≡ fault → Begins [] → Stops number (line ∷ lines) fault Begins
 at_once number line lines fault Begins is begins =
     let same : number + 0 ≡ number = omega arith in
@@ -69,7 +69,7 @@ at_once number line lines fault Begins is begins =
       begins = begins;
     }
 
--- or behind it
+-- reading stops after the first line
 one_later : (number : ℕ) (line : List ℕ) (lines : List (List ℕ)) (fault : CertFault) (Begins Later : List (List ℕ) → Type 0) → Stops (number + 1) lines fault Later → ((before : List (List ℕ)) → Later before → Begins (line ∷ before)) → Stops number (line ∷ lines) fault Begins
 one_later number line lines fault Begins Later later onto =
     let same : number + length (line ∷ later.before) ≡ number + 1 + length later.before = omega arith in
@@ -203,7 +203,7 @@ low number k lines stops = let same = same_number (number + length stops.before)
 some_left : (xs : List (List ℕ)) (a : List ℕ) (al : List (List ℕ)) → 0 < length (xs ++ a ∷ al)
 some_left xs a al = omega (arith, length-append xs (a ∷ al))
 
--- a line is read or bad, whatever stands behind the last of these lines
+-- whether a line is read or bad doesn't depend on what follows the last of these lines
 step_same : {A B : Type 0} (number k : ℕ) (o : Option A) (f g : A → Result B CertFault) → ((x : A) → f x ≡ Err (BadLine k) → g x ≡ Err (BadLine k)) → read_then number o f ≡ Err (BadLine k) → read_then number o g ≡ Err (BadLine k)
 step_same number k None f g same h = h
 step_same number k (Some x) f g same h = same x h
@@ -357,7 +357,7 @@ limited : (text : List ℕ) (fault : CertFault) (b : Bool) → ltb 8388608 (leng
 limited text fault true is found h = same_fault text TooLarge fault (same_err TooLarge fault h) (large (ltb-true 8388608 (length text) is))
 limited text fault false is found h = text_stops text fault (ltb-false 8388608 (length text) is) found h
 
--- a fault that is found, or want of memory
+-- a fault that is found in the text, or running out of memory
 pub fault_read : (text : List ℕ) (fault : CertFault) → (fault ≡ OutOfMemory) ⊎ (certificate_in text ≡ Err fault) → IsCertFault text fault
 unfolding certificate_in
 fault_read text fault (inl want) = same_fault text OutOfMemory fault (sym want) memory

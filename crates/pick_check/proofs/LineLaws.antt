@@ -1,4 +1,4 @@
--- What the lines of a certificate are read as, and that these are their lines.
+-- What the lines of a certificate are read as, and that only these lines are read so.
 use Rattle.std.proofs.Common.{◌≡◌, ℕ, ◌+◌, ◌^◌, ◌<◌, ◌≤◌, Some, None, true, false, Option, List, [], ◌∷◌, ◌++◌, map, length, get_or, drop, refl, ap, ap₂, sym, subst, ◌∙◌, append_assoc, Bor, eqb}
 use Rattle.std.specs.Prelude.{All, bytes_eq, codes, slice_index}
 use Rattle.std.specs.Fmt.{decimal}
@@ -76,7 +76,7 @@ line_other name limits other ns plain small differs =
 
 -- ---- the four lines with names
 
--- five numbers are those of their saving
+-- the saving that five numbers make has these numbers
 saving_numbers_with : (ns : List ℕ) → AreWithin saving_limits ns → saving_numbers (saving_with ns) ≡ ns
 saving_numbers_with [] within = absurd within
 saving_numbers_with (a ∷ []) within = absurd within.1
@@ -139,7 +139,7 @@ net_back net fits = ap (option_map (λ ns. slice_index ns 0)) (line_back (codes 
 pub only_is : (wanted line x : List ℕ) → only wanted line ≡ Some x → line ≡ wanted
 only_is wanted line x is = (bytes_eq-Decides line wanted).0 (picked (bytes_eq line wanted) (Some line) x is).0
 
--- ---- one kind of line is none of another kind
+-- ---- a line of one kind isn't a line of another kind
 
 pub slot_no_saving : (slot : ℕ) → FitsSlot slot → saving_in_line (slot_line slot) ≡ None
 slot_no_saving slot fits =
@@ -153,7 +153,7 @@ pub price_no_slot : (prices : List ℕ) → AreWithin price_limits prices → sl
 price_no_slot prices fits =
     ap (option_map (λ ns. slice_index ns 0)) (line_other (codes "slot") slot_limits (codes "price") prices price_plain (within_small price_limits prices price_small fits) refl)
 
--- ---- none has a line feed
+-- ---- no line has a line feed
 
 pub saving_is_line : (s : Saving) → FitsSaving s → IsLine (saving_line s)
 saving_is_line s fits = line_plain (codes "saving") (saving_numbers s) saving_plain (within_small saving_limits (saving_numbers s) saving_small fits)
@@ -167,7 +167,7 @@ price_is_line prices fits = line_plain (codes "price") prices price_plain (withi
 pub net_is_line : (net : ℕ) → AreWithin net_limits (net ∷ []) → IsLine (net_line net)
 net_is_line net fits = line_plain (codes "net") (net ∷ []) net_plain (within_small net_limits (net ∷ []) net_small fits)
 
--- ---- a line's words are read from the front: the numbers so far, and what the others spell
+-- ---- a line's words are read from the first on: the numbers so far, followed by what the other words spell
 
 pub numbers_named : (name limits line first : List ℕ) (words : List (List ℕ)) → words_of line ≡ first ∷ words → bytes_eq first name ≡ true → numbers_in name limits line ≡ numbers_of limits words
 unfolding numbers_in
@@ -208,7 +208,7 @@ pub with_none : (others : Option (List ℕ)) → with_numbers [] others ≡ othe
 with_none None = refl
 with_none (Some more) = refl
 
--- at the end: words are left, or none
+-- after the last limit, words are left, or no word is left
 pub some_words : (limits : List ℕ) (k : ℕ) (o : Option (Bor (List ℕ))) → length limits ≤ k → true ≡ is_some o → numbers_of (drop k limits) (words_in (option_copied o)) ≡ None
 some_words limits k None past is = absurd (false≢true (sym is))
 some_words limits k (Some x) past is =

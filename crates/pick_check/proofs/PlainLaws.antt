@@ -15,7 +15,7 @@ numbers_plain ns small = All-map IsPlain decimal ns (All-weaker (λ n. n < 2 ^ 6
 words_plain : (name ns : List ℕ) → IsPlain name → All (λ n. n < 2 ^ 64) ns → All IsPlain (name ∷ map decimal ns)
 words_plain name ns plain small = All-cons IsPlain name (map decimal ns) plain (numbers_plain ns small)
 
--- ---- so a line is split into its words again, and has no line feed
+-- ---- a line is split into its words again, and has no line feed
 
 pub words_back : (name ns : List ℕ) → IsPlain name → All (λ n. n < 2 ^ 64) ns → words_of (line_with name ns) ≡ name ∷ map decimal ns
 words_back name ns plain small = words_again name (map decimal ns) (words_plain name ns plain small)

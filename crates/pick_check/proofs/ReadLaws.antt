@@ -19,7 +19,7 @@ use Rattle.pick_check.proofs.WhileLaws.{while_none}
 
 -- ---- the last lines
 
--- something stands behind the last line feed, or another line
+-- something follows the last line feed, or there is another line
 some_behind : (rest : List ℕ) → 0 < length rest → ends_here (lines_of rest) ≡ false
 some_behind rest some =
     false_from_ne_true (ends_here (lines_of rest)) (λ ends.
@@ -68,7 +68,7 @@ module _ (number : ℕ) (text : List ℕ) where
 
 -- ---- all lines
 
--- at most 256 slots, up to a line that is none
+-- at most 256 slots, up to a line that isn't a slot's
 slots_chosen : (slots : List ℕ) (lines rest : List (List ℕ)) → read_while slot_in_line lines ≡ slots ++ read_while slot_in_line rest → length slots ≤ 256 → (read_first slot_in_line rest ≡ None) ⊎ (length slots ≡ 256) → take 256 (read_while slot_in_line lines) ≡ slots
 slots_chosen slots lines rest so_far few (inl none) =
     ap (take 256) (so_far ∙ ap (λ xs. slots ++ xs) (while_none slot_in_line rest none) ∙ append-nil slots) ∙ take_all 256 slots few
@@ -78,7 +78,7 @@ pub no_title : (lines : List (List ℕ)) → read_first (only (codes "zcld certi
 unfolding certificate_of
 no_title lines bad = ap (λ o. read_then 1 o (λ title. savings_then (drop 1 lines))) bad
 
--- behind the title, the savings and the slots come the last lines
+-- after the title, the savings and the slots come the last lines
 lines_found : (lines : List (List ℕ)) (x first second third : List ℕ) (savings : List Saving) (slots : List ℕ)
     → read_first (only (codes "zcld certificate 1")) lines ≡ Some x → lines_of first ≡ drop 1 lines
     → read_while saving_in_line (lines_of first) ≡ savings → lines_of second ≡ drop (length savings) (lines_of first)

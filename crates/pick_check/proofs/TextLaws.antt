@@ -1,4 +1,4 @@
--- A text spells a certificate where it is the certificate's text, and no other text does.
+-- The text of a certificate spells it, and no other text does.
 use Rattle.std.proofs.Common.{◌≡◌, ◌⊎◌, ℕ, ◌+◌, ◌<◌, ◌≤◌, Some, None, Ok, Err, Bool, true, false, cond, Option, Result, List, [], ◌∷◌, ◌++◌, map, length, take, drop, ltb, eqb, inl, inr, refl, ap, ap₂, sym, subst, ◌∙◌, append-nil, append_assoc, length-append, length-take, arith}
 use Rattle.std.specs.Prelude.{All, codes}
 use Rattle.std.specs.List.{join_with_byte}
@@ -75,7 +75,7 @@ last_back number prices net prices_fit net_fits =
     ap (λ o. read_then number o (λ ps. net_then (number + 1) ps (net_line net ∷ end))) (prices_back prices prices_fit)
     ∙ ap (λ o. read_then (number + 1) o (λ n. end_then (number + 1 + 1) prices n end)) (net_back net net_fits)
 
--- behind the savings comes no other one, and behind the slots none of them
+-- the line after the savings is no saving's, and the line after the slots is no slot's
 no_saving : (slots prices : List ℕ) (others : List (List ℕ)) → All FitsSlot slots → AreWithin price_limits prices → 0 < length others → read_first saving_in_line (map slot_line slots ++ price_line prices ∷ others) ≡ None
 no_saving [] prices others slots_fit prices_fit some = step_first saving_in_line (price_line prices) others some ∙ price_no_saving prices prices_fit
 no_saving (slot ∷ slots) prices others slots_fit prices_fit some =
@@ -96,7 +96,7 @@ savings_back savings lines fits some none =
     ap (λ xs. slots_then xs (drop (length xs) all)) read
     ∙ ap (slots_then savings) (drop_at (map saving_line savings) lines (length savings) (length-map savings saving_line))
 
--- the lines behind the first, as they are read
+-- the lines after the first, as they are read
 abbrev pub behind : List Saving → List ℕ → List (List ℕ) → List (List ℕ)
 behind savings slots last = map saving_line savings ++ (map slot_line slots ++ last)
 
@@ -226,11 +226,11 @@ text_read text savings c ok =
       certificate_fits = read.2;
     }
 
--- the text of a certificate isn't refused for anything in it
+-- reading the text of a certificate finds no fault in it
 pub refused : (text : List ℕ) (fault : CertFault) (savings : List Saving) (c : Certified) → (fault ≡ OutOfMemory) ⊎ (certificate_in text ≡ Err fault) → IsCertText text savings c → length text ≤ 8388608 → (◌≡◌ {A = Result (List Saving × Certified) CertFault} (Err fault) (Ok (savings, c))) ⊎ (◌≡◌ {A = Result (List Saving × Certified) CertFault} (Err fault) (Err OutOfMemory))
 refused text fault savings c (inl memory) is small = inr (ap Err memory)
 refused text fault savings c (inr bad) is small = let good = certificate_read text savings c is small in absurd cc
 
--- nor read as another certificate
+-- the text of a certificate isn't read as another certificate
 pub same_certificate : (text : List ℕ) (y : List Saving × Certified) (savings : List Saving) (c : Certified) → certificate_in text ≡ Ok y → IsCertText text savings c → length text ≤ 8388608 → y ≡ (savings, c)
 same_certificate text y savings c ok is small = let good = certificate_read text savings c is small in cc

@@ -55,7 +55,7 @@ while_short {A} read (line ∷ (next ∷ more)) some = either (read line) (while
     either None h = omega arith
     either (Some x) h = omega (arith, h)
 
--- lines that were written so are read so, up to one that can't be
+-- lines that were written for values are read as these values, up to a line that can't be read
 pub while_back : {A : Type 0} (read : List ℕ → Option A) (spell : A → List ℕ) (xs : List A) (lines : List (List ℕ)) → All (λ x. read (spell x) ≡ Some x) xs → 0 < length lines → read_first read lines ≡ None → read_while read (map spell xs ++ lines) ≡ xs
 while_back read spell [] lines back some none = while_none read lines none
 while_back read spell (x ∷ xs) lines back some none =
@@ -84,7 +84,7 @@ while_all read spell Fits is lines =
     let all = take_all (length xs) xs (omega arith) in
     subst (λ ys. (lines ≡ map spell ys ++ drop (length ys) lines) × All Fits ys) all (while_is read spell Fits is (length xs) lines)
 
--- what is read doesn't depend on the lines behind the first that can't be read
+-- what is read doesn't depend on the lines after the first that can't be read
 pub while_same : {A : Type 0} (read : List ℕ → Option A) (n : ℕ) (xs : List (List ℕ)) (a : List ℕ) (al : List (List ℕ)) (b : List ℕ) (bl : List (List ℕ)) → length (take n (read_while read (xs ++ a ∷ al))) < length xs → take n (read_while read (xs ++ b ∷ bl)) ≡ take n (read_while read (xs ++ a ∷ al))
 while_same read zero xs a al b bl lt = refl
 while_same read (suc n) [] a al b bl lt = absurd (omega (arith, lt))

@@ -1,4 +1,4 @@
--- What is written: each line is its name and then each number behind a space, and all of it is within the limit.
+-- What is written: each line is its name followed by its numbers, each after a space, and the text is within the limit.
 use Rattle.std.proofs.Common.{◌≡◌, ℕ, ◌+◌, ◌*◌, ◌^◌, ◌<◌, ◌≤◌, List, [], ◌∷◌, ◌++◌, map, length, get_or, take, refl, ap, sym, ◌∙◌, append-nil, append_assoc, length-append, arith, Ok}
 use Rattle.std.specs.Prelude.{All, codes, flat_map}
 use Rattle.std.specs.Fmt.{decimal}
@@ -12,7 +12,7 @@ use Rattle.pick_check.proofs.TextLaws.{certificate_read}
 
 -- ---- a line
 
--- a number behind a space
+-- a number after a space
 abbrev pub spaced : ℕ → List ℕ
 spaced n = 32 ∷ decimal n
 

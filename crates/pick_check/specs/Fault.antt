@@ -1,4 +1,4 @@
--- What the fault of a text says of it.
+-- What each fault of a certificate's text means.
 use Rattle.std.specs.Prelude.{◌≡◌, ℕ, ◌+◌, ◌<◌, List, [], ◌∷◌, ◌++◌, length, All}
 use Rattle.pick_check.specs.Certified.{Certified}
 use Rattle.pick_check.specs.Text.{FitsCertified, FitsSaving, IsCertText, certificate_lines, text_of}
@@ -19,7 +19,7 @@ pub record IsBeginning (lines : List (List ℕ)) : Type 0 where
 abbrev pub NoneGoesOn : List (List ℕ) → List ℕ → Type 0
 NoneGoesOn before rest = (line more : List ℕ) → rest ≡ line ++ 10 ∷ more → IsBeginning (before ++ line ∷ []) → ⊥
 
--- the text isn't that of a certificate
+-- the text spells no certificate
 abbrev pub SpellsNone : List ℕ → Type 0
 SpellsNone text = (savings : List Saving) (c : Certified) → IsCertText text savings c → ⊥
 

@@ -5,7 +5,7 @@ use Rattle.pick_check.specs.declared.saving.Saving.{Saving}
 use Rattle.pick_check.specs.declared.part.Part.{Part}
 use Rattle.pick_check.specs.declared.part.Part.TheVariants.{Jumps, Calls}
 
--- the bytes that a slot in this part saves at the sites of one target: two at each
+-- the bytes that a slot in this part saves at the sites of one target: two at each site
 abbrev pub saved_by : Part → Saving → ℕ
 saved_by Jumps s = 2 * s.jump_sites
 saved_by Calls s = 2 * s.call_sites
@@ -27,7 +27,7 @@ saved_in part savings slots = saved_from (saved_by part) slots 0 savings
 abbrev pub saved_of : List Saving → List ℕ → ℕ
 saved_of savings slots = saved_in Jumps savings (take 32 slots) + saved_in Calls savings (drop 32 slots)
 
--- the bytes of the table and of the code that sets it up, if there is a table
+-- the bytes of the table and of the stub that sets it up, if there is a table
 abbrev pub cost_of : List ℕ → ℕ
 cost_of [] = 0
 cost_of (slot ∷ slots) = 4 * length (slot ∷ slots) + 12

@@ -61,7 +61,7 @@ price_limits = 0xFFFF_FFFF ∷ 0xFFFF_FFFF ∷ 0xFFFF_FFFF ∷ []
 abbrev pub net_limits : List ℕ
 net_limits = 0xFFFF_FFFF_FFFF_FFFF ∷ []
 
--- there are as many numbers as limits, and none is above its own
+-- there are as many numbers as limits, and no number is above its limit
 abbrev pub AreWithin : List ℕ → List ℕ → Type 0
 AreWithin limits numbers = AllZip (λ limit n. n ≤ limit) limits numbers
 
@@ -79,7 +79,7 @@ pub record FitsCertified (c : Certified) : Type 0 where
   pub prices_fit : AreWithin price_limits c.prices
   pub net_fits : AreWithin net_limits (c.net ∷ [])
 
--- the text is that of savings and a certificate whose numbers fit their types
+-- the text spells these savings and this certificate, whose numbers fit their types
 pub record IsCertText (text : List ℕ) (savings : List Saving) (c : Certified) : Type 0 where
   pub spells : text ≡ certificate_text savings c
   pub savings_fit : All FitsSaving savings
@@ -87,7 +87,7 @@ pub record IsCertText (text : List ℕ) (savings : List Saving) (c : Certified) 
 
 -- ---- the certificate that a text spells
 
--- the numbers that words are, one for each limit
+-- the numbers that words spell, one for each limit
 abbrev pub numbers_of : List ℕ → List (List ℕ) → Option (List ℕ)
 numbers_of [] [] = Some []
 numbers_of (limit ∷ limits) (word ∷ words) =
@@ -95,7 +95,7 @@ numbers_of (limit ∷ limits) (word ∷ words) =
 numbers_of [] (word ∷ words) = None
 numbers_of (limit ∷ limits) [] = None
 
--- the numbers that the words after a name are
+-- the numbers that the words after this name spell
 abbrev pub numbers_behind : List ℕ → List ℕ → List (List ℕ) → Option (List ℕ)
 numbers_behind name limits (first ∷ words) = if bytes_eq first name then numbers_of limits words else None
 numbers_behind name limits [] = None
@@ -112,7 +112,7 @@ saving_with ns = record {
   call_sites = slice_index ns 4;
 }
 
--- the saving, the slot, the prices, or the net of a line
+-- the saving, the slot, the prices, or the net that a line spells
 abbrev pub saving_in_line : List ℕ → Option Saving
 saving_in_line line = option_map saving_with (numbers_in (codes "saving") saving_limits line)
 
@@ -125,77 +125,78 @@ prices_in_line line = numbers_in (codes "price") price_limits line
 abbrev pub net_in_line : List ℕ → Option ℕ
 net_in_line line = option_map (λ ns. slice_index ns 0) (numbers_in (codes "net") net_limits line)
 
--- a line, if it is this one
+-- a line, if it equals `wanted`
 abbrev pub only : List ℕ → List ℕ → Option (List ℕ)
 only wanted line = if bytes_eq line wanted then Some line else None
 
--- what is read of the first of some lines, if a line feed ends it, so that something is listed behind it
+-- what is read from the first line, if a line feed ends it: then another line, perhaps an empty one, follows in the
+-- list
 abbrev pub read_first : {A : Type 0} → (List ℕ → Option A) → List (List ℕ) → Option A
 read_first read (line ∷ (next ∷ lines)) = read line
 read_first read (rest ∷ []) = None
 read_first read [] = None
 
--- what is read, before what is read behind it
+-- what is read from a line, followed by what is read from the lines after it
 abbrev pub more_read : {A : Type 0} → Option A → List A → List A
 more_read (Some x) behind = x ∷ behind
 more_read None behind = []
 
--- what is read of the lines from the first on, up to the first that can't be read so
+-- what is read from the lines up to the first that can't be read so
 abbrev pub read_while : {A : Type 0} → (List ℕ → Option A) → List (List ℕ) → List A
 read_while read (line ∷ (next ∷ lines)) = more_read (read line) (read_while read (next ∷ lines))
 read_while read (rest ∷ []) = []
 read_while read [] = []
 
--- a line that couldn't be read is bad; if it could, this comes of what was read
+-- a line that can't be read is bad; otherwise `behind` goes on with what was read
 abbrev pub read_then : {A B : Type 0} → ℕ → Option A → (A → Result B CertFault) → Result B CertFault
 read_then number None behind = Err (BadLine number)
 read_then number (Some x) behind = behind x
 
--- nothing stands behind the last line feed
+-- nothing follows the last line feed
 abbrev pub ends_here : List (List ℕ) → Bool
 ends_here (rest ∷ []) = bytes_eq rest []
 ends_here (line ∷ (next ∷ lines)) = false
 ends_here [] = false
 
--- behind the net comes the end, and nothing behind it
+-- after the net comes the end, and nothing after it
 abbrev pub end_then : ℕ → List ℕ → ℕ → List (List ℕ) → Result (List ℕ × ℕ) CertFault
 end_then number prices net lines =
     read_then number (read_first (only (codes "end")) lines) (λ end.
     if ends_here (drop 1 lines) then Ok (prices, net) else Err (BadLine (number + 1)))
 
--- behind the prices comes the net
+-- after the prices comes the net
 abbrev pub net_then : ℕ → List ℕ → List (List ℕ) → Result (List ℕ × ℕ) CertFault
 net_then number prices lines =
     read_then number (read_first net_in_line lines) (λ net. end_then (number + 1) prices net (drop 1 lines))
 
--- the prices and the net, which the last lines spell; the first of these has this number
+-- the prices and the net, which the last lines spell; `number` is the number of the first of these lines
 unfoldable pub last_in : ℕ → List (List ℕ) → Result (List ℕ × ℕ) CertFault
 last_in number lines =
     read_then number (read_first prices_in_line lines) (λ prices. net_then (number + 1) prices (drop 1 lines))
 
--- the certificate of these slots, and of prices and a net
+-- the savings with the certificate of these slots, prices and net
 abbrev pub certified : List Saving → List ℕ → Result (List ℕ × ℕ) CertFault → Result (List Saving × Certified) CertFault
 certified savings slots (Ok last) = Ok (savings, record { slots = slots; prices = last.0; net = last.1 })
 certified savings slots (Err fault) = Err fault
 
--- behind the savings come at most 256 slots, and behind these the last lines
+-- after the savings come at most 256 slots, and after these the last lines
 abbrev pub slots_then : List Saving → List (List ℕ) → Result (List Saving × Certified) CertFault
 slots_then savings lines =
     let slots = take 256 (read_while slot_in_line lines) in
     certified savings slots (last_in (length savings + length slots + 2) (drop (length slots) lines))
 
--- behind the first line come the savings
+-- after the first line come the savings
 abbrev pub savings_then : List (List ℕ) → Result (List Saving × Certified) CertFault
 savings_then lines = let savings = read_while saving_in_line lines in slots_then savings (drop (length savings) lines)
 
 unfoldable pub certificate_of : List (List ℕ) → Result (List Saving × Certified) CertFault
 certificate_of lines = read_then 1 (read_first (only (codes "zcld certificate 1")) lines) (λ title. savings_then (drop 1 lines))
 
--- the savings and the certificate of a text, or the first fault in it
+-- the savings and the certificate that a text spells, or the first fault in it
 unfoldable pub certificate_in : List ℕ → Result (List Saving × Certified) CertFault
 certificate_in text = if nat_lt 8388608 (length text) then Err TooLarge else certificate_of (lines_of text)
 
--- a text within the limit that is that of a certificate is read as that certificate, unless memory runs out
+-- a text within the limit that spells a certificate is read as that certificate, unless memory runs out
 abbrev pub ReadsEachCert : List ℕ → Result (List Saving × Certified) CertFault → Type 0
 ReadsEachCert text result =
     (savings : List Saving) (c : Certified) → IsCertText text savings c → length text ≤ 8388608

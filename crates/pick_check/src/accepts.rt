@@ -9,18 +9,18 @@ use crate::bound::bound_of;
 use crate::certificate::Certificate;
 use crate::saving::Saving;
 
-/// Whether the net of a certificate is what its slots save, and the bound by its prices.
+/// Whether the net of a certificate is both what its slots save and the bound by its prices.
 pub fn accepts(savings: &[Saving], c: &Certificate) -> bool
     requires { length savings.now ≤ 1048576 }
     ensures value { result ≡ is_accepted savings.now c.now }
     ensures exactly { IsTrue result ↔ IsAccepted savings.now c.now }
-    // If so, no assignment saves more than the net.
+    // if a certificate is accepted, no assignment saves more than its net
     ensures best { IsTrue result → NoneSavesMore savings.now c.now.net }
 {
     saves_most(savings, c)
 }
 
-// The test of `accepts`, by its meaning: that the answer is `is_accepted` follows.
+// The test of `accepts`, with what its result means; `accepts` shows that this is `is_accepted`.
 fn saves_most(savings: &[Saving], c: &Certificate) -> bool
     requires { length savings.now ≤ 1048576 }
     ensures exactly { IsTrue result ↔ IsAccepted savings.now c.now }

@@ -32,7 +32,7 @@ pub fn saved_of(savings: &[Saving], slots: &[u32]) -> u64
     saved_in(Part::Jumps, savings, low) + saved_in(Part::Calls, savings, high)
 }
 
-/// The bytes of the table and of the code that sets it up, if there is a table.
+/// The bytes of the table and of the stub that sets it up, if there is a table.
 pub fn cost_of(slots: &[u32]) -> u64
     requires { length slots.now ≤ 256 }
     ensures { result ≡ cost_of slots.now }

@@ -7,7 +7,7 @@ ghost use Rattle.pick_check.specs.Bound.{bound_of, excess};
 use crate::part::Part;
 use crate::saving::Saving;
 
-// What the targets save in this part, as far as it is above a price each.
+// The sum, over all targets, of what each saves in this part above the price.
 fn excess(part: Part, price: u64, savings: &[Saving]) -> u64
     requires { length savings.now ≤ 1048576 }
     ensures value { result ≡ excess part price savings.now }
@@ -25,7 +25,7 @@ fn excess(part: Part, price: u64, savings: &[Saving]) -> u64
 pub fn bound_of(savings: &[Saving], prices: [u32; 3]) -> u64
     requires { length savings.now ≤ 1048576 }
     ensures value { result ≡ bound_of savings.now prices }
-    // No assignment saves more, whatever the prices.
+    // whatever the prices, no assignment saves more than the bound
     ensures never_passed { NoneSavesMore savings.now result }
 {
     let jump = u64::from(prices[0]);

@@ -2,7 +2,7 @@
 
 use std::marker::Model;
 
-/// A choice of slots, three prices by which it can be seen that none saves more, and what it saves.
+/// A choice of slots, three prices that show that no other choice saves more, and the bytes that it saves.
 ///
 /// A slot is 0 if it is a hole, and otherwise one more than the index of a saving.
 #[derive(Drop)]

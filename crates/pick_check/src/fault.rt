@@ -6,7 +6,7 @@ use thiserror::Error;
 /// Why a text is no certificate. `number` counts lines from 1.
 #[derive(Clone, Copy, PartialEq, Eq, Debug, Error)]
 pub enum CertFault {
-    /// A line isn't what may stand there, or is missing, or comes after the last one.
+    /// A line isn't allowed where it is, or is missing, or comes after the last one.
     #[error("line {number} isn't one of a certificate")]
     BadLine { number: u32 },
     /// The text is longer than `CERTIFICATE_LIMIT`.

@@ -1,4 +1,4 @@
-// The first line of a text, and what stands behind its line feed.
+// Reads the first line of a text, and returns what follows its line feed.
 
 ghost use Rattle.std.specs.Prelude.{◌≡◌, ◌+◌, ◌<◌, ◌≤◌, IfSome, length, drop};
 ghost use Rattle.std.specs.Option.{option_map};
@@ -48,7 +48,7 @@ pub fn first_net(text: &[u8]) -> Option<(u64, &[u8])>
     Some((read_net(line)?, rest))
 }
 
-/// What stands behind the first line, if this is it.
+/// What follows the first line, if that line equals this one.
 pub fn behind_line<'a>(text: &'a [u8], wanted: &[u8]) -> Option<&'a [u8]>
     ensures read { option_map (λ _. wanted.now) result ≡ read_first (only wanted.now) (lines_of text.now) }
     ensures rest { IfSome result (λ r. lines_of r.now ≡ drop 1 (lines_of text.now)) }

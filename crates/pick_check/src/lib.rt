@@ -1,5 +1,5 @@
-//! Certificates of jump tables: what an assignment of slots saves, a bound by prices that none exceeds, the checker,
-//! whose yes means that no assignment saves more, and certificates as texts.
+//! Certificates of jump tables: what an assignment of slots saves, a bound by prices that no assignment exceeds, the
+//! checker, which accepts a certificate only if no assignment saves more than its net, and certificates as texts.
 #![tactic(auto)]
 
 pub mod accepts;

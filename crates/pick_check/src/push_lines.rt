@@ -1,4 +1,4 @@
-// Lines of a name and numbers, added to a text: those of a certificate stand in other texts as well.
+// Appends lines of a name and numbers to a text. A certificate's lines are used in other texts as well.
 
 ghost use Rattle.std.specs.Prelude.{◌≡◌, ◌++◌, ◌∷◌, [], All, OnOk, map};
 ghost use Rattle.std.specs.String.{string_bytes};

@@ -15,7 +15,7 @@ use std::alloc::{AllocError, Global};
 /// The longest text that is read, in bytes.
 pub const CERTIFICATE_LIMIT: usize = 8_388_608;
 
-/// The savings and the certificate in a text. Faults are named by their line: the first in the text counts.
+/// The savings and the certificate that a text spells, or the first fault in the text, with the number of its line.
 pub fn read_certificate(alloc: Global, text: &[u8]) -> Result<(Vec<Saving>, Certificate), CertFault>
     ensures ok { IfOk result (λ r. certificate_in text.now ≡ Ok (r.0.items, r.1)) }
     ensures err { IfErr result (λ fault. (fault ≡ CertFault.OutOfMemory) ⊎ (certificate_in text.now ≡ Err fault)) }
@@ -30,7 +30,7 @@ pub fn read_certificate(alloc: Global, text: &[u8]) -> Result<(Vec<Saving>, Cert
     read_lines(alloc, text)
 }
 
-// The savings and the certificate in a text within the limit.
+// The savings and the certificate that a text within the limit spells.
 fn read_lines(alloc: Global, text: &[u8]) -> Result<(Vec<Saving>, Certificate), CertFault>
     requires { length text.now ≤ CERTIFICATE_LIMIT }
     ensures ok { IfOk result (λ r. certificate_of (lines_of text.now) ≡ Ok (r.0.items, r.1)) }
@@ -50,7 +50,7 @@ fn read_lines(alloc: Global, text: &[u8]) -> Result<(Vec<Saving>, Certificate), 
     Ok((savings, Certificate { slots, prices, net }))
 }
 
-// The savings whose lines a text begins with, and what stands behind them.
+// The savings whose lines a text begins with, and what follows them.
 fn read_savings(alloc: Global, lines: &[u8]) -> Result<(Vec<Saving>, &[u8]), AllocError>
     ensures savings { IfOk result (λ r. read_while saving_in_line (lines_of lines.now) ≡ r.0.items) }
     ensures rest { IfOk result (λ r. lines_of r.1.now ≡ drop (length r.0.items) (lines_of lines.now)) }
@@ -65,7 +65,7 @@ fn read_savings(alloc: Global, lines: &[u8]) -> Result<(Vec<Saving>, &[u8]), All
     Ok((savings, rest))
 }
 
-// The slots, at most 256, whose lines a text begins with, and what stands behind them.
+// The slots, at most 256, whose lines a text begins with, and what follows them.
 fn read_slots(alloc: Global, lines: &[u8]) -> Result<(Vec<u32>, &[u8]), AllocError>
     ensures slots { IfOk result (λ r. read_while slot_in_line (lines_of lines.now)
         ≡ r.0.items ++ read_while slot_in_line (lines_of r.1.now)) }
@@ -85,7 +85,7 @@ fn read_slots(alloc: Global, lines: &[u8]) -> Result<(Vec<u32>, &[u8]), AllocErr
     Ok((slots, rest))
 }
 
-// The prices and the net, in the last lines; the first of these has this number.
+// The prices and the net, from the last lines; `number` is the number of the first of these lines.
 fn read_last(text: &[u8], number: u32) -> Result<([u32; 3], u64), CertFault>
     requires { number ≤ 2097152 }
     ensures { result ≡ last_in number (lines_of text.now) }

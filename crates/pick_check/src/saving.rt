@@ -2,8 +2,8 @@
 
 use zc_base::place::Place;
 
-/// A target of jumps and calls, and the number of each to it. A site that goes through the table takes two bytes in
-/// place of four.
+/// A target of jumps and calls, with the number of jumps and the number of calls to it. A site that goes through the
+/// table takes two bytes instead of four.
 #[derive(Clone, Copy, PartialEq, Eq, Debug)]
 pub struct Saving {
     pub target: Place,

@@ -9,7 +9,7 @@ use crate::push_lines::{push_line, push_savings, push_slots};
 use crate::saving::Saving;
 use std::alloc::{AllocError, Global};
 
-/// The text of a certificate. It is within the limit, and it is read as what it was written from.
+/// The text of a certificate. It is within the limit, and reading it gives the savings and the certificate again.
 pub fn write_certificate(
     alloc: Global,
     savings: &[Saving],

@@ -45,7 +45,7 @@ length-set [] n x = refl
 length-set (y ∷ ys) zero x = refl
 length-set (y ∷ ys) (suc n) x = ap suc (length-set ys n x)
 
--- a node that is new
+-- a new node is marked and pending
 pub noted : (w v : Walk) (node : ℕ) → node < length w.marks.items → mark_of w.marks.items node ≡ false → v.marks.items ≡ set w.marks.items node true → v.pending.items ≡ w.pending.items ++ node ∷ [] → Found (λ k. eqb node k) w v
 noted w v node lt none marks pending = record {
   size = ap length marks ∙ length-set w.marks.items node true;
@@ -65,7 +65,7 @@ noted w v node lt none marks pending = record {
     from k (inl old) = inl old
     from k (inr same) = inr (eq-eqb node k same)
 
--- ---- one after another
+-- ---- several nodes, one after another
 
 pub none-noted : (w : Walk) → Found (λ k. false) w w
 none-noted w = record { size = refl; marks = λ k. by (mark_of w.marks.items k); added = λ k is. inl is; kept = λ k its. its; fresh = λ k its. inl its; same = refl }
@@ -164,7 +164,7 @@ none-marked (suc n) zero = refl
 none-marked (suc n) (suc k) = none-marked n k
 
 module _ (graph : List (Vec ℕ Global)) (roots : List ℕ) where
-  -- after the roots were found
+  -- the walk after the roots were found
   pub begun : (u v : Walk) → u.marks.items ≡ replicate (length graph) false → u.pending.items ≡ [] → Found (is_among roots) u v → IsUnderWay graph roots v
   begun u v marks pending noted = record {
     size = noted.size ∙ ap length marks ∙ length-replicate (length graph) false;
@@ -235,7 +235,7 @@ module _ (graph : List (Vec ℕ Global)) (roots : List ℕ) where
           old (inr all) = inr (λ b its. still b (all b its))
           old (inl its) = which (Contains-push_cases u.pending.items node k (subst (λ l. Contains l k) pending its))
 
-  -- what is walk_left of the work is less
+  -- a step of the walk leaves less work (`walk_left`)
   pub less : (w u v : Walk) (node : ℕ) → u.marks.items ≡ w.marks.items → w.pending.items ≡ u.pending.items ++ node ∷ [] → Found (is_among (edges_of graph node)) u v → walk_left v < walk_left w
   less w u v node marks pending noted =
       let one = noted.same in
@@ -244,7 +244,7 @@ module _ (graph : List (Vec ℕ Global)) (roots : List ℕ) where
       let four = length-append u.pending.items (node ∷ []) in
       omega (arith, one, two, three, four)
 
-  -- nothing is walk_left
+  -- once no node is pending, exactly the reached nodes are marked
   pub finished : (w : Walk) → IsUnderWay graph roots w → w.pending.items ≡ [] → MarksReached graph roots w.marks.items
   finished w is none = record { size = is.size; all = all; only = is.sound }
     where

@@ -4,11 +4,11 @@ use Rattle.std.specs.Prelude.{◌≡◌, ℕ, ◌<◌, Bool, true, false, List, 
 use Rattle.std.specs.Option.{option_map_or}
 use Rattle.std.specs.declared.alloc.Global.{Global}
 
--- where the edges of a node lead
+-- the nodes that the edges of a node lead to
 abbrev pub edges_of : List (Vec ℕ Global) → ℕ → List ℕ
 edges_of graph node = option_map_or (λ edges. edges.items) (slice_get graph node) []
 
--- each edge leads to a node
+-- each edge leads to a node of the graph
 abbrev pub AreInside : List (Vec ℕ Global) → Type 0
 AreInside graph = (node : ℕ) → All (λ to. to < length graph) (edges_of graph node)
 

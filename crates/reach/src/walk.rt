@@ -13,7 +13,7 @@ pub struct Walk {
     pub pending: Vec<u32>,
 }
 
-// A node was found: if it is new, it is marked, and its edges are to be followed.
+// Marks a node, and if it wasn't marked before, notes that its edges are still to be followed.
 fn find(walk: &mut Walk, node: u32) -> Result<(), AllocError>
     requires { node < length walk.old.marks.items }
     ensures { IfOk result (λ _. Found (λ n. node == n) walk.old walk.new) }
@@ -25,7 +25,7 @@ fn find(walk: &mut Walk, node: u32) -> Result<(), AllocError>
     Ok(())
 }
 
-// Nodes were found, one after another.
+// Marks nodes, one after another, as `find` does.
 fn find_all(walk: &mut Walk, nodes: &[u32]) -> Result<(), AllocError>
     requires { All (λ n. n < length walk.old.marks.items) nodes.now }
     ensures { IfOk result (λ _. Found (is_among nodes.now) walk.old walk.new) }
@@ -36,8 +36,8 @@ fn find_all(walk: &mut Walk, nodes: &[u32]) -> Result<(), AllocError>
     Ok(())
 }
 
-/// For each node whether it is reached from the roots, in time linear in nodes and edges. `graph` has each node's
-/// edges.
+/// For each node, whether it is reached from the roots, in time linear in nodes and edges. `graph` has, for each node,
+/// the nodes that its edges lead to.
 pub fn reach(alloc: Global, graph: &[Vec<u32>], roots: &[u32]) -> Result<Vec<bool>, AllocError>
     requires roots { All (λ n. n < length graph.now) roots.now }
     requires edges { AreInside graph.now }

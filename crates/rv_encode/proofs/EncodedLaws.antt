@@ -1,5 +1,5 @@
--- The word of an instruction spells it. The fields of a word are read back, and so are the immediates; so the word is of
--- the format of its instruction.
+-- The word of an instruction decodes to that instruction: the fields of a word are read back, and so are the
+-- immediates, so the word has the format of its instruction.
 use Rattle.std.proofs.Common.{◌≡◌, ℕ, ℤ, pos, negsuc, ◌+◌, ◌-◌, ◌*◌, ◌/◌, ◌%◌, ◌^◌, ◌<◌, ◌≤◌, Some, refl, sym, ap, ◌∙◌, arith, ltb, lit<}
 use Rattle.std.specs.Prelude.{unsigned_abs}
 use Rattle.std.proofs.lemmas.Bool.{cond-false, cond-true, le-ltb, lt-ltb}
@@ -47,7 +47,7 @@ fields word high rs1 funct3 low opcode is twelve first three five seven = record
   top = omega (arith, is, seven, five, three, first, twelve);
 }
 
--- those of a word of the formats U and J
+-- the fields of a word of the formats U and J
 record HasUpper (word upper low opcode : ℕ) : Type 0 where
   op : opcode_of word ≡ opcode
   rd : rd_of word ≡ low
@@ -60,7 +60,7 @@ upper_fields word upper low opcode is twenty five seven = record {
   top = omega (arith, is, seven, five, twenty);
 }
 
--- the upper twelve bits are seven, and then five
+-- the upper twelve bits are seven bits followed by five
 twelve_below : (seven five : ℕ) → seven < 2 ^ 7 → five < 2 ^ 5 → twelve_of seven five < 2 ^ 12
 twelve_below seven five high low = omega (arith, high, low)
 
@@ -76,7 +76,7 @@ bits_below : (bits : ℕ) (z : ℤ) → 2 ^ bits ≡ 2 * 2 ^ (bits - 1) → Fits
 bits_below bits (pos n) twice fits = omega (arith, twice, fits)
 bits_below bits (negsuc n) twice fits = omega (arith, twice, fits)
 
--- what fits is read back
+-- a signed number that fits its field is read back
 signed_back : (bits : ℕ) (z : ℤ) → 2 ^ bits ≡ 2 * 2 ^ (bits - 1) → FitsIn bits z → signed bits (bits_of bits z) ≡ z
 signed_back bits (pos n) twice fits = cond-true (ltb n (2 ^ (bits - 1))) (pos n) (negsuc (2 ^ bits - n - 1)) (lt-ltb n (2 ^ (bits - 1)) fits)
 signed_back bits (negsuc n) twice fits =
@@ -131,7 +131,7 @@ reg_row Divu = (lit< tt, refl)
 reg_row Rem = (lit< tt, refl)
 reg_row Remu = (lit< tt, refl)
 
--- an operation with an immediate has a row of one of two tables, and its immediate has the room of that table
+-- an operation with an immediate is in one of two tables, and its immediate fits the field of that table
 CodeFits : ImmOp → ℤ → ImmCode → Type 0
 CodeFits op imm (Operand funct3) = (funct3 < 2 ^ 3) × (row_of imm_ops funct3 ≡ Some op) × FitsIn 12 imm
 CodeFits op imm (Shift funct) = (funct < 2 ^ 10) × (row_of shift_ops funct ≡ Some op) × IsAmount imm

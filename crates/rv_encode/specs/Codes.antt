@@ -1,4 +1,5 @@
--- The fields that tell the operations of a format apart (RISC-V unprivileged manual, "RV32/64G Instruction Set Listings").
+-- The fields that distinguish the operations of a format (RISC-V unprivileged manual, "RV32/64G Instruction Set
+-- Listings").
 use Rattle.std.specs.Prelude.{ℕ}
 use Rattle.rv_decode.specs.declared.instr.UpperOp.{UpperOp}
 use Rattle.rv_decode.specs.declared.instr.UpperOp.TheVariants.{Lui, Auipc}

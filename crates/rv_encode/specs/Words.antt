@@ -17,37 +17,37 @@ fields_word high rs1 funct3 low opcode = high * 2 ^ 20 + rs1 * 2 ^ 15 + funct3 *
 abbrev pub upper_word_of : ℕ → ℕ → ℕ → ℕ
 upper_word_of upper low opcode = upper * 2 ^ 12 + low * 2 ^ 7 + opcode
 
--- seven bits, and then five: the upper twelve of R, S and B
+-- seven bits followed by five: the upper twelve bits of the formats R, S and B
 abbrev pub twelve_of : ℕ → ℕ → ℕ
 twelve_of seven five = seven * 2 ^ 5 + five
 
--- B's upper seven bits of a distance: 12, and 10 to 5
+-- the bits of a branch's distance that are the upper seven of the word: 12, and 10 to 5
 abbrev pub branch_seven_of : ℕ → ℕ
 branch_seven_of bits = field bits 12 1 * 2 ^ 6 + field bits 5 6
 
--- B's lower five bits of a distance: 4 to 1, and 11
+-- the bits of a branch's distance in place of rd: 4 to 1, and 11
 abbrev pub branch_five_of : ℕ → ℕ
 branch_five_of bits = field bits 1 4 * 2 + field bits 11 1
 
--- J's twenty bits of a distance: 20, 10 to 1, 11, and 19 to 12
+-- the bits of a jump's distance, the upper twenty of the word: 20, 10 to 1, 11, and 19 to 12
 abbrev pub jump_twenty_of : ℕ → ℕ
 jump_twenty_of bits = field bits 20 1 * 2 ^ 19 + field bits 1 10 * 2 ^ 9 + field bits 11 1 * 2 ^ 8 + field bits 12 8
 
--- a signed number that fits in `bits` bits, as these bits of two's complement
+-- a signed number that fits in `bits` bits, in two's complement
 abbrev pub bits_of : ℕ → ℤ → ℕ
 bits_of bits (pos n) = n
 bits_of bits (negsuc n) = 2 ^ bits - n - 1
 
 -- ---- words of instructions
 
--- S and B: what stands in front of rs2 and what stands in the place of rd are parts of the immediate
+-- S and B: the seven bits before rs2 and the five in place of rd are parts of the immediate
 abbrev pub store_word : ℕ → ℕ → ℕ → ℕ → ℕ
 store_word bits rs2 rs1 funct3 = fields_word (twelve_of (field bits 5 7) rs2) rs1 funct3 (field bits 0 5) 0b0100011
 
 abbrev pub branch_word : ℕ → ℕ → ℕ → ℕ → ℕ
 branch_word bits rs2 rs1 funct3 = fields_word (twelve_of (branch_seven_of bits) rs2) rs1 funct3 (branch_five_of bits) 0b1100011
 
--- R, and I with the amount of a shift, which stands where rs2 does; ten bits are the funct7 and funct3
+-- R, and I for a shift, whose amount is in place of rs2; `funct` has the ten bits of funct7 and funct3
 abbrev pub funct_word : ℕ → ℕ → ℕ → ℕ → ℕ → ℕ
 funct_word funct rs2 rs1 rd opcode = fields_word (twelve_of (field funct 3 7) rs2) rs1 (field funct 0 3) rd opcode
 
@@ -56,7 +56,7 @@ abbrev pub op_imm_word : ImmCode → ℕ → ℕ → ℤ → ℕ
 op_imm_word (Operand funct3) rd rs1 imm = fields_word (bits_of 12 imm) rs1 funct3 rd 0b0010011
 op_imm_word (Shift funct) rd rs1 imm = funct_word funct (unsigned_abs imm) rs1 rd 0b0010011
 
--- the word of an instruction whose immediate has room in it
+-- the word of an instruction whose immediate fits its field
 unfoldable pub encoded : Instr → ℕ
 encoded (Upper op rd imm) = upper_word_of imm rd (upper_opcode op)
 encoded (Jal rd distance) = upper_word_of (jump_twenty_of (bits_of 21 distance)) rd 0b1101111

@@ -1,4 +1,4 @@
-// The fields that tell the operations of a format apart.
+// The fields that distinguish the operations of a format.
 
 ghost use Rattle.std.specs.Prelude.{◌≡◌, ℕ, ◌<◌, ◌^◌};
 ghost use Rattle.rv_encode.specs.Codes.{branch_funct3, imm_code, load_funct3, reg_funct, store_funct3, upper_opcode};
@@ -57,8 +57,8 @@ pub fn store_funct3(op: StoreOp) -> u32
     }
 }
 
-/// What tells an operation with an immediate apart: the funct3 of one with an immediate of the I
-/// format, or the funct7 and funct3 of a shift, as one number of ten bits.
+/// The code of an operation with an immediate: its funct3, or for a shift its funct7 and funct3 as one
+/// number of ten bits.
 #[derive(Clone, Copy)]
 pub enum ImmCode {
     Operand(u32),

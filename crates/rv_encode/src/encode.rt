@@ -19,7 +19,7 @@ use zc_base::reg::Reg;
 // The number of the table base register jvt among the control and status registers.
 const JVT: u32 = 0x017;
 
-/// The word that spells an instruction, whose immediate has room in it (RISC-V unprivileged manual,
+/// The word that encodes an instruction whose immediate fits its field (RISC-V unprivileged manual,
 /// "RV32/64G Instruction Set Listings").
 pub fn encode(i: Instr) -> u32
     requires { InRange i }
@@ -29,7 +29,7 @@ pub fn encode(i: Instr) -> u32
     word_of(i)
 }
 
-// The word of `encode`, by its parts; that it encodes the instruction follows from them.
+// The word that `encode` returns, put together from its fields. `encode`'s contract follows from this one.
 fn word_of(i: Instr) -> u32
     requires { InRange i }
     ensures word { result ≡ encoded i }

@@ -1,4 +1,4 @@
-//! The words of RV32I and M: the word that spells an instruction. Nothing here takes memory.
+//! Encodes instructions of RV32I and M as words. Nothing here allocates.
 #![tactic(auto)]
 
 mod codes;

@@ -31,7 +31,7 @@ pub fn upper_word(upper: u32, low: u32, opcode: u32) -> u32
     upper << 12 | (low << 7 | opcode)
 }
 
-/// Seven bits, and then five.
+/// Seven bits followed by five.
 pub fn twelve(seven: u32, five: u32) -> u32
     requires seven { seven < 2 ^ 7 }
     requires five { five < 2 ^ 5 }
@@ -41,7 +41,7 @@ pub fn twelve(seven: u32, five: u32) -> u32
     seven << 5 | five
 }
 
-/// The upper seven bits of a branch's word, of the 13 bits of its distance.
+/// The upper seven bits of a branch's word, from the 13 bits of its distance.
 pub fn branch_seven(bits: u32) -> u32
     ensures value { result ≡ branch_seven_of bits }
     ensures below { result < 2 ^ 7 }
@@ -49,7 +49,7 @@ pub fn branch_seven(bits: u32) -> u32
     field_at(bits, 12, 1) << 6 | field_at(bits, 5, 6)
 }
 
-/// The five bits above the opcode of a branch's word, of the 13 bits of its distance.
+/// The five bits above the opcode of a branch's word, from the 13 bits of its distance.
 pub fn branch_five(bits: u32) -> u32
     ensures value { result ≡ branch_five_of bits }
     ensures below { result < 2 ^ 5 }
@@ -57,7 +57,7 @@ pub fn branch_five(bits: u32) -> u32
     field_at(bits, 1, 4) << 1 | field_at(bits, 11, 1)
 }
 
-/// The upper twenty bits of a jump's word, of the 21 bits of its distance.
+/// The upper twenty bits of a jump's word, from the 21 bits of its distance.
 pub fn jump_twenty(bits: u32) -> u32
     ensures value { result ≡ jump_twenty_of bits }
     ensures below { result < 2 ^ 20 }
@@ -66,7 +66,7 @@ pub fn jump_twenty(bits: u32) -> u32
     field_at(bits, 20, 1) << 19 | (field_at(bits, 1, 10) << 9 | low)
 }
 
-/// A signed number as `bits` bits of two's complement.
+/// A signed number as `bits` bits in two's complement.
 pub fn bits_of(bits: u32, z: i32) -> u32
     requires some { 0 < bits }
     requires few { bits < 31 }

@@ -8,12 +8,12 @@ use Rattle.pick_check.specs.Text.{net_line, saving_line, slot_line, text_of}
 use Rattle.pick_check.proofs.WriteLaws.{text_more}
 use Rattle.size_report.specs.Report.{count_line, count_lines, report_text}
 
--- more lines
+-- a text of some lines, with more lines added, is the text of all of them
 lines_more : (old text new : List ℕ) (lines more : List (List ℕ)) → text ≡ old ++ text_of lines → new ≡ text ++ text_of more → new ≡ old ++ text_of (lines ++ more)
 lines_more old text new lines more so_far is =
     is ∙ ap (λ t. t ++ text_of more) so_far ∙ append_assoc old (text_of lines) (text_of more) ∙ ap (λ t. old ++ t) (sym (text_more lines more))
 
--- one line more
+-- a text of some lines, with one more line added, is the text of all of them
 line_more : (old text new : List ℕ) (lines : List (List ℕ)) (line : List ℕ) → text ≡ old ++ text_of lines → new ≡ text ++ (line ++ 10 ∷ []) → new ≡ old ++ text_of (lines ++ line ∷ [])
 line_more old text new lines line so_far is =
     lines_more old text new lines (line ∷ []) so_far (is ∙ ap (λ t. text ++ t) (sym (append-nil (line ++ 10 ∷ []))))
@@ -28,7 +28,7 @@ lines_added text [] new is = is ∙ sym (append-nil text)
 lines_added text (line ∷ lines) new added =
     lines_added added.0 lines new added.2 ∙ ap (λ t. t ++ text_of lines) added.1 ∙ append_assoc text (line ++ 10 ∷ []) (text_of lines)
 
--- the lines of the counts, and then those of the table
+-- the lines of the counts, and then the lines of the table
 pub put_together :
     (plain zc : Counts) (savings : List Saving) (c : Certified) (slots : List ℕ) (count net : ℕ) (a b d e text : List ℕ) →
     slots ≡ c.slots → count ≡ length c.slots → net ≡ c.net →

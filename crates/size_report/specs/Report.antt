@@ -5,11 +5,11 @@ use Rattle.pick_check.specs.declared.saving.Saving.{Saving}
 use Rattle.pick_check.specs.Certified.{Certified}
 use Rattle.pick_check.specs.Text.{line_with, net_line, saving_line, slot_line, text_of}
 
--- a name and a count
+-- a line of a name and a count
 abbrev pub count_line : List ℕ → ℕ → List ℕ
 count_line name n = line_with name (n ∷ [])
 
--- the lengths of both texts, and what the Zc link counts
+-- the lines of the lengths of both texts and of the counts of the Zc link
 abbrev pub count_lines : Counts → Counts → List (List ℕ)
 count_lines plain zc =
     count_line (codes "plain text") plain.text ∷
@@ -23,7 +23,8 @@ count_lines plain zc =
     count_line (codes "table") zc.table ∷
     []
 
--- the number of the jump table's slots, with its holes, and what it saves; then the certificate's savings and slots
+-- the lines of the jump table: the number of its slots, holes included, what it saves, and the certificate's savings
+-- and slots
 abbrev pub table_lines : List Saving → Certified → List (List ℕ)
 table_lines savings certificate =
     count_line (codes "slots") (length certificate.slots) ∷

@@ -11,10 +11,10 @@ use pick_check::saving::Saving;
 use std::alloc::{AllocError, Global};
 use zc_base::counts::Counts;
 
-/// The report of a link, in lines that a line feed ends each: `plain text` and `zc text`, the lengths
-/// of both texts in bytes; `items`, `short`, `long`, `push`, `pop`, `move` and `table`, what the Zc
-/// link counts; `slots`, those of the jump table, holes with them; `net`, the bytes that it saves;
-/// and the lines of the certificate for the savings and the slots.
+/// The report of a link. A line feed ends each line: `plain text` and `zc text`, the lengths of both
+/// texts in bytes; `items`, `short`, `long`, `push`, `pop`, `move` and `table`, the counts of the Zc
+/// link; `slots`, the number of the jump table's slots, holes included; `net`, the bytes that the table
+/// saves; and the certificate's lines for the savings and the slots.
 pub fn report(
     alloc: Global,
     plain: &Counts,

@@ -1,7 +1,7 @@
-// Texts of certificates, and what is said of them.
+// Texts of certificates, and what is read from them.
 //
-// In a row `|` stands for a line feed, `^` for a carriage return, `%` for a byte of zero, `_` for a line `slot 0`,
-// and `~` for eight of these.
+// In a row `|` means a line feed, `^` a carriage return, `%` a byte of zero, `_` a line `slot 0`, and `~` eight of
+// these lines.
 
 use crate::rows::{expect, same};
 use pick_check::accepts::accepts;
@@ -16,7 +16,7 @@ use std::test::Fail;
 
 const HOLES: &str = "slot 0\nslot 0\nslot 0\nslot 0\nslot 0\nslot 0\nslot 0\nslot 0\n";
 
-// The byte that stands for itself or for another one.
+// The byte that a character of a row means: itself, or another one.
 fn single(byte: u8) -> u8 {
     match byte {
         b'|' => b'\n',
@@ -26,7 +26,7 @@ fn single(byte: u8) -> u8 {
     }
 }
 
-// Adds what a byte of a row stands for.
+// Adds what a character of a row means.
 fn add_byte(bytes: &mut Vec<u8>, byte: u8) -> Result<(), AllocError> {
     match byte {
         b'_' => bytes.extend_from_slice(b"slot 0\n"),
@@ -42,7 +42,7 @@ fn add_bytes(bytes: &mut Vec<u8>, row: &str) -> Result<(), AllocError> {
     Ok(())
 }
 
-// What is said of a certificate that is read. It is also written, and should give the text again.
+// What a certificate that was read holds, as text. It is also written, which should give the text again.
 fn said_of_read(
     alloc: Global,
     bytes: &[u8],
@@ -63,7 +63,7 @@ fn said_of_read(
     }
 }
 
-// What is said of a text: which line may not stand there, or the net, if the checker takes the certificate.
+// The result for a text: which line is bad, or the net, if the checker accepts the certificate.
 fn said_of(alloc: Global, bytes: &[u8]) -> Result<String, AllocError> {
     match read_certificate(alloc, bytes) {
         Ok((savings, certificate)) => {
@@ -74,7 +74,7 @@ fn said_of(alloc: Global, bytes: &[u8]) -> Result<String, AllocError> {
     }
 }
 
-// What stands before and after a row.
+// What comes before and after a row.
 fn around(call: &str) -> (&'static str, &'static str) {
     match call {
         "lines" => ("zcld certificate 1|", "|end|"),
@@ -83,7 +83,7 @@ fn around(call: &str) -> (&'static str, &'static str) {
     }
 }
 
-/// What is said of a text, or of the lines between the first and the last of a certificate, or of line 2 of one.
+/// The result for a text, or for the lines between the first and the last of a certificate, or for line 2 of one.
 pub fn answer(alloc: Global, call: &str, row: &str) -> Result<String, AllocError> {
     let (before, after) = around(call);
     let mut bytes = Vec::new(alloc);
@@ -93,7 +93,7 @@ pub fn answer(alloc: Global, call: &str, row: &str) -> Result<String, AllocError
     said_of(alloc, bytes.as_slice())
 }
 
-// Slots, prices and a net, by worked savings: the net that the checker takes, or that it takes none.
+// Slots, prices and a net, for savings worked out by hand: the net of the certificate, or that it isn't accepted.
 const CHECKED: &str = "price 0 0 0|net 0 = 0
 price 0 0 0|net 1 = rejected
 saving 0 1 0 0 50|price 0 0 0|net 0 = 0
@@ -207,7 +207,7 @@ fn a_line_is_refused(rt: HostRuntime) -> Result<(), Fail> {
     expect(&rt, "line 2", LINES)
 }
 
-// What is printed of a text of `length` line feeds.
+// The result for a text of `length` line feeds.
 fn told_of(alloc: Global, length: usize) -> Result<String, Fail> {
     let mut text = Vec::new(alloc);
     text.resize(length, b'\n')?;
@@ -217,7 +217,7 @@ fn told_of(alloc: Global, length: usize) -> Result<String, Fail> {
     }
 }
 
-// Checks what is printed of `length` line feeds.
+// Checks the result for a text of `length` line feeds.
 fn expect_feeds<R: Abort + AllocGlobal>(rt: &R, length: usize, want: &str) -> Result<(), Fail> {
     let found = told_of(rt.alloc(), length)?;
     same(rt, found.as_str(), want, "text", "of line feeds");

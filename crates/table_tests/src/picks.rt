@@ -1,4 +1,4 @@
-// Tables that are picked, and where their slots lead.
+// Tables that are picked, and the targets of their slots.
 
 ghost use Rattle.std.specs.Prelude.{◌≡◌, ◌≤◌, IfOk, IsTrue, length};
 ghost use Rattle.std.specs.List.{list_all};
@@ -124,14 +124,14 @@ fn certificate_of(alloc: Global, savings: &[Saving]) -> Result<String, Fail> {
     Ok(text)
 }
 
-/// The slots, prices and net that are picked for groups of savings.
+/// The slots, prices and net that are picked for savings in groups.
 pub fn certificate(alloc: Global, groups: &str) -> Result<String, Fail> {
     let savings = savings_of(alloc, groups)?;
     certificate_of(alloc, savings.as_slice())
 }
 
-// Savings with the same sites have slots in their order. The last two are a target with a slot in both parts, and none
-// with any.
+// Savings with the same sites get slots in their order. In the last row but one a target has a slot in both parts; in
+// the last one no target has a slot.
 const PICKED: &str = "1:0:50 = at 0 0 0 net 0
 1:0:30 1:0:50 1:0:4 = 0*32 2*1 1*1 3*1 at 0 0 0 net 16
 1:10:0 1:3:0 1:2:0 = 1*2 at 0 0 0 net 6
@@ -147,7 +147,7 @@ fn tables_are_picked(rt: HostRuntime) -> Result<(), Fail> {
     expect(&rt, "pick", PICKED)
 }
 
-// The places that the picked slots lead to.
+// The targets of the picked slots.
 fn targets_of(alloc: Global, savings: &[Saving]) -> Result<Vec<Option<Place>>, Fail> {
     let c = picked(alloc, savings)?;
     Ok(slot_places(alloc, savings, &c)?)
@@ -168,7 +168,7 @@ fn offsets(alloc: Global, targets: &[Option<Place>]) -> Result<String, AllocErro
     Ok(text)
 }
 
-/// The offsets of the places that the slots picked for groups of savings lead to, with a dash for each hole.
+/// The offsets of the targets of the slots that are picked for savings in groups, with a dash for each hole.
 pub fn places(alloc: Global, groups: &str) -> Result<String, Fail> {
     let savings = savings_of(alloc, groups)?;
     let targets = targets_of(alloc, savings.as_slice())?;

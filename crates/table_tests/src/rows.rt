@@ -1,7 +1,7 @@
-// Rows of a table: what is asked, and what should come.
+// Rows of a table: a question, and the expected answer.
 //
-// The check proves each test, and pays there for each assertion and each row of a table. So rows are lines of
-// a text, and what is asserted of them stands here.
+// `rt check` proves each test, which takes time for each assertion and each element of a table. So rows are lines of
+// a text, and the assertions about them are here.
 
 use crate::certificates;
 use crate::picks::{certificate, places};
@@ -11,7 +11,7 @@ use std::alloc::Global;
 use std::process::Abort;
 use std::test::Fail;
 
-// What a call gives for a row.
+// What a call returns for a row.
 fn answer(alloc: Global, call: &str, given: &str) -> Result<String, Fail> {
     match call {
         "pick" => certificate(alloc, given),
@@ -22,7 +22,7 @@ fn answer(alloc: Global, call: &str, given: &str) -> Result<String, Fail> {
     }
 }
 
-/// What stands before a sign of a text, and what after it.
+/// What comes before a character of a text, and what comes after it.
 pub fn cut(text: &str, sign: char) -> Result<(&str, &str), Fail> {
     Ok(text.split_once(sign).ok_or("a part is missing")?)
 }
@@ -32,12 +32,12 @@ pub fn number(text: &str) -> Result<u32, Fail> {
     Ok(text.parse::<u32>()?)
 }
 
-/// What was found should be what is wanted.
+/// Checks that what was found is what is expected.
 pub fn same<R: Abort>(rt: &R, found: &str, want: &str, call: &str, row: &str) {
     assert_eq!(rt; found, want, "{call} {row}");
 }
 
-// The call should give for a row what stands after `=`.
+// Checks that the call returns for a row what follows `=`.
 fn expect_row<R: Abort + AllocGlobal>(rt: &R, call: &str, row: &str) -> Result<(), Fail> {
     let (given, want) = row.split_once(" =").ok_or("no answer")?;
     let found = answer(rt.alloc(), call, given)?;
@@ -45,7 +45,7 @@ fn expect_row<R: Abort + AllocGlobal>(rt: &R, call: &str, row: &str) -> Result<(
     Ok(())
 }
 
-/// The call should give for each row what stands after `=`.
+/// Checks that the call returns for each row what follows `=`.
 pub fn expect<R: Abort + AllocGlobal>(rt: &R, call: &str, rows: &str) -> Result<(), Fail> {
     for row in rows.lines() {
         expect_row(rt, call, row)?;

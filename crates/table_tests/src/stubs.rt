@@ -6,7 +6,7 @@ use psabi_reloc::reaches::jal_reaches;
 use std::alloc::Global;
 use std::test::Fail;
 
-// The code, if the text begins at a page and a jump reaches the distance.
+// The stub, if the text begins at a page boundary and the distance is in range of a jump.
 fn reached(text: u32, distance: i32) -> Option<[u8; 12]> {
     if text % 4096 == 0 && jal_reaches(distance) {
         Some(stub(text, distance))
@@ -15,7 +15,7 @@ fn reached(text: u32, distance: i32) -> Option<[u8; 12]> {
     }
 }
 
-// The code by the address of the text and the distance from the jump to the program's start.
+// The stub by the address of the text and the distance from the jump to the program's start.
 fn code_of(given: &str) -> Result<[u8; 12], Fail> {
     let (text, distance) = cut(given, ' ')?;
     let text = u32::from_str_radix(text, 16)?;
@@ -23,7 +23,7 @@ fn code_of(given: &str) -> Result<[u8; 12], Fail> {
     Ok(reached(text, distance).ok_or("out of reach")?)
 }
 
-/// The bytes of that code.
+/// The bytes of the stub.
 pub fn stub_bytes(alloc: Global, given: &str) -> Result<String, Fail> {
     let bytes = code_of(given)?;
     let mut line = String::new(alloc);

@@ -99,8 +99,8 @@ fn add_numbers(
     Ok(())
 }
 
-// Takes a step, and adds to the line what it gives: `set 2 7` makes the size with index 2 a 7, `nodes 0 4` gives the
-// first four nodes, and `before 0 4` the sums of no sizes up to the first three.
+// Takes a step, and adds its result to the line: `set 2 7` sets the size with index 2 to 7, `nodes 0 4` gives the first
+// four nodes, and `before 0 4` the sums of the first 0, 1, 2 and 3 sizes.
 fn take(alloc: Global, sums: &mut Sums, step: &str, line: &mut String) -> Result<(), Fail> {
     let (call, numbers) = cut(step.trim(), ' ')?;
     let (first, second) = cut(numbers, ' ')?;
@@ -113,7 +113,7 @@ fn take(alloc: Global, sums: &mut Sums, step: &str, line: &mut String) -> Result
     }
 }
 
-/// What the steps give, taken in turn from the tree of these sizes on.
+/// The results of the steps, taken in turn, starting with the tree of these sizes.
 pub fn steps(alloc: Global, given: &str) -> Result<String, Fail> {
     let (sizes, steps) = cut(given, ';')?;
     let mut sums = tree(alloc, sizes)?;

@@ -42,7 +42,7 @@ hex_byte_of_is word n is =
     let parts = spelled_is (ltb (digits_value 16 word) 256) hex_byte (digits_value 16 word) word n is in
     (let below = ltb-true _ _ parts.0 in omega (arith, below, parts.2), parts.1 ∙ ap hex_byte parts.2)
 
--- from its digits
+-- a byte is read from its two digits
 two_digits : (high low : ℕ) → high < 16 → low < 16 → hex_digit high ∷ hex_digit low ∷ [] ≡ hex_byte (16 * high + low)
 two_digits high low h l =
     let first : high ≡ (16 * high + low) / 2 ^ 4 % 16 = omega (arith, h, l) in
@@ -88,7 +88,7 @@ third_byte n = byte_at n (n / 2 ^ 8 % 256) 12 8 (omega arith) (omega arith)
 pub fourth_byte : (n : ℕ) → drop 6 (hex_word n) ≡ hex_byte (n / 2 ^ 0 % 256)
 fourth_byte n = byte_at n (n / 2 ^ 0 % 256) 4 0 (omega arith) (omega arith)
 
--- a word is no number where two of its digits are no byte
+-- a word is no number if two of its digits aren't a byte's
 pub hex_word_of-bad : (word part : List ℕ) (byte : ℕ → ℕ) → ((n : ℕ) → byte n < 256) → ((n : ℕ) → word ≡ hex_word n → part ≡ hex_byte (byte n)) → hex_byte_of part ≡ None → hex_word_of word ≡ None
 hex_word_of-bad word part byte small is bad = hex_word_of-None word (λ n lt same. let good = hex_byte_of-Some (byte n) part (small n) (is n same) in cc)
 
@@ -109,7 +109,7 @@ word_parts word =
     sym (take-append-drop 2 word)
     ∙ ap (λ rest. take 2 word ++ rest) (sym (take-append-drop 2 (drop 2 word)) ∙ ap (λ rest. take 2 (drop 2 word) ++ rest) (drop-drop 2 2 word ∙ sym (take-append-drop 2 (drop 4 word)) ∙ ap (λ rest. take 2 (drop 4 word) ++ rest) (drop-drop 2 4 word)))
 
--- a word whose parts are texts of bytes
+-- a word whose four parts are the digits of bytes
 pub word_read : (word : List ℕ) (a b c d : ℕ) → a < 256 → b < 256 → c < 256 → d < 256 → take 2 word ≡ hex_byte a → take 2 (drop 2 word) ≡ hex_byte b → take 2 (drop 4 word) ≡ hex_byte c → drop 6 word ≡ hex_byte d → word ≡ hex_word (a * 2 ^ 24 + b * 2 ^ 16 + c * 2 ^ 8 + d)
 word_read word a b c d la lb lc ld ia ib ic id =
     word_parts word

@@ -1,4 +1,4 @@
--- A word is a number where it is what is printed of it.
+-- A word spells a number if the number is printed as that word.
 use Rattle.std.proofs.Common.{◌≡◌, ◌⊎◌, ℕ, ◌^◌, ◌<◌, ◌≤◌, Some, None, Bool, true, List, length, get_or, leb, inl, inr, ap, sym, ◌∙◌, subst, arith}
 use Rattle.std.specs.Prelude.{◌&&◌, bytes_eq}
 use Rattle.std.specs.Fmt.{decimal}
@@ -25,7 +25,7 @@ if_text_of-None allowed text value word never =
     let parts = and_parts allowed (bytes_eq word (text value)) both in
     never parts.0 ((bytes_eq-Decides word (text value)).0 parts.1)))
 
--- back: the value is allowed, and the word is its text
+-- if a word spells a value, the value is allowed, and the word is its text
 pub spelled_is : {A : Type 0} (allowed : Bool) (text : A → List ℕ) (value : A) (word : List ℕ) (x : A) → if_text_of allowed text value word ≡ Some x → (allowed ≡ true) × (word ≡ text value) × (value ≡ x)
 unfolding if_text_of
 spelled_is allowed text value word x is =
@@ -67,7 +67,7 @@ number_read limit word n small digits plain value below =
     alone zeros some (inl long) = absurd (plain (zeros, long))
     alone zeros some (inr short) = omega (arith, some, short)
 
--- a zero with something behind it is no number
+-- a zero with more digits after it is no number
 pub number_zero : (limit : ℕ) (word : List ℕ) → limit < 2 ^ 64 → (get_or word 0 0 ≡ 48) × (1 < length word) → decimal_of limit word ≡ None
 number_zero limit word small zeros = decimal_of-None limit word (λ n below same. either n below same (cases_lt 0 n))
   where
@@ -77,7 +77,7 @@ number_zero limit word small zeros = decimal_of-None limit word (λ n below same
         omega (arith, first, zeros.0, ap (λ ds. get_or ds 0 0) same)
     either n below same (inr none) = omega (arith, zeros.1, none, ap length same, ap length (decimal_digit n (omega (arith, none))))
 
--- nor is what isn't digits, or digits of a number with more than 64 bits
+-- a word isn't a number if it has other characters than digits, or its value doesn't fit 64 bits
 pub number_other : (limit : ℕ) (word : List ℕ) → limit < 2 ^ 64 → ((0 < length word) × AllDigits 10 word × (digits_value 10 word < 2 ^ 64) → ⊥) → decimal_of limit word ≡ None
 number_other limit word small other = decimal_of-None limit word (λ n below same.
     let bound : n < 2 ^ 64 = omega (arith, below, small) in
@@ -85,7 +85,7 @@ number_other limit word small other = decimal_of-None limit word (λ n below sam
     let P : List ℕ → Type 0 = λ ds. (0 < length ds) × AllDigits 10 ds × (digits_value 10 ds < 2 ^ 64) in
     other (subst P (sym same) (is.0.0, is.0.1, omega (arith, is.1, bound))))
 
--- nor one above the limit
+-- a number above the limit isn't returned
 pub number_above : (limit : ℕ) (word : List ℕ) → limit < digits_value 10 word → decimal_of limit word ≡ None
 number_above limit word above =
     if_text_of-None (leb (digits_value 10 word) limit) decimal (digits_value 10 word) word (λ below same. let le = leb-true _ _ below in omega (arith, le, above))

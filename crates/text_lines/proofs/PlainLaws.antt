@@ -1,4 +1,5 @@
--- Words with no byte up to a space: a line of them is split into them again (`words_again`), and holds no line feed (`joined_line`).
+-- Words whose bytes are all above a space: a line of them is split into them again (`words_again`), and has no line
+-- feed (`joined_line`).
 use Rattle.std.proofs.Common.{◌≡◌, ℕ, ◌^◌, ◌<◌, false, List, [], ◌∷◌, eqb, refl, ap, ◌∙◌, arith, lit<}
 use Rattle.std.specs.Prelude.{All}
 use Rattle.std.specs.Fmt.{decimal}
@@ -36,7 +37,7 @@ no_space word plain = All-weaker (λ b. 32 < b) (λ b. eqb b 32 ≡ false) (λ b
 pub words_again : (word : List ℕ) (words : List (List ℕ)) → All IsPlain (word ∷ words) → words_of (join_with_byte 32 (word ∷ words)) ≡ word ∷ words
 words_again word words plain = split_join 32 word words (All-weaker IsPlain (λ w. All (λ b. eqb b 32 ≡ false) w) no_space (word ∷ words) plain)
 
--- ---- and hold no line feed
+-- ---- joined words have no line feed
 
 joined_above : (words : List (List ℕ)) → All IsPlain words → All (λ b. 31 < b) (join_with_byte 32 words)
 joined_above [] plain = All-nil (λ b. 31 < b)

@@ -1,4 +1,4 @@
--- Where the first byte of a kind stands, the parts of a text begin there.
+-- A text is split first at the first byte of the kind that separates its parts.
 use Rattle.std.proofs.Common.{◌≡◌, ℕ, ◌+◌, ◌-◌, ◌<◌, Some, None, Bool, true, false, cond, List, [], ◌∷◌, ◌++◌, length, take, drop, get_or, ltb, eqb, refl, ap, sym, ◌∙◌, arith}
 use Rattle.std.specs.List.{onto_first, position, position_or_len, slice_split}
 use Rattle.std.proofs.lemmas.Bool.{eqb-true, ltb-true, ltb-false}
@@ -7,7 +7,7 @@ use Rattle.std.proofs.lemmas.List.{length-drop, take_all}
 use Rattle.std.proofs.lemmas.List.Splits.{slice_split_first, slice_split_none}
 use Rattle.std.proofs.lemmas.List.Sums.{fails_before_first, passes_at_first, split_at_first}
 
--- the place is the first at which the test passes
+-- `position` returns the first index at which the test passes
 found : (p : ℕ → Bool) (xs : List ℕ) (i : ℕ) → position p xs ≡ Some i → (position_or_len p xs < length xs) × (position_or_len p xs ≡ i)
 found p xs i is =
     let parts = cond_some (ltb (position_or_len p xs) (length xs)) (position_or_len p xs) i is in
@@ -42,7 +42,7 @@ split_none p xs is = either (ltb (position_or_len p xs) (length xs)) refl is
         let end = ltb-false _ _ past in
         slice_split_none p xs (λ k d lt. fails_before_first p xs k d (omega (arith, end, lt)))
 
--- a text has a part at least
+-- a text has at least one part
 pub some_part : (p : ℕ → Bool) (xs : List ℕ) → (x : List ℕ) × (ys : List (List ℕ)) × (slice_split p xs ≡ x ∷ ys)
 some_part p [] = ([], [], refl)
 some_part p (x ∷ xs) = either (p x)

@@ -4,7 +4,7 @@ ghost use Rattle.std.specs.Prelude.{◌≡◌, ◌≢◌, ℕ, ◌<◌, IfSome, 
 ghost use Rattle.text_lines.specs.Hex.{hex_byte, hex_digit, hex_word};
 ghost use Rattle.text_lines.specs.Number.{hex_byte_of, hex_word_of};
 
-/// The 32-bit number of a word of eight digits.
+/// The 32-bit number that a word of eight digits spells.
 pub fn read_hex_word(word: &[u8]) -> Option<u32>
     ensures value { result ≡ hex_word_of word.now }
     ensures spells { IfSome result (λ n. word.now ≡ hex_word n) }
@@ -19,7 +19,7 @@ pub fn read_hex_word(word: &[u8]) -> Option<u32>
     Some(u32::from_be_bytes([first, second, third, fourth]))
 }
 
-/// The byte of a word of two digits.
+/// The byte that a word of two digits spells.
 pub fn read_hex_byte(word: &[u8]) -> Option<u8>
     ensures value { result ≡ hex_byte_of word.now }
     ensures spells { IfSome result (λ n. word.now ≡ hex_byte n) }

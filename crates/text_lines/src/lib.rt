@@ -1,7 +1,7 @@
-//! Texts of lines: a text is taken apart into lines, a line into words, and a word is read as a number.
+//! Texts of lines: a text is split into lines, a line into words, and a word is read as a number.
 //!
-//! Each call looks at each byte of what it takes off once, and copies nothing. Numbers have one text each: a word
-//! is a number only where it is what would be printed of it.
+//! Each call looks once at each byte of what it splits off, and copies nothing. Each number has one spelling: a word
+//! is read as a number only if that number would be printed as this word.
 #![tactic(auto)]
 
 pub mod hex;

@@ -4,7 +4,7 @@ ghost use Rattle.std.specs.Prelude.{◌≡◌, ◌^◌, ◌<◌, ◌≤◌, ◌�
 ghost use Rattle.std.specs.Str.Parse.{AllDigits, digits_value};
 ghost use Rattle.text_lines.specs.Number.{decimal_of};
 
-/// The number of a word without leading zeros, if it isn't above a limit.
+/// The decimal number that a word without leading zeros spells, if it isn't above a limit.
 pub fn read_number(word: &[u8], limit: u64) -> Option<u64>
     ensures value { result ≡ decimal_of limit word.now }
     ensures below { IfSome result (λ n. n ≤ limit) }
@@ -17,7 +17,7 @@ pub fn read_number(word: &[u8], limit: u64) -> Option<u64>
     if value <= limit { Some(value) } else { None }
 }
 
-// Whether a zero stands before other digits.
+// Whether the first digit is a zero, and there are others.
 fn has_leading_zero(word: &[u8]) -> bool
     ensures { IsTrue result ↔ ((slice_index word.now 0 ≡ 48) × (1 < length word.now)) }
 {
@@ -27,7 +27,7 @@ fn has_leading_zero(word: &[u8]) -> bool
     }
 }
 
-// The 64-bit number of digits, with leading zeros or not.
+// The value of decimal digits, if it fits 64 bits; leading zeros are allowed.
 fn digits_number(digits: &[u8]) -> Option<u64>
     ensures { SomeIff result ((0 < length digits.now) × AllDigits 10 digits.now
         × (digits_value 10 digits.now < 2 ^ 64)) (digits_value 10 digits.now) }

@@ -5,14 +5,14 @@ ghost use Rattle.std.specs.List.{position, slice_split};
 ghost use Rattle.std.specs.Option.{option_copied};
 ghost use Rattle.text_lines.specs.Lines.{lines_of, words_in, words_of};
 
-// The place of the first byte of this value.
+// The index of the first byte with this value.
 fn place_of(text: &[u8], byte: u8) -> Option<usize>
     ensures { result ≡ position (λ b. b == byte) text.now }
 {
     text.iter().position(|b| *b == byte)
 }
 
-// What stands before the first byte of this value, and what stands behind it.
+// What comes before the first byte with this value, and what comes after it.
 fn split_at_byte(text: &[u8], byte: u8) -> Option<(&[u8], &[u8])>
     ensures parts { IfSome result (λ r. slice_split (λ b. b == byte) text.now
         ≡ r.0.now ∷ slice_split (λ b. b == byte) r.1.now) }
@@ -23,7 +23,7 @@ fn split_at_byte(text: &[u8], byte: u8) -> Option<(&[u8], &[u8])>
     Some((&text[..place], &text[place + 1..]))
 }
 
-/// The first line of a text, and what stands behind its line feed.
+/// The first line of a text, and what follows its line feed.
 pub fn split_line(text: &[u8]) -> Option<(&[u8], &[u8])>
     ensures lines { IfSome result (λ r. lines_of text.now ≡ r.0.now ∷ lines_of r.1.now) }
     ensures whole { IfSome result (λ r. text.now ≡ r.0.now ++ 10 ∷ r.1.now) }
@@ -32,7 +32,7 @@ pub fn split_line(text: &[u8]) -> Option<(&[u8], &[u8])>
     split_at_byte(text, b'\n')
 }
 
-/// The first word of a line, and what stands behind its space where there is one.
+/// The first word of a line, and what follows its space, if there is one.
 pub fn split_word(line: &[u8]) -> (&[u8], Option<&[u8]>)
     ensures words { words_of line.now ≡ result.0.now ∷ words_in (option_copied result.1) }
     ensures shorter { IfSome result.1 (λ rest. length rest.now < length line.now) }

@@ -6,7 +6,7 @@ use Rattle.zc_base.specs.declared.place.Place.{Place}
 abbrev pub same_place : Place → Place → Bool
 same_place p q = p.object == q.object && (p.section == q.section && p.offset == q.offset)
 
--- by object, then section, then offset
+-- one place comes before another: by object, then section, then offset
 abbrev pub is_before : Place → Place → Bool
 is_before first second =
     nat_lt first.object second.object

@@ -1,11 +1,10 @@
 // What a link counts.
 
-/// What a link counts. `text` is in bytes, all else in numbers of items, groups or sites.
+/// What a link counts. `text` is in bytes; all others are numbers of items, groups or sites.
 ///
-/// `items` counts all items, `short` those that took two bytes on their own, as no part of a group,
-/// of which paddings and jumps through the table are left out. `long` counts the branches that were
-/// written in eight bytes, `pushes`, `pops` and `moves` the fused groups of each kind, and `table`
-/// the sites that jump through the table.
+/// `items` counts all items, and `short` those written in two bytes outside a group, except padding
+/// and jumps through the table. `long` counts the branches written in eight bytes, `pushes`, `pops`
+/// and `moves` the fused groups of each kind, and `table` the sites that go through the jump table.
 #[derive(Clone, Copy, Debug)]
 pub struct Counts {
     pub text: u32,

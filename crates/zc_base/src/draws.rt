@@ -1,12 +1,12 @@
-// Numbers that are drawn from a number.
+// Pseudo-random numbers.
 
 ghost use Rattle.std.specs.Prelude.{◌≡◌, ◌<◌, ◌^◌};
 ghost use Rattle.zc_base.specs.Draws.{drawn, stepped};
 
 use std::marker::Model;
 
-/// Numbers that look random, and are the same after the same start: a linear congruential generator
-/// modulo 2^64, of which a draw gives the upper 31 bits.
+/// A pseudo-random number generator: linear congruential modulo 2^64, with the upper 31 bits as output.
+/// The same seed gives the same numbers.
 #[derive(Drop)]
 pub struct Draws {
     state: u64,
@@ -21,7 +21,7 @@ impl Model for Draws {
 }
 
 impl Draws {
-    /// The draws from this number on.
+    /// The generator with this seed.
     pub fn new(number: u64) -> Draws
         ensures { result ≡ number }
     {

@@ -21,7 +21,7 @@ pub fn u32_at(bytes: &[u8], at: usize) -> u32
     LittleEndian::read_u32(&bytes[at..])
 }
 
-/// Writes a half at an offset, and leaves all other bytes.
+/// Writes a half at an offset, and leaves all other bytes unchanged.
 pub fn put_u16(bytes: &mut [u8], at: usize, v: u16)
     requires { at + 2 ≤ length bytes.old }
     ensures { bytes.new ≡ with_half bytes.old at v }
@@ -29,7 +29,7 @@ pub fn put_u16(bytes: &mut [u8], at: usize, v: u16)
     LittleEndian::write_u16(&mut bytes[at..], v);
 }
 
-/// Writes a word at an offset, and leaves all other bytes.
+/// Writes a word at an offset, and leaves all other bytes unchanged.
 pub fn put_u32(bytes: &mut [u8], at: usize, v: u32)
     requires { at + 4 ≤ length bytes.old }
     ensures { bytes.new ≡ with_word bytes.old at v }

@@ -1,5 +1,5 @@
-//! What every crate of the linker speaks of: places in code, registers, the memory map, counts, draws,
-//! and little-endian fields of bytes. Nothing here takes memory.
+//! What all crates of the linker share: places in code, registers, the memory map, counts, pseudo-random
+//! numbers, and little-endian fields of bytes. Nothing here allocates.
 #![tactic(auto)]
 
 pub mod counts;

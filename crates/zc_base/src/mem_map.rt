@@ -3,7 +3,7 @@
 ghost use Rattle.std.specs.Prelude.{◌≡◌, IfSome};
 ghost use Rattle.zc_base.specs.MemMap.{IsMap, checked_map, standard_map};
 
-/// The bytes of a page: the addresses of a map are multiples of it.
+/// The size of a page in bytes: the addresses of a map are multiples of it.
 const PAGE: u32 = 4_096;
 
 /// The least room for code, below data.
@@ -12,7 +12,7 @@ const CODE_ROOM: u32 = 0x000F_0000;
 /// The least room for data and the stack together.
 const DATA_ROOM: u32 = 0x0050_0000;
 
-/// The bytes of the stack.
+/// The size of the stack in bytes.
 const STACK_ROOM: u32 = 0x0010_0000;
 
 /// Where the memory of a program lies: code from `text` to below `data_low`, data from `data_low`
@@ -45,7 +45,7 @@ impl MemMap {
     pub fn checked(text: u32, data_low: u32, stack: u32) -> Option<MemMap>
         ensures value { result ≡ checked_map text data_low stack }
         ensures valid { IfSome result IsMap }
-        // each map that a link may be made for is the one of its own addresses
+        // every map that the linker accepts comes of its own addresses
         ensures complete { (map : MemMap) → IsMap map →
             checked_map map.text map.data_low map.stack_high ≡ Some map }
     {

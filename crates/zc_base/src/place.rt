@@ -2,8 +2,7 @@
 
 /// A place in code: an object, a section of it, and an offset in bytes into that section.
 ///
-/// Places are ordered by object, then section, then offset. They name code before any address is
-/// chosen for it.
+/// Places are ordered by object, then section, then offset. They name code that has no address yet.
 #[derive(Clone, Copy, PartialEq, Eq, PartialOrd, Ord, Debug)]
 pub struct Place {
     pub object: u16,

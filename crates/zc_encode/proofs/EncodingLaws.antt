@@ -28,7 +28,7 @@ use Rattle.zc_encode.proofs.RoundTrips.{comes_back, each_comes_back, half_of_nor
 use Rattle.zc_encode.proofs.RowFits.{InRow, InRowOf}
 use Rattle.zc_encode.proofs.ZcmpRows.{move_as_row, move_sa_row, pop_row, popret_row, popretz_row, push_row, table_row}
 
--- ---- what is found spells the instruction
+-- ---- the halfword that is found encodes the instruction
 
 -- the sources are in order, as far as normal forms order them
 abbrev IsOrdered : Instr → Type 0
@@ -123,9 +123,9 @@ found_row Ecall half r order h = absurd cc
 found_row Ebreak half r order h = ebreak_row half h
 found_row (Csrrw rd source) half r order h = absurd cc
 
--- ---- what spells the instruction is found, or one of an earlier row is
+-- ---- a halfword that encodes the instruction is found, or a halfword of an earlier row is
 
--- the same halfword, or one of an earlier row
+-- the halfword that is found is the same, or is in an earlier row
 abbrev Found : Form → ℕ → Option ℕ → Type 0
 Found form half o = (k : ℕ) × (o ≡ Some k) × ((half ≡ k) ⊎ ((other : Form) × (form_of k ≡ Some other) × (row_number other < row_number form)))
 
@@ -143,7 +143,7 @@ spells_found form half s spells =
     let again = sym (ap (λ t. is_hint form half || is_found form half (half_of_normal t)) spells.same) ∙ back in
     found form half _ (⊎_elim (λ hint. absurd (false≢true (sym spells.no_hint ∙ hint))) (λ e. e) (or_cases (is_hint form half) _ again))
 
--- ---- both
+-- ---- the first halfword is found
 
 first_of : (s : Short) (half : ℕ) → InRowOf half (normal_short s) → half_of_normal (normal_short s) ≡ Some half → IsFirst half s
 first_of s half in_row is =

@@ -1,4 +1,4 @@
--- What the tests of fields tell: of registers, of offsets, and of numbers in two's complement.
+-- What follows if a field's test passes: for registers, for offsets, and for numbers in two's complement.
 use Rattle.std.proofs.Common.{◌≡◌, ℕ, zero, suc, ◌+◌, ◌-◌, ◌*◌, ◌%◌, ◌^◌, ◌<◌, ◌≤◌, Bool, true, false, Some, cond, refl, inl, inr, ap, ◌∙◌, arith, ℤ, pos, negsuc, eqb, ltb, leb}
 use Rattle.std.specs.Prelude.{not, ◌&&◌, ◌⊎◌}
 use Rattle.std.specs.Ordering.{int_eq}
@@ -8,16 +8,16 @@ use Rattle.std.proofs.lemmas.Nat.{mod_low}
 use Rattle.rv_decode.specs.Bits.{as_word, signed}
 use Rattle.zc_encode.specs.Halves.{has_bits, is_amount, is_offset, is_popular, is_signed, low_bits, when}
 
--- a halfword that is there passed its test
+-- if a test guards a halfword and the halfword is returned, the test passed
 pub when_some : (test : Bool) (value half : ℕ) → when test value ≡ Some half → (test ≡ true) × (half ≡ value)
 when_some true value half is = (refl, cc)
 when_some false value half is = absurd cc
 
--- the test of three
+-- a conjunction of three tests
 pub and_three : (a b c : Bool) → (a && (b && c)) ≡ true → (a ≡ true) × (b ≡ true) × (c ≡ true)
 and_three a b c h = let p = and_parts a (b && c) h in let q = and_parts b c p.1 in (p.0, q.0, q.1)
 
--- and of four
+-- a conjunction of four tests
 pub and_four : (a b c d : Bool) → (a && (b && (c && d))) ≡ true → (a ≡ true) × (b ≡ true) × (c ≡ true) × (d ≡ true)
 and_four a b c d h = let p = and_parts a (b && (c && d)) h in let q = and_three b c d p.1 in (p.0, q.0, q.1, q.2)
 
@@ -60,7 +60,7 @@ amount imm h =
 
 -- ---- two's complement
 
--- a number of `bits` bits is what its low bits encode; `high` is what a word's bits above these count to
+-- a number of `bits` bits is what its low bits encode; `high` is the value of a word's bits above these
 module _ (bits high : ℕ) (word : 2 ^ 32 ≡ high * 2 ^ bits + 2 ^ bits) (twice : 2 ^ bits ≡ 2 * 2 ^ (bits - 1)) where
   low_is : (z : ℤ) → has_bits bits z ≡ true → signed bits (low_bits bits z) ≡ z
   low_is (pos n) h =

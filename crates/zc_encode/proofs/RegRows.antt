@@ -1,4 +1,5 @@
--- The rows of operations on two registers. Those whose sources may change places are met in the order of normal forms.
+-- The rows of operations on two registers. Operations whose sources may be swapped have them in the order of normal
+-- forms.
 use Rattle.std.proofs.Common.{◌≡◌, ℕ, ◌+◌, ◌-◌, ◌*◌, ◌^◌, ◌<◌, ◌≤◌, Some, None, Bool, true, false, cond, refl, sym, ap, ◌∙◌, arith, eqb, ltb}
 use Rattle.std.specs.Prelude.{◌&&◌, not}
 use Rattle.std.proofs.lemmas.Bool.{and_parts, cond-false, cond-true, eqb-true, eqb-false, lt-ltb, le-ltb, not-true}

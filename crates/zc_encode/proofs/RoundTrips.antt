@@ -34,12 +34,12 @@ abbrev pub half_of_normal : Short → Option ℕ
 half_of_normal (Base i) = half_for i
 half_of_normal other = encoded16 other
 
--- whether a halfword with this row comes back
+-- whether a halfword with this row is found again
 abbrev pub comes_back : ℕ → Option Form → Bool
 comes_back half None = true
 comes_back half (Some form) = is_hint form half || is_found form half (half_of_normal (normal_short (spelled form half)))
 
--- the same for a number, which the match computes once
+-- whether the halfword with this number is found again; the match computes the number once
 tried : (ℕ → Option Form) → ℕ → Bool
 tried row zero = comes_back 0 (row 0)
 tried row (suc n) = comes_back (suc n) (row (suc n))
@@ -51,11 +51,11 @@ yes n = true
 half_at : ℕ → ℕ → ℕ → ℕ
 half_at group high low = group / 4 * 8192 + (high * 256 + low) * 4 + group % 4
 
--- whether 256 halfwords of a group with the same high bits come back
+-- whether 256 halfwords of a group with the same high bits are found again
 page : ℕ → (ℕ → Option Form) → ℕ → Bool
 page group row high = agree_below (λ low. tried row (half_at group high low)) yes 256
 
--- if those of a group do, each does
+-- if all 256 halfwords of a group are found again, each of them is
 at_group : (group : ℕ) (row : ℕ → Option Form) → agree_below (page group row) yes 8 ≡ true → (half : ℕ) → half < 2 ^ 16 → group_of half ≡ group → comes_back half (row half) ≡ true
 unfolding tried half_at page yes
 at_group group row all half small in_group = same half ∙ sym (ap (tried row) whole) ∙ here

@@ -24,7 +24,7 @@ pub record RowOf (form : Form) (half : ℕ) (s : Short) : Type 0 where
 abbrev pub Row : Form → ℕ → Instr → Type 0
 Row form half i = RowOf form half (Base i)
 
--- of some row
+-- the halfword is of some row, is no hint, and spells the instruction
 abbrev pub InRow : ℕ → Instr → Type 0
 InRow half i = (form : Form) × Row form half i
 

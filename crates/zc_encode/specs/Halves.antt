@@ -33,7 +33,7 @@ half_of group bit upper lower = field group 2 3 * 2 ^ 13 + bit * 2 ^ 12 + upper 
 abbrev pub when : Bool → ℕ → Option ℕ
 when test half = if test then Some half else None
 
--- x8 to x15, which have a number of three bits
+-- x8 to x15, whose numbers are encoded in three bits
 abbrev pub is_popular : ℕ → Bool
 is_popular r = nat_le 8 r && nat_lt r 16
 
@@ -55,7 +55,7 @@ low_bits bits z = as_word z % 2 ^ bits
 abbrev pub is_signed : ℕ → ℕ → ℤ → Bool
 is_signed bits step z = has_bits bits z && (low_bits bits z % step == 0)
 
--- the amount of a shift, but 0
+-- the amount of a shift, except 0
 abbrev pub is_amount : ℤ → Bool
 is_amount imm = is_offset 32 1 imm && not (as_word imm == 0)
 
@@ -68,14 +68,14 @@ word_half group r base imm =
     when (is_popular r && (is_popular base && is_offset 128 4 imm))
     (half_of group (field n 5 1) (field n 3 2 * 8 + (base - 8)) (field n 2 1 * 16 + field n 6 1 * 8 + (r - 8)))
 
--- c.lbu, and c.sb: bits 11 to 10 tell which
+-- c.lbu and c.sb, distinguished by bits 11 to 10
 abbrev pub byte_half : ℕ → ℕ → ℕ → ℤ → Option ℕ
 byte_half which r base imm =
     let n = as_word imm in
     when (is_popular r && (is_popular base && is_offset 4 1 imm))
     (half_of 0b100_00 0 (which * 8 + (base - 8)) (field n 0 1 * 16 + field n 1 1 * 8 + (r - 8)))
 
--- c.lhu, c.lh and c.sh: bits 11 to 10 and 6 tell which
+-- c.lhu, c.lh and c.sh, distinguished by bits 11 to 10 and 6
 abbrev pub half_half : ℕ → ℕ → ℕ → ℕ → ℤ → Option ℕ
 half_half which bit r base imm =
     let n = as_word imm in
@@ -144,7 +144,7 @@ addi16sp_half rd first imm =
 abbrev pub mv_half : ℕ → ℕ → ℤ → Option ℕ
 mv_half rd first imm = when (int_eq imm (pos 0) && (not (rd == 0) && not (first == 0))) (half_of 0b100_10 0 rd first)
 
--- the rows that an `addi` can have, in order
+-- the rows that can encode an `addi`, in order
 abbrev pub sum_half : ℕ → ℕ → ℤ → Option ℕ
 sum_half rd first imm =
     option_or (addi4spn_half rd first imm)
@@ -153,7 +153,7 @@ sum_half rd first imm =
     (option_or (li_half rd first imm)
     (option_or (addi16sp_half rd first imm) (mv_half rd first imm)))))
 
--- c.srli and c.srai: bits 11 to 10 tell which
+-- c.srli and c.srai, distinguished by bits 11 to 10
 abbrev pub right_half : ℕ → ℕ → ℕ → ℤ → Option ℕ
 right_half which rd first imm =
     when (first == rd && (is_popular rd && is_amount imm)) (half_of 0b100_01 0 (which * 8 + (rd - 8)) (as_word imm))
@@ -184,12 +184,12 @@ with_imm_half Srai rd first imm = right_half 0b01 rd first imm
 
 -- ---- operations on two registers
 
--- c.sub, c.xor, c.or, c.and and c.mul, with the second source: bits 12 and 6 to 5 tell which
+-- c.sub, c.xor, c.or, c.and and c.mul, with the second source; distinguished by bits 12 and 6 to 5
 abbrev pub pair_half : ℕ → ℕ → ℕ → ℕ → Option ℕ
 pair_half bit which rd second =
     when (is_popular rd && is_popular second) (half_of 0b100_01 bit (0b11 * 8 + (rd - 8)) (which * 8 + (second - 8)))
 
--- c.sub, c.xor, c.or, c.and and c.mul, where the sources may change places
+-- c.sub, c.xor, c.or, c.and and c.mul, where the sources may be swapped
 abbrev pub either_half : ℕ → ℕ → ℕ → ℕ → ℕ → Option ℕ
 either_half bit which rd first second =
     if first == rd then pair_half bit which rd second else
@@ -247,7 +247,7 @@ jal_half rd distance =
     if rd == 1 then jump_half 0b001_01 distance else
     (if rd == 0 then jump_half 0b101_01 distance else None)
 
--- c.jr and c.jalr: rd tells which
+-- c.jr and c.jalr, distinguished by rd
 abbrev pub jalr_half : ℕ → ℕ → ℤ → Option ℕ
 jalr_half rd base imm = when (nat_lt rd 2 && (not (base == 0) && int_eq imm (pos 0))) (half_of 0b100_10 rd base 0)
 
@@ -285,23 +285,24 @@ half_for (Csrrw rd source) = None
 
 -- ---- Zcmp and Zcmt
 
--- a push or pop by bits 11 to 8, its list, and the sixteens that sp moves by beyond the list's base
+-- a push or pop, by bits 11 to 8, its register list, and the stack adjustment beyond the list's base, in units of 16
+-- bytes
 abbrev pub list_half : ℕ → ℕ → ℕ → Option ℕ
 list_half kind list adjust =
     let more = adjust - stack_adjust_base list in
     when (nat_le 4 list && (nat_lt list 16 && (nat_le (stack_adjust_base list) adjust && (more % 16 == 0 && nat_lt more 64))))
     (half_of 0b101_10 1 (kind * 2 + field list 3 1) (field list 0 3 * 4 + more / 16))
 
--- the number of one of s0 to s7 in three bits; 8 of another register
+-- the three-bit code of s0 to s7; 8 for any other register
 abbrev pub s_code : ℕ → ℕ
 s_code r = if nat_le 8 r && nat_lt r 10 then r - 8 else (if nat_le 18 r && nat_lt r 24 then r - 16 else 8)
 
--- a move between two of them and a0 and a1, by bits 6 and 5
+-- a move between two s registers and a0 and a1; `which` is bits 6 and 5
 abbrev pub move_half : ℕ → ℕ → ℕ → Option ℕ
 move_half which first second =
     when (nat_lt (s_code first) 8 && nat_lt (s_code second) 8) (half_of 0b101_10 0 (24 + s_code first) (which * 8 + s_code second))
 
--- a move to two of them, which are different
+-- a move of a0 and a1 to two different s registers
 abbrev pub move_sa_half : ℕ → ℕ → Option ℕ
 move_sa_half first second = if first == second then None else move_half 0b01 first second
 

@@ -1,4 +1,4 @@
-// The halfword that spells an instruction.
+// The halfword that encodes an instruction.
 
 ghost use Rattle.std.specs.Prelude.{◌≡◌};
 ghost use Rattle.rv_decode.specs.Registers.{HasRegisters};
@@ -14,8 +14,8 @@ use rv_decode::instr::Instr;
 use rv_decode::normal::normal;
 use zc_decode::short::Short;
 
-/// The halfword of the first row of the tables, hints left out, that spells something with the same
-/// normal form, or none if there is no such halfword.
+/// The halfword, of the first row in the tables, that encodes something with the same normal form and is
+/// no hint; `None` if there is no such halfword.
 pub fn encode16(s: Short) -> Option<u16>
     ensures first { IsEncoding s result }
     ensures fields { result ≡ encoded16 s }

@@ -1,4 +1,4 @@
-// Halfwords by their fields, and what fits into these.
+// Halfwords by their fields, and which values fit these fields.
 
 ghost use Rattle.std.specs.Prelude.{◌≡◌, ◌<◌, ◌≤◌, ◌^◌, IsTrue};
 ghost use Rattle.rv_decode.specs.Bits.{as_word};
@@ -28,7 +28,7 @@ pub fn number(r: Reg) -> u32
     u32::from(r.number())
 }
 
-/// Whether a register is one of x8 to x15, which have a number of three bits.
+/// Whether a register is one of x8 to x15, whose numbers are encoded in three bits.
 pub fn is_popular(r: Reg) -> bool
     ensures value { result ≡ halves.is_popular r }
     ensures least { IsTrue result → 8 ≤ r }
@@ -87,7 +87,7 @@ pub fn is_signed(bits: u32, step: u32, imm: i32) -> bool
     has_bits(bits, imm) && low_bits(bits, imm) % step == 0
 }
 
-/// Whether a number is the amount of a shift, but 0.
+/// Whether a number is the amount of a shift, except 0.
 pub fn is_amount(imm: i32) -> bool
     ensures value { result ≡ halves.is_amount imm }
     ensures below { IsTrue result → as_word imm < 2 ^ 5 }

@@ -1,4 +1,4 @@
-//! The halfwords of Zca and Zcb: the halfword that spells an instruction. Nothing here takes memory.
+//! Encodes instructions as halfwords of Zca, Zcb, Zcmp and Zcmt. Nothing here allocates.
 #![tactic(auto)]
 
 pub mod encode16;

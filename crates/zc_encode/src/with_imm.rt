@@ -53,7 +53,7 @@ fn lui(rd: Reg, imm: u32) -> Option<u16>
     }
 }
 
-// The first row that an `addi` has.
+// The halfword of an `addi`, by the first row that can encode it.
 fn sum(rd: Reg, first: Reg, imm: i32) -> Option<u16>
     ensures { result ≡ sum_half rd first imm }
 {

@@ -57,7 +57,7 @@ fn sub(rd: Reg, first: Reg, second: Reg) -> Option<u16>
     }
 }
 
-// An operation whose sources may change places.
+// An operation whose sources may be swapped.
 fn either(bit: u32, which: u32, rd: Reg, first: Reg, second: Reg) -> Option<u16>
     requires bit { bit < 2 }
     requires which { which < 4 }
@@ -72,7 +72,7 @@ fn either(bit: u32, which: u32, rd: Reg, first: Reg, second: Reg) -> Option<u16>
     }
 }
 
-// An operation of a register of x8 to x15 with a second one of these.
+// An operation on two registers of x8 to x15.
 fn pair(bit: u32, which: u32, rd: Reg, second: Reg) -> Option<u16>
     requires bit { bit < 2 }
     requires which { which < 4 }

@@ -56,7 +56,7 @@ fn either_move(which: u32, first: Reg, second: Reg) -> Option<u16>
     }
 }
 
-// The number of one of s0 to s7 in three bits, and 8 of another register.
+// The three-bit code of s0 to s7; 8 for any other register.
 fn s_code(r: Reg) -> u32
     ensures value { result ≡ halves.s_code r }
     ensures most { result ≤ 8 }

@@ -1,4 +1,4 @@
--- What is found for an instruction has its effect, since both have one normal form.
+-- The halfword that is found for an instruction has the same effect, since both have the same normal form.
 use Rattle.std.proofs.Common.{ℕ, Option, Some, None, ap, ◌∙◌}
 use Rattle.rv_decode.specs.declared.instr.Instr.{Instr}
 use Rattle.rv_decode.specs.Normal.{normal_of}

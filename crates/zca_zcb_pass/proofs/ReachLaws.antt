@@ -1,4 +1,4 @@
--- A short branch or jump is found only if its distance reaches.
+-- A short branch or jump is found only if its distance is in range.
 use Rattle.std.proofs.Common.{◌≡◌, ℕ, ◌-◌, ◌%◌, ◌^◌, ◌<◌, Option, Some, None, Bool, true, false, cond, refl, sym, subst, arith, ℤ, pos, negsuc, eqb, ltb}
 use Rattle.std.specs.Prelude.{◌&&◌, IfSome}
 use Rattle.std.proofs.lemmas.Bool.{and_from, and_parts, eq-eqb}
@@ -65,7 +65,7 @@ jal_reaches rd half distance h = by_tests (eqb rd 1) (eqb rd 0) h
 
 -- ---- instructions
 
--- an instruction that has a halfword at a distance reaches so far
+-- if an instruction at a distance has a halfword, the distance is in range of that halfword
 reaches : (i : Instr) (distance : ℤ) (half : ℕ) → encoded16 (Base (with_distance i distance)) ≡ Some half
     → (IsBranch i → short_branch_reach distance ≡ true) × (IsJump i → short_jump_reach distance ≡ true)
 reaches (Branch op first second old) distance half is = (λ _. normal_reaches op first second half distance is, λ jump. absurd jump)

@@ -14,7 +14,8 @@ use Rattle.zc_encode.specs.Encoding.{IsEncoding}
 abbrev pub HasEffectOf : Instr → ℕ → Type 0
 HasEffectOf i half = (j : Instr) × (decoded16 half ≡ Some (Base j)) × SameEffect j i
 
--- an instruction's short form: the first halfword that encodes it, which has its effect; or none if no halfword does
+-- an instruction's short form: the first halfword that encodes it, which has its effect; `None` if no halfword encodes
+-- it
 abbrev pub ShortForm : Instr → Option ℕ → Type 0
 ShortForm i None = IsEncoding (Base i) None
 ShortForm i (Some half) = IsEncoding (Base i) (Some half) × HasEffectOf i half
@@ -34,7 +35,7 @@ IsBranch Ecall = ⊥
 IsBranch Ebreak = ⊥
 IsBranch (Csrrw rd source) = ⊥
 
--- a jump with a distance
+-- a `jal`
 abbrev pub IsJump : Instr → Type 0
 IsJump (Upper op rd imm) = ⊥
 IsJump (Jal rd distance) = Unit {0}

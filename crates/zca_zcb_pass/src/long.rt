@@ -42,7 +42,7 @@ fn over(op: BranchOp, first: Reg, second: Reg) -> u32
     })
 }
 
-// The branch that is taken if this one isn't.
+// The branch with the opposite condition.
 fn opposite(op: BranchOp) -> BranchOp
     ensures { IsOpposite op result }
 {
@@ -56,7 +56,7 @@ fn opposite(op: BranchOp) -> BranchOp
     }
 }
 
-// The jump that stands after four bytes.
+// The jump at offset 4 of the long form, whose own distance is less by 4.
 fn jump(distance: i32) -> u32
     requires { jal_reach (distance -ℤ pos 4) ≡ true }
     ensures { decoded result ≡ Some (Instr.Jal 0 (distance -ℤ pos 4)) }

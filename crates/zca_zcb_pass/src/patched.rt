@@ -1,11 +1,11 @@
-// Instructions with another immediate.
+// Instructions with a changed immediate.
 
 ghost use Rattle.std.specs.Prelude.{◌≡◌};
 ghost use Rattle.psabi_reloc.specs.Patched as patched;
 
 use rv_decode::instr::Instr;
 
-/// An instruction with these upper 20 bits; one without such bits stays.
+/// An instruction with these upper 20 bits; one that isn't of the U format is left as it is.
 pub fn with_upper(i: Instr, imm: u32) -> Instr
     ensures { result ≡ patched.with_upper i imm }
 {
@@ -15,7 +15,7 @@ pub fn with_upper(i: Instr, imm: u32) -> Instr
     }
 }
 
-/// An instruction with this number to add to the base of a sum; one without a base stays.
+/// A `jalr`, a load, a store or an operation with this immediate; any other instruction is left as it is.
 pub fn with_imm(i: Instr, imm: i32) -> Instr
     ensures { result ≡ patched.with_imm i imm }
 {
@@ -38,7 +38,7 @@ pub fn with_imm(i: Instr, imm: i32) -> Instr
     }
 }
 
-/// A branch or a jump with another distance; every other instruction stays.
+/// A branch or a `jal` with this distance; any other instruction is left as it is.
 pub fn with_distance(i: Instr, distance: i32) -> Instr
     ensures { result ≡ patched.with_distance i distance }
 {

@@ -11,8 +11,8 @@ use rv_decode::instr::Instr;
 use zc_decode::short::Short;
 use zc_encode::encode16::encode16;
 
-/// The short form of an instruction, if it has one. Of branches and jumps that lead to a place it is
-/// the one at the distance that they have; `short_branch` and `short_jump` take another.
+/// The short form of an instruction, if it has one. A branch or a jump keeps the distance that it has;
+/// `short_branch` and `short_jump` take the distance as an argument.
 #[tactic(auto, using(crate::proofs::FormEffects::short_form))]
 pub fn short_of(i: Instr) -> Option<u16>
     ensures form { ShortForm i result }

@@ -1,5 +1,5 @@
 // Every push and pop, interrupted after each of its accesses and then committed, and at the ends of the stack. What it
-// leaves is added up to one number, which `fuzz/frames.py` works out by a model that knows nothing of this machine.
+// leaves is hashed to one number, which `fuzz/frames.py` computes by an independent model.
 
 use super::load;
 use std::alloc::Global;
@@ -8,7 +8,7 @@ use zc_base::reg::Reg;
 use zc_machine::answer::Step;
 use zc_machine::machine::Machine;
 
-// Pushes and pops by their bits, with list 0 and no more than the list's base.
+// Pushes and pops by their bits, with list 0 and no stack adjustment beyond the list's base.
 const PUSH: u32 = 0xB802;
 
 const POP: u32 = 0xBA02;
@@ -27,7 +27,7 @@ const REGISTERS: &str = "A 1 8 9 12 13 14 15 16 17 18 19 1A 1B";
 // The instructions before the push or pop: two for each of these registers and for sp.
 const COMMITS: u32 = 30;
 
-// The stack's first address, one in it, and the one after its last.
+// The stack's first address, an address in it, and the address after its last.
 const LOW: u32 = 0x0FF0_0000;
 
 const MIDDLE: u32 = 0x0FFF_FE80;
@@ -82,7 +82,7 @@ fn pattern(alloc: Global, at: u32, count: u32) -> Result<Vec<(u32, u8)>, Fail> {
     Ok(dirt)
 }
 
-// Writes such bytes by an interrupt.
+// Writes bytes as `pattern` gives them, by an interrupt.
 fn fill(alloc: Global, machine: &mut Machine, at: u32, count: u32) -> Result<(), Fail> {
     machine.cut(&[0], pattern(alloc, at, count)?.as_slice());
     Ok(())
@@ -116,7 +116,7 @@ fn with_state(machine: &Machine, sum: u32) -> Result<u32, Fail> {
     with_bytes(machine, sum, HIGH - 128, 128)
 }
 
-// A step's answer: 0 for a commit, and the number of the reason why the machine stops.
+// A step's result: 0 for a commit, otherwise the number of the reason why the machine stops.
 fn stepped(machine: &mut Machine) -> u32 {
     if machine.commits() > 9999 {
         return 99;

@@ -116,7 +116,7 @@ pub const PAGES: &str = "
 # the byte at the start of the last of 16 segments is loaded: lui a1,0x11C; lbu a0,0(a1)
 0011C5B7 0005C503 | data 00100000 00000010 0 01; 00102000 00000010 0 02; 00104000 00000010 0 03; 00106000 00000010 0 04; 00108000 00000010 0 05; 0010A000 00000010 0 06; 0010C000 00000010 0 07; 0010E000 00000010 0 08; 00110000 00000010 0 09; 00112000 00000010 0 0A; 00114000 00000010 0 0B; 00116000 00000010 0 0C; 00118000 00000010 0 0D; 0011A000 00000010 0 0E; 0011C000 00000010 0 0F; | steps 2 | ends spent 10008 f";
 
-/// Programs as in `PAGES`, whose instructions are executed again where others stand close by.
+/// Programs as in `PAGES`, whose instructions are executed again while others are close to them in memory.
 pub const AGAIN: &str = "
 # a word and the halfword in its middle, in turn: addi t0,x0,4; lui a1,0x5050, with c.addi a0,1 in its middle; c.add a0,a1; c.li a1,0; addi t0,t0,-1; beq t0,x0,.+16; andi t1,t0,1; beq t1,x0,.-20, to the word; jal x0,.-22, to its middle; c.ebreak
 00400293 050505B7 952E 4581 FFF28293 00028863 0012F313 FE0306E3 FEBFF06F 9002 | ends stopped 4 Break 10020 a0a0002
@@ -133,7 +133,7 @@ pub const AGAIN: &str = "
 # c.li a0,3; half a halfword
 450D 01 | ends stopped 2 BadAccess 10002 3";
 
-/// Each program, and what its steps answer, one after another.
+/// Each program, and the results of its steps, one after another.
 pub const STEPS: &str = "
 # c.li a0,3; addi a7,x0,93; ecall
 text 450D 05D00893 00000073 | answers committed; committed; wants exit 3; wants exit 3

@@ -5,7 +5,7 @@ use std::alloc::Global;
 use std::test::Fail;
 use zc_base::fields::put_u32;
 
-// The object's header. The words below are hexadecimal, too.
+// The object's header. All words in this file are hexadecimal.
 const HEADER: &str = "
 464C457F 00010101 00000000 00000000
 00F30001 00000001 00000000 00000000
@@ -36,8 +36,8 @@ const SECTIONS: &str = "
 00000000 00000004 00000000 00000000 000000E8 00000030 00000004 00000001 00000004 0000000C
 00000000 00000004 00000000 00000000 00000118 00000018 00000004 00000002 00000004 0000000C";
 
-/// The object with this code, these relocations of code, of which four have room, and these of data, of which two have. A
-/// relocation of zeros does nothing.
+/// The object with this code, up to four relocations of code, and up to two relocations of data. A relocation of zeros
+/// does nothing.
 pub fn object_of(
     alloc: Global,
     code: &str,

@@ -17,13 +17,13 @@ const SECTION_SYMBOLS: &str = "
 00000000 00000000 00000000 00010000
 00000000 00000000 00000000 00020000";
 
-// Of the first object symbol 3 is `_start`, where section 1 begins, and 4 is the other object's `g`.
+// In the first object, symbol 3 is `_start`, where section 1 begins, and 4 is the other object's `g`.
 const STARTS: &str = "
 00000001 00000000 00000000 00010010
 00000008 00000000 00000000 00000010
 74735F00 00747261 0067";
 
-// Of the second one symbol 3 is `g`, the second word of section 2, and 4 is `_start`.
+// In the second object, symbol 3 is `g`, the second word of section 2, and 4 is `_start`.
 const CALLED: &str = "
 00000008 00000004 00000000 00020010
 00000001 00000000 00000000 00000010

@@ -1,6 +1,6 @@
 // A table of programs with relocations. Words are hexadecimal.
 
-/// Each program, its relocations and those of data, and how its run ends within `steps` steps. A relocation has three
+/// Each program, its relocations of code and of data, and how its run ends within `steps` steps. A relocation has three
 /// words: its offset, its symbol and type, and its addend. Symbol 1 is the code's first byte, 2 the data's, 3 the
 /// code's second word, and 5 is weak, and not defined.
 pub const RELOCATED: &str = "

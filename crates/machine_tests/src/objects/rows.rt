@@ -201,8 +201,8 @@ FFF11503 | ends stuck 0:1:0 6 Misaligned
 00300513 05D00893 00000073 | steps 3 | ends exited 3
 00300513 05D00893 00000073 | steps 4 | ends exited 3";
 
-/// The same of pages that hold numbers and other bytes, and of a stack pointer that falls and rises. Data has 32 bytes, and
-/// the stack 1 MiB.
+/// Each program, and how its run ends, for pages that hold numbers and other bytes, and for a stack pointer that falls
+/// and rises. Data has 32 bytes, and the stack 1 MiB.
 pub const PAGES: &str = "
 # lui t0,0x100; sb s0,16(t0); lbu a0,3(t0); addi a7,x0,93; ecall
 001002B7 00828823 0032C503 05D00893 00000073 | ends exited 84
@@ -235,7 +235,8 @@ pub const PAGES: &str = "
 # addi t2,x0,13; addi sp,sp,-16; sw t2,8(sp); sw t2,4(sp); addi sp,sp,8; addi sp,sp,-8; lw a0,4(sp); addi a7,x0,93; ecall
 00D00393 FF010113 00712423 00712223 00810113 FF810113 00412503 05D00893 00000073 | ends stuck 0:1:20 4 ArgumentUnknown";
 
-/// The same of a stack that falls and rises over all of its pages, and of bytes that are written where others were before sp rose.
+/// Each program, and how its run ends, for a stack pointer that moves over all pages of the stack, and for bytes that
+/// are written where there were others before sp rose.
 pub const STACKS: &str = "
 # lui t1,1; addi t2,x0,256; sub sp,sp,t1; sw t2,0(sp); addi t2,t2,-1; bne t2,x0,-12; addi t2,t2,1; lw a0,0(sp); bne a0,t2,20; add sp,sp,t1; addi a1,t2,-256; bne a1,x0,-20; addi a0,x0,17; addi a7,x0,93; ecall
 00001337 10000393 40610133 00712023 FFF38393 FE039AE3 00138393 00012503 00751A63 00610133 F0038593 FE0596E3 01100513 05D00893 00000073 | steps 3000 | ends exited 11
@@ -264,7 +265,7 @@ pub const STACKS: &str = "
 # jal ra,4; addi t2,x0,16; lui t1,1; sub sp,sp,t1; addi sp,sp,-16; sw ra,12(sp); sb t2,13(sp); sb t2,16(sp); lbu a0,17(sp); addi a7,x0,93; ecall
 004000EF 01000393 00001337 40610133 FF010113 00112623 007106A3 00710823 01114503 05D00893 00000073 | ends stuck 0:1:28 4 ArgumentUnknown";
 
-/// The same after forty bytes of input were read to where they lie across the ends of strips and of a page.
+/// Each program, and how its run ends, after forty bytes of input were read across the ends of strips and of a page.
 pub const ACROSS: &str = "
 # lbu a0,67(sp); addi a7,x0,93; ecall
 04314503 05D00893 00000073 | ends exited 4e
@@ -279,7 +280,7 @@ pub const ACROSS: &str = "
 # lbu a0,27(sp); addi a7,x0,93; ecall
 01B14503 05D00893 00000073 | ends stuck 0:1:28 4 ArgumentUnknown";
 
-/// The same with the input, and with what comes to the output and to the output for errors.
+/// Each program, its input, what it writes to the output and to the output for errors, and how its run ends.
 pub const CALLS: &str = "
 # addi a0,x0,1; lui a1,0x100; addi a2,x0,3; addi a7,x0,64; ecall; addi a7,x0,93; ecall
 00100513 001005B7 00300613 04000893 00000073 05D00893 00000073 | out 01 02 03 | ends exited 3
@@ -352,7 +353,7 @@ C101 | ends stuck 0:1:0 2 ConditionUnknown
 # c.addi sp,16
 0141 | ends stuck 0:1:0 7 StackPointer";
 
-/// Each program, and what its steps answer, one after another.
+/// Each program, and the results of its steps, one after another.
 pub const STEPS: &str = "
 # a read of two bytes to data, a write of them, and ebreak: addi a0,x0,0; lui a1,0x100; addi a2,x0,2; addi a7,x0,63; ecall; addi a0,x0,1; addi a7,x0,64; ecall; ebreak
 words 00000513 001005B7 00200613 03F00893 00000073 00100513 04000893 00000073 00100073 | in 78 79 7A | answers done; done; done; done; read 2; done; done; wrote 1 [120, 121]; stuck 0:1:20 8 NoInstruction; stuck 0:1:20 8 NoInstruction

@@ -4,7 +4,7 @@ use Rattle.elf32_read.specs.Symbols.{symbol_entry_at}
 use Rattle.elf32_read.proofs.Dropped.{none_dropped, none_dropped_more, some_dropped}
 use Rattle.elf32_read.proofs.alignments.has_bad_common.Goals as goal
 
--- the symbol at hand is bad
+-- the current symbol is bad
 pub returns-then-is_bad_common : goal.returns-then-is_bad_common
 returns-then-is_bad_common c =
     let entries = c.args.entries.now in

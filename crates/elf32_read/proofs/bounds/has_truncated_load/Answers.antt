@@ -8,7 +8,7 @@ use Rattle.elf32_read.proofs.Listed.{list_any_listed, list_any-filter}
 use Rattle.elf32_read.proofs.Tests.{load_passes_end}
 use Rattle.elf32_read.proofs.bounds.has_truncated_load.Goals as goal
 
--- the segment at hand passes the end
+-- the current segment passes the end of the file
 pub returns-then-is_load_truncated : goal.returns-then-is_load_truncated
 unfolding loads_of
 returns-then-is_load_truncated c =
@@ -18,7 +18,7 @@ returns-then-is_load_truncated c =
     let some = list_any_listed passes (program_header_of bytes) (program_count bytes) c.loop-i.i inside (sym c.is_load_truncated.ensures ∙ c.if-is_load_truncated.true) in
     sym (list_any-filter (λ header. header.kind == 1) (load_passes_end bytes) (map (program_header_of bytes) (range_with_len 0 (program_count bytes))) ∙ some)
 
--- none does
+-- no segment passes the end of the file
 pub returns : goal.returns
 unfolding loads_of
 returns c =

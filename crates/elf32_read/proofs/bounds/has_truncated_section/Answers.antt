@@ -4,7 +4,7 @@ use Rattle.elf32_read.specs.Object.{passes_end}
 use Rattle.elf32_read.proofs.Listed.{list_any_listed}
 use Rattle.elf32_read.proofs.bounds.has_truncated_section.Goals as goal
 
--- the section at hand passes the end
+-- the current section passes the end of the file
 pub returns-then-is_section_truncated : goal.returns-then-is_section_truncated
 returns-then-is_section_truncated c =
     let bytes = c.args.bytes.now in

@@ -8,7 +8,7 @@ use Rattle.elf32_read.proofs.Tests.{has_symbols}
 use Rattle.elf32_read.proofs.kinds.has_second_symbol_table.Goals as goal
 use Rattle.elf32_read.proofs.kinds.has_second_symbol_table.Goals.{then-header-eq-SYMTAB+else-found, else-header-eq-SYMTAB}
 
--- a second one
+-- a second symbol table is found
 pub returns-then-found : goal.returns-then-found
 returns-then-found c =
     let header_at = header_of c.args.sections.now in

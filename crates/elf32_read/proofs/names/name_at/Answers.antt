@@ -3,12 +3,12 @@ use Rattle.std.proofs.lemmas.List.{take_all}
 use Rattle.elf32_read.proofs.Strings.{before_zero}
 use Rattle.elf32_read.proofs.names.name_at.Goals as goal
 
--- the name ends at the zero at hand
+-- the current byte is zero, and ends the name
 pub returns-then-byte-eq0 : goal.returns-then-byte-eq0
 returns-then-byte-eq0 c =
     before_zero c.args.table.now c.names_from-rest.result.now c.args.at c.loop-i.i c.names_from-rest.ensures (omega arith) c.loop-i.invariant (λ _. c.if-byte-eq0.true)
 
--- no zero ends it
+-- no zero ends the name
 pub returns : goal.returns
 returns c =
     let rest = c.names_from-rest.result.now in

@@ -6,7 +6,7 @@ use Rattle.std.proofs.lemmas.List.{drop_more, get_or-drop, length-drop}
 use Rattle.std.proofs.lemmas.List.Folds.{list_any_at}
 use Rattle.elf32_read.proofs.names.names_end.Goals as goal
 
--- none from the byte at hand on is zero
+-- no byte from the current one on is zero
 pub loop-i-preserved : goal.loop-i-preserved
 loop-i-preserved c = λ k past.
     let names = c.args.names.now in
@@ -20,7 +20,7 @@ loop-i-preserved c = λ k past.
       | inr later ↦ c.loop-i.invariant k later
     ]
 
--- the byte at hand is zero
+-- the current byte is zero
 pub returns-then-names-end-eq0 : goal.returns-then-names-end-eq0
 returns-then-names-end-eq0 c = λ k.
     let names = c.args.names.now in
@@ -34,6 +34,6 @@ returns-then-names-end-eq0 c = λ k.
       | inr past ↦ c.loop-i.invariant k (omega (arith, past)) ∙ sym (le-ltb k end past)
     ]
 
--- no byte is
+-- no byte is zero
 pub returns : goal.returns
 returns c = λ k. c.loop-i.invariant k (omega arith) ∙ sym (le-ltb k 0 (omega arith))

@@ -6,7 +6,7 @@ use Rattle.elf32_read.specs.Places.{place_entry_at, is_ascending}
 use Rattle.elf32_read.proofs.Ascending.{is_ascending_step}
 use Rattle.elf32_read.proofs.places.are_ascending.Goals as goal
 
--- the entry at hand does not come before the next
+-- the current entry doesn't come before the next
 pub returns-then-not-is_before : goal.returns-then-not-is_before
 returns-then-not-is_before c =
     let f = place_entry_at c.args.entries.now in

@@ -3,7 +3,7 @@ use Rattle.elf32_read.specs.Places.{place_entry_at, is_outside}
 use Rattle.elf32_read.proofs.Listed.{list_any_listed}
 use Rattle.elf32_read.proofs.places.has_outside.Goals as goal
 
--- the entry at hand has an address outside
+-- the current entry has an address outside the region for code
 pub returns-then-is_outside : goal.returns-then-is_outside
 returns-then-is_outside c =
     let entries = c.args.entries.now in

@@ -7,7 +7,7 @@ use Rattle.elf32_read.specs.Places.{entries_of, places_sections}
 use Rattle.elf32_read.proofs.Tests.{holds_places}
 use Rattle.elf32_read.proofs.places.places_in.Goals as goal
 
--- no section
+-- the file has no sections
 pub returns-then-count-eq0 : goal.returns-then-count-eq0
 unfolding places_sections
 returns-then-count-eq0 c =

@@ -11,7 +11,7 @@ use Rattle.elf32_read.proofs.Tests.{holds_places}
 use Rattle.elf32_read.proofs.places.places_section.Goals as goal
 use Rattle.elf32_read.proofs.places.places_section.Goals.{then-holds_places+else-is_some, else-holds_places}
 
--- a second one
+-- a second section that lists places is found
 pub returns-then-is_some : goal.returns-then-is_some
 unfolding places_sections
 returns-then-is_some c =

@@ -6,7 +6,7 @@ use Rattle.elf32_read.specs.declared.reloc.Reloc.{Reloc}
 use Rattle.elf32_read.proofs.Listed.{some_listed}
 use Rattle.elf32_read.proofs.relas.has_symbol_from.Goals as goal
 
--- the relocation at hand names no symbol
+-- the current relocation names no symbol
 pub returns-then-count-reloc : goal.returns-then-count-reloc
 returns-then-count-reloc c =
     let content = c.args.content.now in

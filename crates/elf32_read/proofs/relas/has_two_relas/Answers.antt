@@ -12,7 +12,7 @@ loop-i-init c = record {
   each = λ k lt kept. sym (ap (λ b. cond b 1 0) (get_or-replicate 4096 k false false (omega (arith, lt, c.requires))));
 }
 
--- the section at hand is a second one
+-- the current section is the second RELA for its section
 pub returns-then-changed-header : goal.returns-then-changed-header
 returns-then-changed-header c =
     let bytes = c.args.sections.now in

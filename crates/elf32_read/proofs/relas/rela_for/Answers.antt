@@ -12,7 +12,7 @@ use Rattle.elf32_read.proofs.Tests.{changes}
 use Rattle.elf32_read.proofs.relas.rela_for.Goals as goal
 use Rattle.elf32_read.proofs.relas.rela_for.Goals.{then-changes, else-changes}
 
--- the relocations of a kept section are those that the one section holds
+-- the relocations of a kept section are the content of its only RELA section
 held : (bytes : List ℕ) (section : ℕ) (found : Option ℕ) → is_kept bytes (header_of bytes section) ≡ true → IsOnly (changes section) bytes found → MatchOption found (relocs_of bytes section ≡ []) (λ rela. (rela < section_count bytes) × (relocs_of bytes section ≡ relocs_held bytes (header_of bytes rela)))
 held bytes section None kept only =
     ap (λ b. cond b (flat_map (relocs_held bytes) (relas_for bytes section)) []) kept ∙ ap (flat_map (relocs_held bytes)) only

@@ -4,7 +4,7 @@ use Rattle.elf32_read.specs.Symbols.{symbol_entry_at}
 use Rattle.elf32_read.proofs.Dropped.{none_dropped, none_dropped_more, some_dropped}
 use Rattle.elf32_read.proofs.symbols.has_bad_entry.Goals as goal
 
--- the symbol at hand is bad
+-- the current symbol is bad
 pub returns-then-is_bad_symbol : goal.returns-then-is_bad_symbol
 returns-then-is_bad_symbol c =
     let entries = c.args.entries.now in

@@ -6,7 +6,7 @@ use Rattle.elf32_read.proofs.Listed.{some_listed}
 use Rattle.elf32_read.proofs.Named.{ends_past}
 use Rattle.elf32_read.proofs.unnamed.has_unnamed_section.Goals as goal
 
--- the name of the section at hand has no end
+-- the name of the current section isn't terminated
 pub returns-then-end-header : goal.returns-then-end-header
 returns-then-end-header c =
     let bytes = c.args.sections.now in

@@ -7,7 +7,7 @@ use Rattle.elf32_read.proofs.Listed.{some_listed}
 use Rattle.elf32_read.proofs.Named.{ends_past}
 use Rattle.elf32_read.proofs.unnamed.has_unnamed_symbol.Goals as goal
 
--- the name of the symbol at hand has no end
+-- the name of the current symbol isn't terminated
 pub returns-then-end-symbol_entry : goal.returns-then-end-symbol_entry
 returns-then-end-symbol_entry c =
     let names = c.args.symbols.now.names.now in

@@ -18,7 +18,7 @@ differs title first is other = ap (bytes_eq title) (sym is) ∙ not-true (bytes_
 agrees : (title first : List ℕ) → first ≡ codes "zcld plan 1" → false ≡ not (bytes_eq title first) → title ≡ codes "zcld plan 1"
 agrees title first is same = (bytes_eq-Decides title (codes "zcld plan 1")).0 (ap (bytes_eq title) (sym is) ∙ not-false (bytes_eq title first) (sym same))
 
--- ---- what each return says of the text
+-- ---- what each returned value means for the text
 
 large : (c : goal.Then-text-gt-PLAN_LIMIT) → plan_in c.args.text.now ≡ Err TooLarge
 large c = too_large c.args.text.now c.if-text-gt-PLAN_LIMIT.true

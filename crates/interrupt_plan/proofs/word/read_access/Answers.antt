@@ -8,7 +8,7 @@ use Rattle.interrupt_plan.specs.Text.{access_of}
 use Rattle.interrupt_plan.proofs.WordLaws.{access_of-None, access_of-Some}
 use Rattle.interrupt_plan.proofs.word.read_access.Goals as goal
 
--- another letter stands first
+-- the first letter isn't `a`
 other_letter : (word letter : List ℕ) → letter ≡ 97 ∷ [] → bytes_eq (take (length letter) word) letter ≡ false → access_of word ≡ None
 other_letter word letter a other =
     access_of-None word (λ n lt same.
@@ -16,7 +16,7 @@ other_letter word letter a other =
     let is = ap (λ w. bytes_eq (take 1 w) (97 ∷ [])) same in
     cc)
 
--- what stands behind the letter is no number
+-- the letter isn't followed by a number
 no_number : (word letter digits : List ℕ) → letter ≡ 97 ∷ [] → digits ≡ drop (length letter) word → decimal_of 255 digits ≡ None → access_of word ≡ None
 no_number word letter digits a behind bad =
     access_of-None word (λ n lt same.

@@ -6,7 +6,7 @@ use Rattle.std.proofs.lemmas.List.{take_all}
 use Rattle.std.proofs.lemmas.Str.Parse.{digit_at, digits_value-take-le}
 use Rattle.text_lines.proofs.number.digits_number.Goals as goal
 
--- what is read so far passes 64 bits, so the whole does
+-- the value so far doesn't fit 64 bits, so the value of all digits doesn't
 above : (ds : List ℕ) (i value : ℕ) → i < length ds → digits_value 10 (take i ds) ≡ value → 2 ^ 64 ≤ value * 10 + digit_value (get_or ds i 0) → digits_value 10 ds < 2 ^ 64 → ⊥
 above ds i value lt is over small =
     let more = digits_value_more 10 ds i lt in
