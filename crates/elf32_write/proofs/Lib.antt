@@ -15,8 +15,10 @@ pub mod Room
 pub mod SectionsBack
 pub mod SoundBack
 pub mod SoundParts
+pub mod SoundWords
 pub mod Stages
 pub mod SymbolsBack
 pub mod SymbolsMore
+pub mod WordsWritten
 pub mod WritableRoom
 pub mod Zipped

@@ -43,7 +43,7 @@ sound_section flags count few s w =
 sound_symbol : (parts : ObjectParts) (s : SymbolParts) → IsSoundSymbol parts s → IsWritableSymbol s
 sound_symbol parts s w = record { name = w.name; info = record { bind = omega (arith, w.bind); kind = w.kind } }
 
-known_flags : (flags : ℕ) → are_known_flags flags ≡ true → flags < 2 ^ 32
+pub known_flags : (flags : ℕ) → are_known_flags flags ≡ true → flags < 2 ^ 32
 known_flags flags known =
     let small : (n : ℕ) → (flags == n) ≡ true → n < 2 ^ 32 → flags < 2 ^ 32 = λ n is lt. omega (arith, eqb-true flags n is, lt) in
     elim (or_cases (flags == 0 || flags == 0x1 || flags == 0x10) (flags == 0x11) known) [
@@ -57,17 +57,23 @@ known_flags flags known =
       | inr is ↦ small 0x11 is (omega arith)
     ]
 
-pub sound_readable : (parts : ObjectParts) → AreSoundParts parts → IsPartsSized parts.sections parts.symbols → IsReadable parts
-sound_readable parts w sized =
+pub sound_sections : (parts : ObjectParts) → AreSoundParts parts → All IsWritableSection parts.sections
+sound_sections parts w =
     let few : 1 + length parts.symbols < 2 ^ 24 = omega (arith, symbols_within parts.sections parts.symbols, w.size) in
-    record {
-      flags = known_flags parts.flags w.flags;
-      count = omega (arith, w.count);
-      size = w.size;
-      sized = sized;
-      sections = All-weaker (IsSoundSection parts.flags (1 + length parts.symbols)) IsWritableSection (sound_section parts.flags (1 + length parts.symbols) few) parts.sections w.sections;
-      symbols = All-weaker (IsSoundSymbol parts) IsWritableSymbol (sound_symbol parts) parts.symbols w.symbols;
-    }
+    All-weaker (IsSoundSection parts.flags (1 + length parts.symbols)) IsWritableSection (sound_section parts.flags (1 + length parts.symbols) few) parts.sections w.sections
+
+pub sound_symbols : (parts : ObjectParts) → AreSoundParts parts → All IsWritableSymbol parts.symbols
+sound_symbols parts w = All-weaker (IsSoundSymbol parts) IsWritableSymbol (sound_symbol parts) parts.symbols w.symbols
+
+pub sound_readable : (parts : ObjectParts) → AreSoundParts parts → IsPartsSized parts.sections parts.symbols → IsReadable parts
+sound_readable parts w sized = record {
+  flags = known_flags parts.flags w.flags;
+  count = omega (arith, w.count);
+  size = w.size;
+  sized = sized;
+  sections = sound_sections parts w;
+  symbols = sound_symbols parts w;
+}
 
 not_symbols : (kind : ℕ) → can_be_given kind ≡ true → nat_eq kind 2 ≡ false
 not_symbols kind given =
