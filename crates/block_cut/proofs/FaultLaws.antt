@@ -1,17 +1,21 @@
 -- The first fault: those between objects come first, then those of relocations, then a missing start, then branches that don't reach.
-use Rattle.std.proofs.Common.{◌≡◌, ℕ, cond, Option, Some, None, is_none, refl, sym, ap, ◌∙◌}
+use Rattle.std.proofs.Common.{◌≡◌, ℕ, cond, map, Option, Some, None, is_none, refl, sym, ap, ◌∙◌}
 use Rattle.std.specs.List.{find}
 use Rattle.std.specs.Option.{option_map, option_or, unwrap_or}
 use Rattle.zc_base.specs.declared.place.Place.{Place}
 use Rattle.elf32_read.specs.declared.fault.Fault.{Fault}
 use Rattle.elf32_read.specs.declared.fault.Fault.TheVariants.{NoEntry, Range}
-use Rattle.psabi_sym.specs.Faults.{gather_fault}
+use Rattle.elf32_read.specs.Parts.{SectionParts}
+use Rattle.psabi_sym.specs.Faults.{first_some, gather_fault}
+use Rattle.psabi_sym.specs.Indexed.{section_at, sections_before}
 use Rattle.psabi_sym.specs.Inputs.{Inputs, ParsedInputs, parsed}
 use Rattle.psabi_sym.specs.LinkFault.{IsRefusal}
 use Rattle.psabi_sym.specs.declared.link_fault.LinkFault.{LinkFault}
 use Rattle.psabi_sym.specs.declared.link_fault.LinkFault.TheVariants.{Object, OutOfMemory}
-use Rattle.block_cut.specs.Faults.{entry_fault, first_fault, is_out_of_reach, range_fault, relocs_fault}
+use Rattle.block_cut.specs.Faults.{entry_fault, first_fault, is_out_of_reach, range_fault, relocs_fault, section_fault}
 use Rattle.block_cut.specs.Items.{all_places, entry_in, entry_of}
+use Rattle.block_cut.proofs.FirstLaws.{none_within}
+use Rattle.block_cut.proofs.ListedLaws.{cut_at, listed}
 
 -- ---- the first fault
 
@@ -83,3 +87,12 @@ faultless inputs none =
     by (Some p) is rest gathered fine =
         let range = neither (range_fault (parsed inputs)) None rest in
         record { gathered = gathered; relocs = fine; entry = p; entry_found = is; near = mapped (find (is_out_of_reach (parsed inputs)) (all_places (parsed inputs).objects)) range.0 }
+
+-- ---- relocations
+
+-- if none of all sections has a fault, this one doesn't
+pub section_fine : (inputs : ParsedInputs) → relocs_fault inputs ≡ None → (o i : ℕ) (s : SectionParts) → section_at inputs.objects o i ≡ Some s → section_fault inputs (listed o i s) ≡ None
+unfolding relocs_fault
+section_fine inputs fine o i s at =
+    let cut = cut_at inputs.objects o i s at in
+    none_within (section_fault inputs) (sections_before inputs.objects o i) (listed o i s) cut.rest (ap (λ l. first_some (map (section_fault inputs) l)) (sym cut.all_are) ∙ fine)

@@ -3,6 +3,7 @@ use Rattle.std.proofs.Common.{◌≡◌, ℕ, ◌+◌, ◌<◌, ◌≤◌, ◌/�
 use Rattle.std.specs.Prelude.{Contains, ◌&&◌, ◌||◌}
 use Rattle.std.specs.List.{flat_map, list_any}
 use Rattle.std.specs.Option.{option_map, option_map_or}
+use Rattle.std.proofs.Math.Bool.{or-false, or_assoc}
 use Rattle.std.proofs.lemmas.Bool.{and_parts, cases_eq, eq-eqb, eqb-false, eqb-true, false≢true, ne_eqb}
 use Rattle.std.proofs.lemmas.List.{get_or-set_other, get_or-set_same, length-map, take_all}
 use Rattle.std.proofs.lemmas.List.Elements.{Contains-push_cases}
@@ -17,6 +18,7 @@ use Rattle.psabi_sym.specs.Inputs.{Inputs, ParsedInputs, parsed}
 use Rattle.psabi_sym.specs.Indexed.{IndexedSection, IndexedSymbol, IsSectionNumber, all_sections, all_symbols, section_at, symbols_in}
 use Rattle.psabi_sym.specs.Invariants.Rows.{section_starts}
 use Rattle.psabi_sym.proofs.FlatLaws.{length-parsed, parsed_more, symbols_push}
+use Rattle.psabi_sym.proofs.UsedLaws.{any_next}
 use Rattle.psabi_sym.proofs.SectionNumbers.{has_number, listed_at, number_of_section}
 use Rattle.block_cut.specs.Items.{code_at, is_target_at, item_at, item_in, next_at, place_of, places_of, size_at, starts_in, starts_on, target_of, targets_in}
 use Rattle.block_cut.specs.Leaders.{ends_block, goes_to, is_leader_at, is_place, item_leads, reloc_leads, section_leads}
@@ -30,25 +32,9 @@ use Rattle.block_cut.proofs.ApartLaws.{contains_at}
 use Rattle.block_cut.proofs.ItemLaws.{item_at-code}
 use Rattle.block_cut.proofs.ListedLaws.{listed}
 use Rattle.block_cut.proofs.StartLaws.{start_is}
-use Rattle.block_cut.proofs.TakeLaws.{take_next}
 use Rattle.block_cut.proofs.WholeLaws.{code_at_is, inputs_whole}
 
--- ---- tests
-
-pub or_false : (b : Bool) → (b || false) ≡ b
-or_false true = refl
-or_false false = refl
-
-pub or_assoc : (a b c : Bool) → ((a || b) || c) ≡ (a || (b || c))
-or_assoc true b c = refl
-or_assoc false b c = refl
-
 -- ---- lists
-
--- a test of the first k + 1 elements is a test of the first k and of the next one
-pub any_next : {X : Type 0} (p : X → Bool) (xs : List X) (k : ℕ) (x : X) → slice_get xs k ≡ Some x → list_any p (take (k + 1) xs) ≡ (list_any p (take k xs) || p x)
-any_next p xs k x at =
-    ap (list_any p) (take_next xs k x at) ∙ list_any-append p (take k xs) (x ∷ []) ∙ ap (λ b. list_any p (take k xs) || b) (or_false (p x))
 
 -- a test of all that the elements have
 pub any_flat : {X Y : Type 0} (p : Y → Bool) (h : X → List Y) (xs : List X) → list_any p (flat_map h xs) ≡ list_any (λ x. list_any p (h x)) xs
@@ -171,7 +157,7 @@ marked_more objects sections p k new marked even number within here q = by (eqb 
 module _ (objects : List ObjectParts) where
   -- none
   pub adds_none : (leaders : Leaders) → AddsPlaces objects (λ q. false) leaders leaders
-  adds_none leaders q = sym (or_false (has_place objects leaders q))
+  adds_none leaders q = sym (or-false (has_place objects leaders q))
 
   -- by a test that says the same
   pub adds_same : (f g : Place → Bool) (old new : Leaders) → ((q : Place) → f q ≡ g q) → AddsPlaces objects f old new → AddsPlaces objects g old new
@@ -263,7 +249,7 @@ module _ (inputs : Inputs) (l : IndexedSection) (none : gather_fault inputs ≡ 
         let f : ℕ → Bool = λ n. item_leads (parsed inputs) q (place_of l n) in
         list_any-append f (starts_in l.section) (length l.section.bytes ∷ [])
         ∙ ap (λ b. list_any f (starts_in l.section) || (b || false)) (item_leads_none (parsed inputs) (place_of l (length l.section.bytes)) end_none q)
-        ∙ or_false (list_any f (starts_in l.section))
+        ∙ or-false (list_any f (starts_in l.section))
         ∙ any_mapped (item_leads (parsed inputs) q) (place_of l) (starts_in l.section)
 
   -- places of a section are few

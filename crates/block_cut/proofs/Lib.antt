@@ -1,4 +1,5 @@
 mod ApartLaws
+pub mod AskingLaws
 pub mod DataLaws
 pub mod FaultLaws
 pub mod FieldLaws

@@ -24,7 +24,8 @@ use Rattle.block_cut.proofs.ItemLaws.{item_at-code}
 use Rattle.block_cut.proofs.PlainLaws.{address_range}
 use Rattle.block_cut.proofs.RoomLaws.{plain_end-fits}
 use Rattle.block_cut.proofs.TakeLaws.{cut_at_next, take_next}
-use Rattle.block_cut.proofs.WordLaws.{code_here, end_other, found_next, or_none}
+use Rattle.block_cut.proofs.WordLaws.{code_here, end_other, found_next}
+use Rattle.psabi_sym.proofs.Tables.{or_none}
 
 -- ---- a place
 

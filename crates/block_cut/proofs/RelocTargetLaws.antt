@@ -4,7 +4,8 @@ use Rattle.std.specs.Prelude.{is_some, ◌&&◌, ◌||◌, not}
 use Rattle.std.specs.List.{list_any}
 use Rattle.block_cut.specs.Invariants.Led.{is_marked, mark_in, section_number}
 use Rattle.std.specs.Option.{option_map_or, option_map}
-use Rattle.std.proofs.lemmas.Bool.{cases_lt, eq-eqb, eqb-true, false≢true}
+use Rattle.std.proofs.Math.Bool.{or-false, or_assoc}
+use Rattle.std.proofs.lemmas.Bool.{cases_lt, eq-eqb, eqb-true, false≢true, or_parts}
 use Rattle.std.proofs.lemmas.List.{get_or_past}
 use Rattle.std.proofs.lemmas.List.Folds.{list_any-append, list_any_at}
 use Rattle.std.proofs.lemmas.Option.{get_or_from_slice_get, slice_get_within}
@@ -28,7 +29,6 @@ use Rattle.block_cut.specs.Invariants.HalfwordTables.{by_halfword, number_on, nu
 use Rattle.block_cut.specs.declared.resolved_reloc.RelocFault.{RelocFault}
 use Rattle.block_cut.specs.declared.resolved_reloc.ResolvedReloc.{ResolvedReloc}
 use Rattle.block_cut.proofs.JudgeLaws.{section_resolved}
-use Rattle.block_cut.proofs.LedLaws.{or_assoc, or_false}
 use Rattle.block_cut.proofs.StrayLaws.{placed_lead}
 use Rattle.block_cut.proofs.WholeLaws.{code_at_is}
 use Rattle.block_cut.proofs.WordLaws.{number_got, some_target}
@@ -37,12 +37,7 @@ use Rattle.block_cut.proofs.WordLaws.{number_got, some_target}
 
 -- a test of a list with one element more at its end
 pub any_pushed : {X : Type 0} (p : X → Bool) (xs : List X) (x : X) → (list_any p xs || p x) ≡ list_any p (xs ++ x ∷ [])
-any_pushed p xs x = sym (list_any-append p xs (x ∷ []) ∙ ap (λ b. list_any p xs || b) (or_false (p x)))
-
--- if none of two holds
-or_none : (a b : Bool) → (a || b) ≡ false → (a ≡ false) × (b ≡ false)
-or_none true b none = absurd cc
-or_none false b none = (refl, none)
+any_pushed p xs x = sym (list_any-append p xs (x ∷ []) ∙ ap (λ b. list_any p xs || b) (or-false (p x)))
 
 -- what follows if both hold
 pub when_both : {A : Type 0} (a b : Bool) → (a && b) ≡ true → (a ≡ true → b ≡ true → A) → A
@@ -87,7 +82,7 @@ fine_all : (objects : List ObjectParts) (i : ℕ) (ds : List ResolvedReloc) → 
     → first_some (map (resolved_fault objects i) ds) ≡ None
 fine_all objects i [] right leads = refl
 fine_all objects i (d ∷ ds) right leads =
-    let two = or_none (is_wrong d) (list_any is_wrong ds) right in
+    let two = or_parts (is_wrong d) (list_any is_wrong ds) right in
     let here = fine_one objects i d two.0 (λ q is. leads q (ap (λ b. b || list_any (λ e. is_place q e.target) ds) is)) in
     let rest = fine_all objects i ds two.1 (λ q is. leads q (ap (λ b. is_place q d.target || b) is ∙ last (is_place q d.target))) in
     first here ∙ rest

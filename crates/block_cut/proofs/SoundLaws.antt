@@ -96,7 +96,7 @@ sound_parts s r code sound =
     ap (λ b. b && (ltb s.size (field_end r) || (not (is_placed s r) || overlaps_another s.relocs r))) (sym two.0) ∙ good in
     let places = or_parts (ltb s.size (field_end r)) _ fine in
     let placed = or_parts (not (is_placed s r)) (overlaps_another s.relocs r) places.1 in
-    let is : (not (is_code_section s) || ((eqb (r.offset % code_step s.compressed) 0) && fits_at s r.offset r.addend k)) ≡ true = not_false (is_placed s r) placed.0 in
+    let is : (not (is_code_section s) || ((eqb (r.offset % code_step s.compressed) 0) && fits_at s r.offset r.addend k)) ≡ true = not-false (is_placed s r) placed.0 in
     let there : ((eqb (r.offset % code_step s.compressed) 0) && fits_at s r.offset r.addend k) ≡ true =
     ap (λ b. not b || ((eqb (r.offset % code_step s.compressed) 0) && fits_at s r.offset r.addend k)) (sym code) ∙ is in
     let ends = and_parts (eqb (r.offset % code_step s.compressed) 0) (fits_at s r.offset r.addend k) there in
@@ -109,10 +109,6 @@ sound_parts s r code sound =
       words = eqb-true (r.offset % code_step s.compressed) 0 ends.0;
       inside = ltb-false s.size (field_end r) places.0;
     }
-  where
-    not_false : (b : Bool) → not b ≡ false → b ≡ true
-    not_false true h = refl
-    not_false false h = absurd cc
 
 -- the relocation at an offset of code is sound there
 pub sound_at : (s : SectionParts) (n : ℕ) (r : Reloc) → is_code_section s ≡ true → reloc_on s n ≡ Some r → IsSoundAt s n r

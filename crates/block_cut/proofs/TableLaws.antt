@@ -18,7 +18,8 @@ use Rattle.block_cut.specs.Invariants.HalfwordTables.{IsRelocTable, numbered}
 use Rattle.block_cut.specs.CodeSizes.{own_size}
 use Rattle.block_cut.specs.declared.resolved_reloc.ResolvedReloc.{ResolvedReloc}
 use Rattle.block_cut.proofs.ResolvedLaws.{resolved_at, resolved_on}
-use Rattle.block_cut.proofs.WordLaws.{found_next, or_none}
+use Rattle.block_cut.proofs.WordLaws.{found_next}
+use Rattle.psabi_sym.proofs.Tables.{or_none}
 
 -- the table after k relocations
 pub record IsTableSoFar (relocs : List ResolvedReloc) (count k : ℕ) (table : List ℕ) : Type 0 where

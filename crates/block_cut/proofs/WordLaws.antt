@@ -86,10 +86,6 @@ found_next p xs k x at =
     ap (find p) (take_more xs k x within ∙ ap (λ y. take k xs ++ y ∷ []) (get_or_from_slice_get xs k x x at))
     ∙ find-append p (take k xs) (x ∷ [])
 
-pub or_none : {X : Type 0} (o : Option X) → option_or o None ≡ o
-or_none None = refl
-or_none (Some x) = refl
-
 -- ---- the walk
 
 -- the next place that code may lead to from an offset on

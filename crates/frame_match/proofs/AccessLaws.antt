@@ -20,7 +20,7 @@ use Rattle.frame_match.proofs.MemberLaws.{all_from, all_get, any_get, get_drop, 
 
 -- ---- slots
 
--- the registers of the list that leaves out n registers
+-- the registers of the list without n registers
 regs_is : (n : ℕ) → IsKnown n → registers_of (list_leaving_out n) ≡ drop n saved_registers
 regs_is zero k = refl
 regs_is (suc m) k =
@@ -69,7 +69,7 @@ access_from which d i h =
     ap (λ o. option_map_or (λ (e : Slot). eqb e.offset d.offset && eqb e.register d.register) o false) h
     ∙ and_from (eqb d.offset d.offset) (eqb d.register d.register) (eq-eqb d.offset d.offset refl) (eq-eqb d.register d.register refl)
 
--- ---- both ways
+-- ---- the definition's test and `Fills` agree
 
 -- the instructions from an index on, as many as the list has registers
 abbrev part : ℕ → List Instr → ℕ → List Instr
@@ -115,7 +115,7 @@ fills_known which bytes n is from k h = record { each = each; all = all }
         let at : w.0 + n < 13 = omega (arith, b, c, p.0) in
         (w.0, at, (small, ap (slot_accessed which) (sym (part_get n is from w.0 k at) ∙ w.2) ∙ access_known which (frame_slot bytes n j) w.1 w.3))
 
--- an instruction that uses a slot is there
+-- if a slot is used at an index, there is an instruction at that index
 there : (which : Access) (o : Option Instr) (d : Slot) → slot_accessed which o ≡ Some d → (i : Instr) × (o ≡ Some i)
 there which None d h = absurd (none-some d h)
 there which (Some i) d h = (i, refl)

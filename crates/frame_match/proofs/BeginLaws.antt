@@ -1,51 +1,44 @@
--- Instructions whose first can't begin a push, a pop or moves come to none of these (`nothing_begins`).
-use Rattle.std.proofs.Common.{◌≡◌, ◌∙◌, ℕ, ◌+◌, List, [], ◌∷◌, Option, Some, None, Bool, true, false, refl, sym, ap, subst, arith}
-use Rattle.std.specs.Prelude.{◌||◌}
-use Rattle.std.specs.List.{fold, slice_get}
-use Rattle.std.specs.Option.{is_some, option_and_then, option_map, option_map_or}
+-- If the first of some instructions can't begin a push, a pop or moves, they begin with none of these
+-- (`nothing_begins`).
+use Rattle.std.proofs.Common.{◌≡◌, ◌∙◌, ℕ, ◌+◌, List, [], ◌∷◌, Option, Some, None, true, false, refl, sym, ap, arith}
+use Rattle.std.specs.List.{slice_get}
+use Rattle.std.specs.Option.{is_some, option_and_then, option_map}
+use Rattle.std.proofs.lemmas.Bool.{or_parts}
 use Rattle.std.proofs.lemmas.Option.{none-some}
 use Rattle.psabi_sym.specs.Inputs.{ParsedInputs}
 use Rattle.psabi_sym.specs.Indexed.{IndexedSection}
 use Rattle.rv_decode.specs.declared.instr.Instr.{Instr}
 use Rattle.block_cut.specs.declared.code_place.CodePlace.{CodePlace}
-use Rattle.frame_match.specs.Groups.{op_then, ops_behind, spot_on, Spot}
-use Rattle.frame_match.specs.Matches.{before, either_pair, is_begun, longer_of, longest_of, moves_in, pops_in, pushes_in}
+use Rattle.block_cut.proofs.OrderLaws.{none_there}
+use Rattle.frame_match.specs.Groups.{op_then, ops_behind, spot_on}
+use Rattle.frame_match.specs.Matches.{before, either_pair, is_begun, longest_of, moves_in}
 use Rattle.frame_match.specs.Read.{slot_accessed, is_zero, is_zero_instr, lowered, move_of, moved, slot_of}
 use Rattle.frame_match.specs.Invariants.Frames.{IsSlot}
 use Rattle.frame_match.specs.Invariants.Kinds.{IsPop, IsPush, longer_or}
-use Rattle.frame_match.specs.Invariants.Runs.{ArePlacesOf, begins_with, may_begin, op_in, run_from, spots_of}
+use Rattle.frame_match.specs.Invariants.Runs.{ArePlacesOf, begins_with, op_in, run_from, spots_of}
 use Rattle.frame_match.specs.declared.found.Ending.{Ending}
 use Rattle.frame_match.specs.declared.found.Ending.TheVariants.{GoesOn, Returns, ZeroFirst, ZeroBeforeRaise, ZeroBeforeReturn}
 use Rattle.frame_match.specs.declared.found.Found.{Found}
 use Rattle.frame_match.specs.declared.slot.Access.TheVariants.{Restores}
 use Rattle.frame_match.proofs.FoundLaws.{longest_split, pop_longest, push_longest}
 
--- what such an instruction isn't
+-- an instruction that can't begin a group: it doesn't lower sp, restore a register, move one or set a0 to 0
 record BeginsNothing (i : Option Instr) : Type 0 where
   lowers : lowered i ≡ None
   loads : slot_accessed Restores i ≡ None
   moves : moved i ≡ None
   zero : is_zero i ≡ false
 
-is_none : {X : Type 0} (o : Option X) → is_some o ≡ false → o ≡ None
-is_none None h = refl
-is_none (Some x) h = absurd cc
-
-neither : (a b : Bool) → (a || b) ≡ false → (a ≡ false) × (b ≡ false)
-neither false false h = (refl, refl)
-neither false true h = absurd cc
-neither true b h = absurd cc
-
 begins_nothing : (i : Option Instr) → begins_with i ≡ false → BeginsNothing i
 begins_nothing None h = record { lowers = refl; loads = refl; moves = refl; zero = refl }
 begins_nothing (Some i) h =
-    let one = neither (is_some (slot_of Restores i)) _ h in
-    let two = neither (is_some (move_of i)) _ one.1 in
-    let three = neither (is_some (lowered (Some i))) (is_zero_instr i) two.1 in
+    let one = or_parts (is_some (slot_of Restores i)) _ h in
+    let two = or_parts (is_some (move_of i)) _ one.1 in
+    let three = or_parts (is_some (lowered (Some i))) (is_zero_instr i) two.1 in
     record {
-      lowers = is_none (lowered (Some i)) three.0;
-      loads = is_none (slot_of Restores i) one.0;
-      moves = is_none (move_of i) two.0;
+      lowers = none_there (lowered (Some i)) three.0;
+      loads = none_there (slot_of Restores i) one.0;
+      moves = none_there (move_of i) two.0;
       zero = three.1;
     }
 
@@ -78,7 +71,7 @@ nothing_begins is h = none_found is (begins_nothing (slice_get is 0) h)
 
 -- ---- at a place
 
--- the first instruction of a run is that of the first place
+-- the first instruction of a run is the instruction of its first place
 first_op : (inputs : ParsedInputs) (l : IndexedSection) (ps : List CodePlace) → ArePlacesOf inputs l ps → begins_with (option_and_then op_in (slice_get ps 0)) ≡ false
     → begins_with (slice_get (run_from (spots_of inputs l ps)) 0) ≡ false
 first_op inputs l [] are h = refl

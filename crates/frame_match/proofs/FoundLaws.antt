@@ -1,4 +1,4 @@
--- What instructions begin with, by where they stand.
+-- The pushes and pops that instructions begin with, by the indices of their instructions.
 use Rattle.std.proofs.Common.{◌≡◌, ◌∙◌, ℕ, ◌+◌, List, [], ◌∷◌, ◌++◌, Option, Some, None, cond, length, refl, sym, ap, arith, subst, inl, inr}
 use Rattle.std.specs.Prelude.{◌&&◌, IfSome}
 use Rattle.std.specs.List.{flat_map, fold, slice_get}
@@ -56,7 +56,7 @@ push_from is g p =
     subst (λ o. In g (option_map_or (λ bytes. flat_map (λ n. push_in is n bytes) lists) o [])) (sym p.lowers)
     (in_flat_map (λ n. push_in is n p.bytes) lists list g (in_range 4 12 list k.low (omega (arith, h))) i)
 
--- the one push is the longest
+-- there is at most one push, so it is the longest
 pub push_longest : (is : List Instr) (r : Option Found) → IfSome r (λ g. IsPush is g) → ((g : Found) → IsPush is g → r ≡ Some g)
     → fold longer_of None (pushes_in is) ≡ r
 push_longest is r known each =

@@ -1,4 +1,4 @@
--- What a frame that is used from an index on says of the instructions there.
+-- What follows for the instructions from an index on if they use the slots of a frame.
 use Rattle.std.proofs.Common.{◌≡◌, ℕ, ◌+◌, ◌*◌, ◌≤◌, ◌%◌, List, Option, true, arith, eqb, leb}
 use Rattle.std.specs.List.{slice_get}
 use Rattle.std.proofs.lemmas.Bool.{and_parts, eqb-true, leb-true}

@@ -1,5 +1,5 @@
--- What others need of groups: a group has 2 to 16 items, all in its section; the items behind its first are inside it, and no
--- basic block begins at these.
+-- What other crates need to know of groups: a group has 2 to 16 items, all in its section; the items after its first
+-- are inside it, and no basic block begins at these.
 use Prim.Native.Nat.{zero}
 use Rattle.std.proofs.Common.{◌≡◌, ◌∙◌, ℕ, suc, ◌+◌, ◌-◌, ◌<◌, ◌≤◌, List, [], ◌∷◌, ◌++◌, Option, Some, None, Bool, true, false, cond, drop, length, map, ltb, refl, sym, ap, arith, subst, inl, inr}
 use Rattle.std.specs.Prelude.{◌⊎◌, ◌&&◌}
@@ -34,7 +34,7 @@ use Rattle.frame_match.proofs.MemberLaws.{in_cases, In}
 use Rattle.frame_match.proofs.RunLaws.{get_map}
 use Rattle.frame_match.proofs.TailLaws.{if_known}
 
--- ---- instructions that are there
+-- ---- the instructions of a group exist
 
 some_within : (is : List Instr) (k : ℕ) → is_some (slice_get is k) ≡ true → k < length is
 some_within [] k h = absurd cc
@@ -73,7 +73,7 @@ push_sized is g p =
     let last = some_within is (1 + (12 - p.left_out)) (some_used Saves (slice_get is (1 + (12 - p.left_out))) _ w.1.1) in
     record { least = omega (arith, c, small, items); most = omega (arith, c, small, items); within = omega (arith, c, small, items, last) }
 
--- the last instruction of a pop is there
+-- the last instruction of a pop exists
 pop_last : (e : Ending) (is : List Instr) (n b : ℕ) → frame_at e is n ≡ Some b → n + ending_items e ≤ length is
 pop_last GoesOn is n b h = let l = some_within is n (some_raised (slice_get is n) b h) in omega (arith, l)
 pop_last Returns is n b h =
@@ -166,7 +166,7 @@ longest_sized is g h = by (fold_in (all_found is) None g h)
 
 -- ---- roles
 
--- an item that is joined to those before it is no leader, and leaves fewer
+-- an item that goes on a run is no leader, and fewer items are left after it
 joined : (left : ℕ) (s : Spot) (ss : List Spot) → suc left ≤ length (ops_behind (s ∷ ss)) → (s.leader ≡ false) × (left ≤ length (ops_behind ss))
 joined left s ss h = by s.leader s.op refl h
   where
@@ -176,7 +176,7 @@ joined left s ss h = by s.leader s.op refl h
     by false (Some i) e h = (e, omega (arith, h))
 
 -- a group has no more items after its first than there are instructions
-left_within : (s : Spot) (ss : List Spot) → items_behind (group_role s.place (longest_of (ops_from s ss))) ≤ length (ops_behind ss)
+pub left_within : (s : Spot) (ss : List Spot) → items_behind (group_role s.place (longest_of (ops_from s ss))) ≤ length (ops_behind ss)
 left_within s ss = by (longest_of (ops_from s ss)) refl
   where
     few : (o : Option Instr) → length (op_then o (ops_behind ss)) ≤ 1 + length (ops_behind ss)
@@ -209,9 +209,17 @@ inside_no_leader inputs l j n code r g =
     let roles = sym (ap (λ b. slice_get (cond b (roles_from 0 (map (spot_on inputs l) (starts_in l.section))) []) j) code) ∙ r in
     inside_leads_not 0 (map (spot_on inputs l) (starts_in l.section)) j (spot_on inputs l n) (omega arith) roles (get_map (spot_on inputs l) (starts_in l.section) j n g)
 
+-- there are as many roles as items
+pub roles_count : (left : ℕ) (ss : List Spot) → length (roles_from left ss) ≡ length ss
+roles_count zero [] = refl
+roles_count (suc left) [] = refl
+roles_count zero (s ∷ ss) = ap suc (roles_count (items_behind (group_role s.place (longest_of (ops_from s ss)))) ss)
+roles_count (suc left) (s ∷ ss) = ap suc (roles_count left ss)
+
 -- ---- groups
 
-ops_few : (ss : List Spot) → length (ops_behind ss) ≤ length ss
+-- no more instructions stand behind an item than items
+pub ops_few : (ss : List Spot) → length (ops_behind ss) ≤ length ss
 ops_few [] = omega arith
 ops_few (s ∷ ss) = by s.leader s.op (ops_few ss)
   where
@@ -226,8 +234,8 @@ insides (suc left) [] k less within = absurd (omega (arith, within))
 insides (suc left) (s ∷ ss) zero less within = refl
 insides (suc left) (s ∷ ss) (suc k) less within = insides left ss k (omega (arith, less)) (omega (arith, within))
 
--- a group that starts at an item is the longest that its instructions and those behind it begin with, and the items behind it are
--- inside it
+-- a group that starts at an item is the longest that the instructions from there on begin with, and the items after
+-- its first are inside it
 pub record StartsGroup (spots : List Spot) (roles : List Role) (j : ℕ) (g : Group) : Type 0 where
   pub spot : Spot
   pub rest : List Spot

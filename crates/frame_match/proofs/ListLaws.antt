@@ -1,4 +1,4 @@
--- The register lists, by how many of the 13 registers each leaves out: all are computed.
+-- The register lists, by how many of the 13 registers are missing from each. All facts are computed.
 use Rattle.std.proofs.Common.{◌≡◌, ◌≢◌, ◌∙◌, ℕ, ◌+◌, ◌-◌, ◌*◌, ◌≤◌, Bool, true, length, refl, sym, ap, arith, eqb, ltb, leb, not}
 use Rattle.std.specs.Prelude.{◌&&◌, ◌||◌}
 use Rattle.std.proofs.lemmas.Bool.{agree_below_at, and_parts, eqb-true, eqb-false, leb-true, ltb-true, not-true, or_cases}
@@ -7,7 +7,7 @@ use Rattle.std.proofs.Common.{inl, inr}
 use Rattle.zc_decode.specs.Lists.{stack_adjust_base, registers_of}
 use Rattle.frame_match.specs.Invariants.Frames.{list_leaving_out, IsKnown}
 
--- the list that leaves out `left_out` registers has the others, and a frame of its least size has room for them
+-- the list without `left_out` registers has the others, and its smallest frame has room for them
 pub record KnownFacts (left_out : ℕ) : Type 0 where
   pub low : 4 ≤ list_leaving_out left_out
   pub high : list_leaving_out left_out ≤ 15
@@ -33,7 +33,7 @@ known_facts n k = by (or_cases (eqb n 1) _ (agree_below_at tests (λ m. true) 13
         let r = and_parts (eqb (length (registers_of (list_leaving_out n)) + n) 13) _ q.1 in
         record { low = leb-true _ _ p.0; high = leb-true _ _ q.0; count = eqb-true _ _ r.0; room = leb-true _ _ r.1 }
 
--- each list leaves out such a number
+-- how many of the 13 registers are missing from a list
 pub record ListFacts (list : ℕ) : Type 0 where
   pub left_out : ℕ
   pub known : IsKnown left_out

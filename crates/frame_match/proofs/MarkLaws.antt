@@ -20,7 +20,7 @@ take_next (suc k) (y ∷ ys) x h =
 abbrev pub firsts : (IndexedSection → List Role) → IndexedSection → List Group
 firsts f l = flat_map starting_group (f l)
 
--- the marks of one section more, before which come all groups so far
+-- the marks of one more section, after all groups so far
 section_marks_more : (f : IndexedSection → List Role) (n : ℕ) (ls : List IndexedSection) (l : IndexedSection)
     → section_marks n (map f (ls ++ l ∷ [])) ≡ section_marks n (map f ls) ++ marks_from (n + length (flat_map (firsts f) ls)) (f l) ∷ []
 section_marks_more f n [] l = let e : n ≡ n + 0 = omega arith in ap (λ m. marks_from m (f l) ∷ []) e

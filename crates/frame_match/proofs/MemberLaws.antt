@@ -107,7 +107,7 @@ any_get p (y ∷ ys) h = by (or_cases (p y) (list_any p ys) h) (λ g. any_get p 
 
 -- ---- the longest
 
--- members of what is left, and the one that was kept
+-- the longest of the members of a list and of the best one so far
 longest_from : (xs : List Found) (kept r : Option Found) → IfSome r (λ g. (kept ≡ Some g) ⊎ In g xs)
     → ((g : Found) → (kept ≡ Some g) ⊎ In g xs → Beats r g) → fold longer_of kept xs ≡ r
 longest_from [] kept r known each = by kept r known each
@@ -130,7 +130,7 @@ longest_from (x ∷ xs) kept r known each = longest_from xs (longer_of kept x) r
         by true e = inr (inl (sym (same_Some x g e)))
         by false e = inl e
 
-    -- the best stays
+    -- the best member so far stays the best
     stays : (g : Found) → ((h : Found) → (kept ≡ Some h) ⊎ In h (x ∷ xs) → Beats (Some g) h) → kept ≡ Some g → longer_of kept x ≡ Some g
     stays g each e = ap (λ k. longer_of k x) e ∙ ap (λ b. cond b (Some x) (Some g)) (le-ltb g.items x.items (most (each x (inr (inl refl)))))
       where
@@ -144,7 +144,7 @@ longest_from (x ∷ xs) kept r known each = longest_from xs (longer_of kept x) r
             by (inl e) = let f = ap (λ (u : Found). u.items) e in let s = size in omega (arith, f, s)
             by (inr l) = let s = size in omega (arith, l, s)
 
-    -- a new best comes in, unless it was kept before
+    -- the next member becomes the best, or the best one stays
     comes : (kept : Option Found) → ((h : Found) → (kept ≡ Some h) ⊎ In h (x ∷ xs) → Beats (Some x) h) → longer_of kept x ≡ Some x
     comes None each = refl
     comes (Some a) each = by (each a (inl refl))

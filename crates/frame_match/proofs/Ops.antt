@@ -1,4 +1,4 @@
--- Instructions at places, each of which has one: they stand at the same indices.
+-- Instructions at places, where each place has one: an instruction has the same index as its place.
 use Prim.Native.Nat.{zero}
 use Rattle.std.proofs.Common.{◌≡◌, ◌∙◌, ℕ, suc, List, [], ◌∷◌, Option, Some, None, true, refl}
 use Rattle.std.specs.List.{slice_get}
@@ -8,7 +8,7 @@ use Rattle.block_cut.specs.declared.code_place.CodePlace.{CodePlace}
 use Rattle.frame_match.specs.Groups.{op_then}
 use Rattle.frame_match.specs.Invariants.Runs.{op_in, ops_of, HaveOps}
 
--- after one more instruction in front, the others have indices that are one larger
+-- with one more instruction before them, the indices of the others are larger by one
 get_then : (o : Option Instr) (is : List Instr) (n : ℕ) → is_some o ≡ true → slice_get (op_then o is) (suc n) ≡ slice_get is n
 get_then None is n h = absurd cc
 get_then (Some i) is n h = refl

@@ -1,4 +1,4 @@
--- A pop by what the code finds: the number of its loads, and its instructions after them.
+-- A pop as the code finds it: by the number of its loads, and by the instructions after them.
 use Rattle.std.proofs.Common.{◌≡◌, ◌∙◌, ℕ, ◌+◌, ◌<◌, List, Option, Some, Bool, true, false, cond, refl, sym, ap, arith, subst, inl, inr}
 use Rattle.std.specs.Prelude.{◌⊎◌}
 use Rattle.std.specs.List.{slice_get}
@@ -44,7 +44,7 @@ pub record PopFound (run : List Instr) (g : Found) (count : ℕ) : Type 0 where
 own_loads : (run : List Instr) (g : Found) (p : IsPop run g) (m : ℕ) → m < p.count → is_load run (before p.ending + m) ≡ true
 own_loads run g p m h = let w = p.framed.there.each m (omega (arith, p.size, h)) in ap is_some w.1.1
 
--- whether it sets a0 first is told by the first instruction
+-- the first instruction decides whether the pop sets a0 before its loads
 first_is : (run : List Instr) (g : Found) (p : IsPop run g) → zeroes_first p.ending ≡ is_zero (slice_get run 0)
 first_is run g p = by p.ending (own_loads run g p 0 (omega (arith, p.size, p.known.small))) p.begun
   where
@@ -88,12 +88,12 @@ pop_found run g count p l =
       found_is = p.found_is;
     }
 
--- the end that is found where a pop stands
+-- the end that is found for a pop
 pub found_best : (run : List Instr) (g : Found) (count : ℕ) (x : PopFound run g count)
     → BestTail (tail_at (is_zero (slice_get run 0)) run (start (is_zero (slice_get run 0)) + count)) x.ending x.bytes
 found_best run g count x = tail_best (is_zero (slice_get run 0)) run _ x.ending x.bytes x.first x.raises
 
--- what is found is a pop there
+-- what is found is a pop that the instructions begin with
 pub pop_made : (run : List Instr) (count left_out : ℕ) (t : Tail) → IsKnown left_out → count + left_out ≡ 13
     → Some t ≡ tail_at (is_zero (slice_get run 0)) run (start (is_zero (slice_get run 0)) + count)
     → IsFramed Restores t.bytes left_out run (start (is_zero (slice_get run 0))) → IsPop run (pop_of t.ending (list_leaving_out left_out) t.bytes)
@@ -113,7 +113,7 @@ pop_made run count left_out t known size is framed =
       found_is = refl;
     }
 
--- what is found has more items than any other pop there, or is it
+-- each pop that the instructions begin with has fewer items than what is found, or is what is found
 pub pop_beats : (run : List Instr) (g : Found) (count left_out : ℕ) (t : Tail) (h : Found) → PopFound run g count → count + left_out ≡ 13
     → Some t ≡ tail_at (is_zero (slice_get run 0)) run (start (is_zero (slice_get run 0)) + count)
     → h ≡ pop_of t.ending (list_leaving_out left_out) t.bytes → Beats (Some h) g

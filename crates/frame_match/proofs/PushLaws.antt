@@ -1,4 +1,4 @@
--- A push by what the code finds: the frame that the first instruction makes, and the list that the first store tells.
+-- A push as the code finds it: its frame by the first instruction, and its register list by the first store.
 use Rattle.std.proofs.Common.{◌≡◌, ◌∙◌, ℕ, ◌+◌, ◌*◌, ◌≤◌, List, Option, Some, sym, ap, subst}
 use Rattle.std.specs.List.{slice_get}
 use Rattle.std.proofs.lemmas.Option.{same_Some}

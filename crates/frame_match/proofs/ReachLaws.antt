@@ -1,4 +1,4 @@
--- What instructions come to is told by the first 16 of them.
+-- The longest group that instructions begin with depends only on the first 16 of them.
 use Rattle.std.proofs.Common.{◌≡◌, ◌∙◌, ℕ, ◌+◌, ◌-◌, ◌≤◌, List, [], ◌∷◌, ◌++◌, Option, Some, None, Bool, true, false, cond, length, take, drop, eqb, refl, sym, ap, arith}
 use Rattle.std.specs.Prelude.{◌&&◌}
 use Rattle.std.specs.List.{flat_map, fold, slice_get}
@@ -86,6 +86,6 @@ longest_taken : (is : List Instr) → longest_of (take 16 is) ≡ longest_of is
 unfolding longest_of
 longest_taken is = λ i. fold longer_of None (pushes_taken is i ++ (pops_taken is i ++ option_to_list (moves_taken is i)))
 
--- runs that are the same as far as a group may reach come to the same
+-- runs that are the same up to the length of the longest group begin with the same group
 pub longest_same : (xs ys : List Instr) → take 16 xs ≡ take 16 ys → longest_of xs ≡ longest_of ys
 longest_same xs ys h = sym (longest_taken xs) ∙ ap longest_of h ∙ longest_taken ys

@@ -1,4 +1,4 @@
--- Instructions that differ.
+-- Instructions that are used in groups in different ways are different.
 use Rattle.std.proofs.Common.{◌≡◌, ◌∙◌, ℕ, Option, Some, None, Bool, true, false, cond, refl, sym, ap, eqb}
 use Rattle.std.specs.Prelude.{◌&&◌}
 use Rattle.std.specs.Option.{is_some, option_and_then}
@@ -17,7 +17,7 @@ zero_raised (Some (WithImm Addi rd first imm)) h =
     ap (λ r. option_and_then up_by (cond (eqb r 2 && eqb first 2) (Some imm) None)) rd_is
 zero_raised _ h = absurd cc
 
--- nor is it a load
+-- `addi a0,x0,0` isn't a load
 pub zero_no_load : (i : Option Instr) → is_zero i ≡ true → is_some (slot_accessed Restores i) ≡ false
 zero_no_load (Some (WithImm Addi rd first imm)) h = refl
 zero_no_load _ h = absurd cc

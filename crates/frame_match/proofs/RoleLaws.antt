@@ -1,4 +1,4 @@
--- What is kept of an item tells its role, and there are no more groups than items.
+-- The mark of an item decides its role, and there are no more groups than items.
 use Prim.Native.Nat.{zero}
 use Rattle.std.proofs.Common.{◌≡◌, ◌∙◌, ℕ, suc, ◌+◌, ◌<◌, ◌≤◌, List, [], ◌∷◌, ◌++◌, Option, Some, None, Bool, true, false, cond, length, map, take, eqb, ltb, refl, sym, ap, arith, subst, length-append, inl, inr}
 use Rattle.std.specs.Prelude.{◌⊎◌, filter, slice_index_or}
@@ -18,14 +18,14 @@ use Rattle.block_cut.specs.Places.{IsPlaceNumber}
 use Rattle.block_cut.specs.declared.place_number.PlaceNumber.{PlaceNumber}
 use Rattle.block_cut.proofs.StartLaws.{before_end_all}
 use Rattle.block_cut.proofs.WholeLaws.{code_is_section, code_whole}
-use Rattle.frame_match.specs.Groups.{starting_group, groups_in, groups_of, items_behind, role_at, group_role, role_on, roles_from, roles_in, spot_on, Spot, ops_from}
-use Rattle.frame_match.specs.Matches.{longest_of}
+use Rattle.frame_match.specs.Groups.{starting_group, groups_in, groups_of, role_at, role_on, roles_from, roles_in, spot_on}
 use Rattle.frame_match.specs.Invariants.Marks.{marks_from, section_marks, ArePlanned}
 use Rattle.frame_match.specs.declared.group.Group.{Group}
 use Rattle.frame_match.specs.declared.mark.Mark.{Mark}
 use Rattle.frame_match.specs.declared.mark.Mark.TheVariants.{Apart, Start, Within}
 use Rattle.frame_match.specs.declared.role.Role.{Role}
 use Rattle.frame_match.specs.declared.role.Role.TheVariants.{Alone, First, Inside}
+use Rattle.frame_match.proofs.GroupLaws.{roles_count}
 use Rattle.frame_match.proofs.MarkLaws.{firsts}
 use Rattle.frame_match.proofs.MemberLaws.{get_some}
 
@@ -59,7 +59,7 @@ filter_few n (x ∷ xs) = by (ltb x n) (filter_few n xs)
     by true h = omega (arith, h)
     by false h = omega (arith, h)
 
--- a number that is among others isn't below itself
+-- if a number is a member of a list, not all members are below it
 filter_less : (n : ℕ) (xs : List ℕ) → list_any (λ m. eqb m n) xs ≡ true → length (filter (λ m. ltb m n) xs) < length xs
 filter_less n [] h = absurd cc
 filter_less n (x ∷ xs) h = by (or_cases (eqb x n) (list_any (λ m. eqb m n) xs) h) (λ g. filter_less n xs g)
@@ -78,12 +78,6 @@ filter_less n (x ∷ xs) h = by (or_cases (eqb x n) (list_any (λ m. eqb m n) xs
     by (inr g) rest = keep (ltb x n) (rest g)
 
 -- ---- roles
-
-roles_count : (left : ℕ) (ss : List Spot) → length (roles_from left ss) ≡ length ss
-roles_count zero [] = refl
-roles_count (suc left) [] = refl
-roles_count zero (s ∷ ss) = ap suc (roles_count (items_behind (group_role s.place (longest_of (ops_from s ss)))) ss)
-roles_count (suc left) (s ∷ ss) = ap suc (roles_count left ss)
 
 roles_length : (inputs : ParsedInputs) (l : IndexedSection) → is_code_section l.section ≡ true → length (roles_in inputs l) ≡ length (starts_in l.section)
 unfolding roles_in
@@ -124,7 +118,7 @@ section_get f n (m ∷ ms) (suc k) l h =
 
 -- ---- an item
 
--- what is kept of an item: a mark among those of its section, and a group if one starts there
+-- what is stored for an item: a mark among the marks of its section, and a group if one starts there
 pub record IsKept (inputs : ParsedInputs) (groups : List Group) (sections : List (List Mark)) (q : Place) (number : PlaceNumber) : Type 0 where
   pub marks : List Mark
   pub section : slice_get sections number.section ≡ Some marks
@@ -244,7 +238,7 @@ start_is b Alone n h = absurd cc
 start_is b (First g) n h = let e : b ≡ n = cc in (g, refl, e)
 start_is b Inside n h = absurd cc
 
--- a place's item by what the code reads: the marks of its section, and its own
+-- the item at a place by what the code reads: the marks of its section, and its own mark
 module _ (view now : Inputs) (groups : List Group) (sections : List (List Mark)) (same : view ≡ now) (are : ArePlanned (parsed view) groups sections)
     (q : Place) (number : PlaceNumber) (start : is_start_at (parsed now).objects q ≡ true) (has : IsPlaceNumber (parsed now).objects q number) where
   kept : IsKept (parsed now) groups sections q number
@@ -306,7 +300,7 @@ marks_count n (Alone ∷ rs) = ap suc (marks_count n rs)
 marks_count n (First g ∷ rs) = ap suc (marks_count (n + 1) rs)
 marks_count n (Inside ∷ rs) = ap suc (marks_count n rs)
 
--- its section's marks, by what the code reads: a mark for each item
+-- the marks of a place's section, by what the code reads: a mark for each item
 module _ (view now : Inputs) (groups : List Group) (sections : List (List Mark)) (same : view ≡ now) (are : ArePlanned (parsed view) groups sections)
     (q : Place) (number : PlaceNumber) (has : IsPlaceNumber (parsed now).objects q number) where
   abbrev p : ParsedInputs
@@ -345,7 +339,7 @@ module _ (view now : Inputs) (groups : List Group) (sections : List (List Mark))
     many_read : length read ≡ length (starts_in s)
     many_read = ap length (is ∙ get_or_from_slice_get sections number.section marks_there.marks read marks_there.section) ∙ marks_there.many
 
-    -- an item starts there if it has a mark
+    -- an item starts at a place if the place has a mark
     pub marked_start : gather_fault now ≡ None → is_target_at p.objects q ≡ true → number.index < length read → is_start_at p.objects q ≡ true
     marked_start none target less = by (or_cases (is_start_at p.objects q) (is_end_at p.objects q) target)
       where

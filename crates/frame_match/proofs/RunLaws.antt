@@ -1,4 +1,4 @@
--- How far instructions go: what the code takes of a section's places is what the definition takes of its items.
+-- How far a run goes: the code takes as many of a section's places as the definition takes of its items.
 use Prim.Native.Nat.{zero}
 use Rattle.std.proofs.Common.{◌≡◌, ◌∙◌, ℕ, suc, ◌<◌, ◌≤◌, List, [], ◌∷◌, Option, Some, None, Bool, true, false, cond, length, take, map, eqb, refl, sym, ap, arith}
 use Rattle.std.specs.Prelude.{◌||◌, not}
@@ -36,7 +36,7 @@ get_map f (y ∷ ys) (suc k) x h = get_map f ys k x h
 
 -- ---- the code's loop
 
--- the first n places have instructions that are joined
+-- the first n places have instructions that are a run
 abbrev pub Joined : ParsedInputs → IndexedSection → List CodePlace → ℕ → Type 0
 Joined inputs l ps n =
     (k : ℕ) (p : CodePlace) → k < n → slice_get ps k ≡ Some p
@@ -59,7 +59,7 @@ joined_run inputs l ps n within few h stops = record {
       ap (joins (eqb n 0)) (sym w.2) ∙ stops w.0 lt w.1;
 }
 
--- ---- both sides
+-- ---- the code's run is the definition's run
 
 -- a basic block may begin at the first of some items, and at no other
 abbrev at : Bool → ℕ → Bool

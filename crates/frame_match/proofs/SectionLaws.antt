@@ -14,7 +14,7 @@ use Rattle.frame_match.specs.Groups.{roles_from, roles_in, spot_on}
 use Rattle.frame_match.specs.Invariants.Runs.{spots_of, ArePlacesOf}
 use Rattle.frame_match.proofs.RunLaws.{map_get}
 
--- all but the last
+-- the places of a section's code where items start
 abbrev pub starts_at : ParsedInputs → IndexedSection → List CodePlace
 starts_at inputs l = cond (is_code_section l.section) (map (code_place inputs l) (starts_in l.section)) []
 

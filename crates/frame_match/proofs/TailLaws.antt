@@ -1,4 +1,4 @@
--- The ends of pops: the one that is found stands there, and of those that stand there it is the longest.
+-- The ends of pops: the instructions after the loads fit the end that is found, and it is the longest that they fit.
 use Rattle.std.proofs.Common.{◌≡◌, ◌∙◌, ℕ, ◌+◌, ◌<◌, List, Option, Some, None, Bool, true, false, cond, refl, sym, ap, arith, inl, inr}
 use Rattle.std.specs.Prelude.{◌⊎◌, ◌&&◌}
 use Rattle.std.specs.List.{slice_get}
@@ -36,7 +36,7 @@ begun_is ZeroFirst is h = sym h
 begun_is ZeroBeforeRaise is h = refl
 begun_is ZeroBeforeReturn is h = refl
 
--- ---- what a frame says
+-- ---- what follows from a frame that an ending releases
 
 pub if_known : (b : Bool) (o : Option ℕ) (f : ℕ) → cond b o None ≡ Some f → (b ≡ true) × (o ≡ Some f)
 if_known true o f h = (refl, h)
@@ -88,7 +88,7 @@ tail_known false is n t h = by (or_known (tail_as ZeroBeforeRaise is n) _ t h)
     by (inl g) = as_known ZeroBeforeRaise is n t g
     by (inr g) = next (or_known (tail_as ZeroBeforeReturn is n) _ t g)
 
--- ---- it is the longest
+-- ---- the end that is found is the longest
 
 pub record BestTail (found : Option Tail) (e : Ending) (f : ℕ) : Type 0 where
   pub best : Ending
@@ -107,7 +107,7 @@ raise_first is n f h =
     none_is ZeroBeforeRaise is n
     (ap (λ b. cond (b && is_return (slice_get is (n + 2))) (raised (slice_get is (n + 1))) None) (raised_no_zero (slice_get is n) f h))
 
--- by what the second and third are
+-- the longest end by what the second and the third instruction are
 abbrev ending_by : Bool → Bool → Ending
 ending_by true r = ZeroBeforeReturn
 ending_by false true = Returns

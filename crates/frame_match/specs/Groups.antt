@@ -1,4 +1,4 @@
--- The items that are written together, as one instruction or two (RISC-V Zc specification 1.0, "Zcmp").
+-- Groups: the items that are written together, as one instruction or two (RISC-V Zc specification 1.0, "Zcmp").
 use Rattle.std.specs.Prelude.{ℕ, zero, suc, ◌-◌, Bool, if◌then◌else◌, List, [], ◌∷◌, map, slice_get, Option, Some, None}
 use Rattle.std.specs.List.{flat_map}
 use Rattle.std.specs.Option.{option_and_then}
@@ -24,27 +24,27 @@ pub record Spot : Type 0 where
   pub op : Option Instr
   pub leader : Bool
 
--- an instruction, and those behind it; none without it
+-- an instruction followed by others; empty if there is no instruction
 abbrev pub op_then : Option Instr → List Instr → List Instr
 op_then None is = []
 op_then (Some i) is = i ∷ is
 
--- the instructions of items up to where a basic block begins, or an item is no instruction or has a relocation
+-- the instructions of items, up to the first item that begins a basic block, is no instruction or has a relocation
 abbrev pub ops_behind : List Spot → List Instr
 ops_behind [] = []
 ops_behind (s ∷ ss) = if s.leader then [] else op_then s.op (ops_behind ss)
 
--- the instructions from an item on: at the first of them a basic block may begin
+-- the instructions from an item on; a basic block may begin at the first one, but at no other
 abbrev pub ops_from : Spot → List Spot → List Instr
 ops_from s ss = op_then s.op (ops_behind ss)
 
--- ---- what items are to groups
+-- ---- the roles of items
 
--- the group of what starts at a place
+-- the group that was found, with the place where it starts
 abbrev pub group_at : Place → Found → Group
 group_at q f = record { start = q; items = f.items; kind = f.kind; rest = f.rest }
 
--- an item is the first of a group if one starts there
+-- the role of an item where a group may start: the first of that group, or written by itself
 abbrev pub group_role : Place → Option Found → Role
 group_role q None = Alone
 group_role q (Some f) = First (group_at q f)
@@ -55,8 +55,8 @@ items_behind Alone = 0
 items_behind (First g) = g.items - 1
 items_behind Inside = 0
 
--- the roles of items, of which the first `left` belong to the group before them: the search goes on after that group, and at each
--- item takes the group of most items
+-- the roles of items, of which the first `left` belong to the group before them: the search goes on after that group,
+-- and takes the longest group at each item
 abbrev pub roles_from : ℕ → List Spot → List Role
 roles_from left [] = []
 roles_from (suc left) (s ∷ ss) = Inside ∷ roles_from left ss
@@ -70,7 +70,7 @@ abbrev pub spot_on : ParsedInputs → IndexedSection → ℕ → Spot
 spot_on inputs l n =
     record { place = place_of l n; op = option_and_then op_of (item_at inputs (place_of l n)); leader = is_leader_at inputs (place_of l n) }
 
--- the roles of a section's items; what isn't code has none
+-- the roles of a section's items; empty if the section isn't code
 unfoldable pub roles_in : ParsedInputs → IndexedSection → List Role
 roles_in inputs l = if is_code_section l.section then roles_from 0 (map (spot_on inputs l) (starts_in l.section)) else []
 

@@ -1,5 +1,5 @@
--- What the code keeps, and what it finds while it searches. Invariants, contracts of what keeps or reads it, and proofs name
--- these; nothing that must be believed does.
+-- What the code stores, and how far its search has come. Only invariants, proofs, and contracts of functions that store
+-- or read it name these; nothing that must be believed does.
 pub mod Runs
 pub mod Frames
 pub mod Kinds

@@ -1,5 +1,5 @@
--- What groups ask of an instruction (RISC-V unprivileged manual, "Integer Register-Immediate Instructions" and "Load and
--- Store Instructions").
+-- What the search for groups reads from an instruction (RISC-V unprivileged manual, "Integer Register-Immediate
+-- Instructions" and "Load and Store Instructions").
 use Rattle.std.specs.Prelude.{ℕ, ℤ, pos, negsuc, ◌+◌, Bool, false, ◌==◌, ◌&&◌, if◌then◌else◌, Option, Some, None}
 use Rattle.std.specs.Ordering.{int_eq}
 use Rattle.std.specs.Option.{option_and_then, option_map_or}
@@ -22,7 +22,7 @@ op_of _ = None
 
 -- ---- of an instruction
 
--- the slot at an offset from a base, which has to be sp
+-- the slot at an offset from a base, if the base is sp and the offset isn't negative
 abbrev pub slot_at_offset : ℕ → ℤ → ℕ → Option Slot
 slot_at_offset base (pos offset) r = if base == 2 then Some (record { offset = offset; register = r }) else None
 slot_at_offset base (negsuc n) r = None
@@ -33,7 +33,7 @@ slot_of Saves (Store Sw r base imm) = slot_at_offset base imm r
 slot_of Restores (Load Lw r base imm) = slot_at_offset base imm r
 slot_of _ _ = None
 
--- what `addi sp,sp,imm` moves sp by
+-- how far `addi sp,sp,imm` moves sp
 abbrev pub sp_move_of : Instr → Option ℤ
 sp_move_of (WithImm Addi rd first imm) = if rd == 2 && first == 2 then Some imm else None
 sp_move_of _ = None
@@ -53,9 +53,9 @@ abbrev pub is_return_instr : Instr → Bool
 is_return_instr (Jalr rd base imm) = rd == 0 && (base == 1 && int_eq imm (pos 0))
 is_return_instr _ = false
 
--- ---- of one that may not be there
+-- ---- of an instruction that may be missing
 
--- the slot that an instruction uses, if there is an instruction
+-- the slot that an instruction saves to or restores from, if there is an instruction
 abbrev pub slot_accessed : Access → Option Instr → Option Slot
 slot_accessed which i = option_and_then (slot_of which) i
 
@@ -78,7 +78,7 @@ raised i = option_and_then up_by (option_and_then sp_move_of i)
 abbrev pub moved : Option Instr → Option Move
 moved i = option_and_then move_of i
 
--- an instruction sets a0 to 0, or returns
+-- whether an instruction sets a0 to 0, and whether it returns
 abbrev pub is_zero : Option Instr → Bool
 is_zero i = option_map_or is_zero_instr i false
 

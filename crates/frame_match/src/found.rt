@@ -1,4 +1,4 @@
-// What instructions come to.
+// What is found at the start of a run of instructions.
 
 use zc_base::reg::Reg;
 use zc_decode::short::Short;
@@ -12,8 +12,8 @@ pub struct Found {
     pub rest: u16,
 }
 
-/// How a pop ends: it goes on, returns, or returns 0, with a0 set before the first load, before the stack pointer is
-/// raised, or before the return.
+/// How a pop ends: execution goes on after it, or it returns, or it returns 0, where a0 is set before the first load,
+/// before the stack pointer is raised, or before the return.
 #[derive(Clone, Copy)]
 pub enum Ending {
     GoesOn,

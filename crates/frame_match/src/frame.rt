@@ -5,14 +5,14 @@ ghost use Rattle.zc_decode.specs.Lists.{stack_adjust_base, registers_of};
 ghost use Rattle.frame_match.specs.Matches as matches;
 ghost use Rattle.frame_match.specs.Invariants.Frames.{list_leaving_out, IsKnown};
 
-/// The frame of a register list: how many of the 13 registers the list leaves out, and the frame's number of bytes.
+/// The frame of a register list: how many of the 13 registers the list doesn't have, and the frame's size in bytes.
 #[derive(Clone, Copy)]
 pub struct Frame {
     pub left_out: u8,
     pub bytes: u32,
 }
 
-// What the stack pointer moves by at least.
+// The least stack adjustment of the list.
 fn stack_adjust_base(list: u8) -> u32
     ensures { result ≡ stack_adjust_base list }
 {
@@ -57,7 +57,7 @@ impl Frame {
         self.bytes % 16 == 0 && stack_adjust_base(self.list()) <= self.bytes && self.bytes <= 2032
     }
 
-    /// The part of the frame that one halfword doesn't move the stack pointer by.
+    /// The part of the frame beyond the stack adjustment of the halfword.
     pub fn rest(self) -> u16
         requires list { self.left_out < 13 }
         requires bytes { self.bytes ≤ 2032 }
@@ -67,7 +67,7 @@ impl Frame {
             .saturating_sub(stack_adjust_base(self.list()) + 48) as u16
     }
 
-    /// The part of the frame that one halfword moves the stack pointer by.
+    /// The stack adjustment of the halfword.
     pub fn adjust(self) -> u8
         requires list { self.left_out < 13 }
         requires bytes { self.bytes ≤ 2032 }

@@ -1,4 +1,4 @@
-//! Groups of items that are written as one instruction.
+//! Finds groups of items that are written together as a push, a pop or a pair of moves of Zcmp.
 #![tactic(auto)]
 
 mod found;

@@ -1,10 +1,10 @@
-// What is kept of each item.
+// What is stored for each item.
 
 ghost use Rattle.std.specs.Prelude.{◌≡◌, ◌<◌, Some, length, slice_get};
 
 use std::marker::Model;
 
-/// What is kept of an item: it belongs to no group, it starts the group with a number, or it stands inside one.
+/// What is stored for an item: it belongs to no group, starts the group with this number, or is inside a group.
 #[derive(Clone, Copy)]
 pub enum Mark {
     Apart,
@@ -12,7 +12,7 @@ pub enum Mark {
     Within,
 }
 
-/// What is kept of a section's items, in order.
+/// The marks of a section's items, in order.
 #[derive(Drop)]
 pub struct Marks {
     pub marks: Vec<Mark>,
@@ -35,7 +35,7 @@ impl Marks {
         self.marks.len()
     }
 
-    /// What is kept of an item, by its index.
+    /// The mark of an item, by its index.
     pub fn get(&self, index: u32) -> Mark
         requires { index < length self.now }
         ensures { slice_get self.now index ≡ Some result }

@@ -17,7 +17,7 @@ fn is_saved(register: Reg) -> bool
     8 <= number && number <= 9 || 18 <= number && number <= 23
 }
 
-// Whether two moves are those of a0 and a1 to different registers of these.
+// Whether two moves are from a0 and a1 to two different registers of s0 to s7.
 fn to_saved(a: &Move, b: &Move) -> bool
     ensures { result ≡ is_to_saved a.now b.now }
 {
@@ -28,14 +28,14 @@ fn to_saved(a: &Move, b: &Move) -> bool
         && a.rd.number() != b.rd.number()
 }
 
-// Whether they are those of two of these registers to a0 and a1.
+// Whether two moves are from registers of s0 to s7 to a0 and a1.
 fn from_saved(a: &Move, b: &Move) -> bool
     ensures { result ≡ is_from_saved a.now b.now }
 {
     a.rd.number() == 10 && b.rd.number() == 11 && is_saved(a.source) && is_saved(b.source)
 }
 
-// What stands for a move of a0 and one of a1.
+// The halfword for two moves: `a` is the move from or to a0, and `b` the move from or to a1.
 fn pair(a: &Move, b: &Move) -> Option<Short>
     ensures { result ≡ pair_of a.now b.now }
 {
@@ -54,7 +54,7 @@ fn pair(a: &Move, b: &Move) -> Option<Short>
     }
 }
 
-// In either order.
+// The halfword for two moves in either order.
 fn either(a: Option<Move>, b: Option<Move>) -> Option<Short>
     ensures { result ≡ either_pair a b }
 {

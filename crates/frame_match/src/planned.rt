@@ -38,7 +38,7 @@ impl Model for Planned {
     ghost invariant = { λ planned. ArePlanned (parsed planned.cut) planned.groups.items planned.sections.items };
 }
 
-// What is kept beside a cut.
+// What is stored with a cut: its groups, and a mark for each item.
 #[derive(Drop)]
 struct KeptGroups {
     groups: Vec<Group>,
@@ -60,7 +60,7 @@ fn find_groups(alloc: Global, cut: &Cut) -> Result<KeptGroups, AllocError>
     Ok(KeptGroups { groups, sections })
 }
 
-/// Finds the groups of a cut. It looks at each item a fixed number of times, and takes memory for what it keeps alone.
+/// Finds the groups of a cut. It looks at each item a fixed number of times, and allocates only what it stores.
 pub fn plan(alloc: Global, cut: Cut) -> Result<Planned, AllocError>
     ensures same { IfOk result (λ planned. planned ≡ cut) }
 {
@@ -73,11 +73,11 @@ pub fn plan(alloc: Global, cut: Cut) -> Result<Planned, AllocError>
 }
 
 impl Planned {
-    /// The number of groups. It takes constant time, as does all that follows.
+    /// The number of groups. This method, and each one below, takes constant time.
     pub fn group_count(&self) -> u32
         ensures { result ≡ length (groups_of (parsed self.now)) }
     {
-        // There are no more groups than items.
+        // A group has at least one item, so the count fits in u32.
         self.cut.recall_invariant();
         self.groups.len() as u32
     }
@@ -90,7 +90,7 @@ impl Planned {
         self.groups[i as usize]
     }
 
-    /// What the item at a place is to groups, by where the place stands among all.
+    /// The role of the item at a place, by the place's number among all places.
     pub fn role_at(&self, number: PlaceNumber) -> Role
         requires { HasItem (parsed self.now).objects number }
         ensures { (q : Place) → is_start_at (parsed self.now).objects q ≡ true
@@ -103,15 +103,15 @@ impl Planned {
         }
     }
 
-    /// What the item at a place is to groups, by where the place stands among all, if an item starts there: a section
-    /// may end there.
+    /// The role of the item at a place, by the place's number among all places; `None` if no item starts there, which
+    /// is so at the end of a section.
     pub fn role_by(&self, number: PlaceNumber) -> Option<Role>
         requires { (q : Place) × (is_target_at (parsed self.now).objects q ≡ true)
             × IsPlaceNumber (parsed self.now).objects q number }
         ensures { (q : Place) → is_target_at (parsed self.now).objects q ≡ true
             → IsPlaceNumber (parsed self.now).objects q number → result ≡ role_at (parsed self.now) q }
     {
-        // No fault stands in the objects, so a section ends after its last item.
+        // The objects have no fault, so a section ends after its last item.
         self.cut.recall_invariant();
         if (number.index as usize) < self.sections[number.section as usize].len() {
             Some(self.role_at(number))
@@ -120,7 +120,7 @@ impl Planned {
         }
     }
 
-    /// What the item at a place is to groups, if one starts there.
+    /// The role of the item at a place, if an item starts there.
     pub fn role(&self, p: Place) -> Option<Role>
         ensures { result ≡ role_at (parsed self.now) p }
     {
@@ -130,7 +130,7 @@ impl Planned {
         }
     }
 
-    /// The items.
+    /// The objects' code, cut into items.
     pub fn cut(&self) -> &Cut
         ensures same { result.now ≡ self.now }
     {

@@ -1,4 +1,4 @@
-// Pops, and those that return.
+// Pops, with and without a return.
 
 ghost use Rattle.std.specs.Prelude.{◌≡◌, ◌≤◌, ◌<◌, ◌+◌, ℕ, true, false, if◌then◌else◌, slice_get, IfSome};
 ghost use Rattle.std.specs.Option.{is_some, option_or};
@@ -19,14 +19,14 @@ use crate::run::Run;
 use crate::slot::Access;
 use zc_decode::short::Short;
 
-/// How a pop ends, and the bytes of its frame.
+/// How a pop ends, and the size of its frame in bytes.
 #[derive(Clone, Copy)]
 pub struct Tail {
     pub ending: Ending,
     pub bytes: u32,
 }
 
-// Where a pop's loads begin, by whether a0 is set before them.
+// The index of a pop's first load, by whether a0 is set before the loads.
 fn first_load(zeroed: bool) -> usize
     ensures { result ≡ (if zeroed then 1 else 0) }
 {
@@ -48,7 +48,7 @@ fn loads(run: &Run, from: usize) -> u8
     14
 }
 
-// The bytes of the frame that a pop's instructions after its loads give back, if they form an epilogue of this kind.
+// The size of the frame that the instructions after a pop's loads release, if they form an epilogue of this kind.
 fn frame_at(ending: Ending, run: &Run, n: usize) -> Option<u32>
     requires { n < 16 }
     ensures { result ≡ matches.frame_at ending run.now n }
@@ -87,7 +87,7 @@ fn tail_with(ending: Ending, run: &Run, n: usize) -> Option<Tail>
     Some(Tail { ending, bytes })
 }
 
-// The end of a pop that returns or goes on; if both fit, the longer one.
+// The end of a pop that returns, or else of one after which execution goes on.
 fn later_tail(run: &Run, n: usize) -> Option<Tail>
     requires { n < 16 }
     ensures { result ≡ option_or (tail_as Returns run.now n) (tail_as GoesOn run.now n) }
@@ -98,7 +98,7 @@ fn later_tail(run: &Run, n: usize) -> Option<Tail>
     }
 }
 
-// The end of a pop that may set a0 after its loads, or that returns or goes on; the longest that fits.
+// The longest end that fits a pop that doesn't set a0 before its loads.
 fn plain_tail(run: &Run, n: usize) -> Option<Tail>
     requires { n < 16 }
     ensures { result ≡ tail_at false run.now n }
@@ -112,7 +112,7 @@ fn plain_tail(run: &Run, n: usize) -> Option<Tail>
     }
 }
 
-// The end of a pop whose loads end at an index, by whether a0 was set before them.
+// The end of a pop that begins at an index, after its loads, by whether a0 was set before them.
 fn tail_behind(zeroed: bool, run: &Run, n: usize) -> Option<Tail>
     requires { n < 16 }
     ensures { result ≡ tail_at zeroed run.now n }
@@ -148,7 +148,7 @@ fn pop_kind(ending: Ending, list: u8, adjust: u8) -> Short
     }
 }
 
-// The pop with an ending and a frame.
+// The group of a pop with this ending and frame.
 fn popped(ending: Ending, frame: Frame) -> Found
     requires known { IsKnown frame.left_out }
     requires bytes { frame.bytes ≤ 2032 }
@@ -161,7 +161,7 @@ fn popped(ending: Ending, frame: Frame) -> Found
     }
 }
 
-/// The longest pop that instructions begin with. The number of its loads tells its list.
+/// The longest pop that instructions begin with. The number of its loads decides its register list.
 pub fn pop(run: &Run) -> Option<Found>
     ensures known { IfSome result (λ g. IsPop run.now g) }
     ensures each { (g : Found) → IsPop run.now g → Beats result g }

@@ -15,7 +15,7 @@ use crate::slot::Access;
 use crate::slots::{fills, left_out_by};
 use zc_decode::short::Short;
 
-/// Whether a list may have a frame, and its slots are used from an index on.
+/// Whether a list may have this frame, and the instructions from an index on use its slots.
 pub fn is_framed(which: Access, run: &Run, from: usize, frame: Frame) -> bool
     requires known { IsKnown frame.left_out }
     requires from { from < 2 }
@@ -24,7 +24,7 @@ pub fn is_framed(which: Access, run: &Run, from: usize, frame: Frame) -> bool
     frame.is_fit() && fills(which, run, from, frame)
 }
 
-// The push of a frame.
+// The group of a push with this frame.
 fn pushed(frame: Frame) -> Found
     requires known { IsKnown frame.left_out }
     requires bytes { frame.bytes ≤ 2032 }
@@ -40,7 +40,7 @@ fn pushed(frame: Frame) -> Found
     }
 }
 
-/// The push that instructions begin with. Its first store tells its list.
+/// The push that instructions begin with. Its first store decides its register list.
 pub fn push(run: &Run) -> Option<Found>
     ensures known { IfSome result (λ g. IsPush run.now g) }
     ensures each { (g : Found) → IsPush run.now g → result ≡ Some g }

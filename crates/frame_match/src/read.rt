@@ -1,4 +1,4 @@
-// What groups ask of an instruction.
+// What the search for groups reads from an instruction.
 
 ghost use Rattle.std.specs.Prelude.{◌≡◌, IfSome};
 ghost use Rattle.frame_match.specs.Read as read;
@@ -144,7 +144,7 @@ fn move_in(instr: &Instr) -> Option<Move>
     }
 }
 
-/// The move of one register to another that an instruction is.
+/// The move from one register to another that an instruction makes, if it makes one.
 pub fn moved(instr: Option<Instr>) -> Option<Move>
     ensures { result ≡ read.moved instr }
 {

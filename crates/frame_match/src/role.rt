@@ -1,8 +1,8 @@
-// What items are to groups.
+// The roles of items in groups.
 
 use crate::group::Group;
 
-/// What an item is: written by itself, the first of a group, or a later one.
+/// The role of an item: it is written by itself, is the first of a group, or a later one.
 #[derive(Clone, Copy)]
 pub enum Role {
     Alone,

@@ -1,4 +1,4 @@
-// Instructions one after another.
+// Runs of consecutive instructions.
 
 ghost use Rattle.std.specs.Prelude.{◌≡◌, ◌==◌, ◌<◌, ◌≤◌, ℕ, true, length, slice_get, take};
 ghost use Rattle.std.specs.Option.{is_some};
@@ -17,7 +17,7 @@ use rv_decode::instr::Instr;
 use std::marker::Model;
 use zc_base::place::Place;
 
-/// Instructions without relocation, one after another, as they stand in a section.
+/// Consecutive instructions of a section that have no relocation.
 #[derive(Drop)]
 pub struct Run<'a> {
     places: &'a [CodePlace],
@@ -45,7 +45,7 @@ pub fn op_at(place: &CodePlace) -> Option<Instr>
     }
 }
 
-/// The place of what stands at an offset of a section.
+/// The place of an offset in a section.
 pub fn place_in(section: &SectionRef, place: &CodePlace) -> Place
     ensures { result ≡ place_of section.now place.now.offset }
 {
@@ -56,7 +56,7 @@ pub fn place_in(section: &SectionRef, place: &CodePlace) -> Place
     }
 }
 
-// Whether the instruction at a place stands behind those before it: no basic block begins there. At the first one may.
+// Whether the instruction at a place goes on a run: no basic block begins there, unless it is the run's first.
 fn joins(cut: &Cut, section: &SectionRef, place: &CodePlace, is_first: bool) -> bool
     requires { place.now ≡ code_place (parsed cut.now) section.now place.now.offset }
     ensures op { result ≡ true → is_some (op_in place.now) ≡ true }
@@ -65,7 +65,7 @@ fn joins(cut: &Cut, section: &SectionRef, place: &CodePlace, is_first: bool) -> 
     op_at(place).is_some() && (is_first || !cut.leader(place_in(section, place)))
 }
 
-// The number of instructions one after another, up to where a basic block begins; at most 16, since no group has more.
+// The number of instructions in a run, up to where a basic block begins; at most 16, since no group has more.
 fn run_length(cut: &Cut, section: &SectionRef, places: &[CodePlace]) -> usize
     requires { ArePlacesOf (parsed cut.now) section.now places.now }
     ensures within { result ≤ length places.now }
@@ -82,7 +82,7 @@ fn run_length(cut: &Cut, section: &SectionRef, places: &[CodePlace]) -> usize
 }
 
 impl<'a> Run<'a> {
-    /// The instructions from the first of some places of a section on, as far as a group may reach.
+    /// The run of instructions from the first of some places of a section on, as far as a group may extend.
     pub fn new(cut: &Cut, section: &SectionRef, places: &'a [CodePlace]) -> Run<'a>
         requires { ArePlacesOf (parsed cut.now) section.now places.now }
         ensures { take 16 result ≡ take 16 (run_from (spots_of (parsed cut.now) section.now places.now)) }

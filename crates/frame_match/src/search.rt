@@ -1,4 +1,4 @@
-// What instructions come to.
+// The longest group that instructions begin with.
 
 ghost use Rattle.std.specs.Prelude.{◌≡◌};
 ghost use Rattle.frame_match.specs.Matches.{longest_of};
@@ -10,7 +10,7 @@ use crate::pops::pop;
 use crate::pushes::push;
 use crate::run::Run;
 
-// The one with more items; the first if both have as many.
+// The longer of two groups; the first if they are equally long.
 fn longer(first: Option<Found>, second: Option<Found>) -> Option<Found>
     ensures { result ≡ longer_or first second }
 {
@@ -21,7 +21,7 @@ fn longer(first: Option<Found>, second: Option<Found>) -> Option<Found>
     }
 }
 
-/// Of all groups that the instructions begin with, the one with most items.
+/// The longest of all groups that the instructions begin with.
 pub fn longest(run: &Run) -> Option<Found>
     ensures { result ≡ longest_of run.now }
 {

@@ -1,6 +1,6 @@
-// The words of a frame that registers are kept in.
+// The words of a frame that registers are saved in.
 
-/// A word of a frame: its offset from the stack pointer while the frame lasts, and the register that is kept in it.
+/// A word of a frame: its offset from the stack pointer while the frame exists, and the register that is saved in it.
 #[derive(Clone, Copy)]
 pub struct Slot {
     pub offset: u32,

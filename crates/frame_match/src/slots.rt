@@ -19,7 +19,7 @@ fn saved(rank: usize) -> u8
     SAVED[rank]
 }
 
-// Where a register stands in that list; 13 if it isn't there.
+// The index of a register among the 13 that can be saved; 13 if it isn't one of them.
 fn rank(register: u8) -> u8
     ensures { result ≡ saved_index register }
 {
@@ -31,7 +31,7 @@ fn rank(register: u8) -> u8
     }
 }
 
-// Which slot of a frame stands at an offset, from the highest on.
+// The number of the slot at an offset of a frame, counted from the highest.
 fn number_at(offset: u32, bytes: u32) -> Option<u32>
     ensures known { IfSome result (λ j. offset + 4 * (j + 1) ≡ bytes) }
     ensures each { (j : ℕ) → offset + 4 * (j + 1) ≡ bytes → result ≡ Some j }
@@ -43,7 +43,7 @@ fn number_at(offset: u32, bytes: u32) -> Option<u32>
     }
 }
 
-// Which slot of a frame one is.
+// The number of a slot in a frame, if it is one of the frame's slots.
 fn number_of(slot: Slot, frame: Frame) -> Option<usize>
     requires some { frame.left_out < 13 }
     requires room { 52 ≤ frame.bytes + 4 * frame.left_out }
@@ -60,7 +60,7 @@ fn number_of(slot: Slot, frame: Frame) -> Option<usize>
     }
 }
 
-// Which slot of a frame an instruction uses.
+// The number of the slot of a frame that an instruction uses, if it uses one.
 fn slot_number(which: Access, instr: Option<Instr>, frame: Frame) -> Option<usize>
     requires some { frame.left_out < 13 }
     requires room { 52 ≤ frame.bytes + 4 * frame.left_out }
@@ -71,7 +71,7 @@ fn slot_number(which: Access, instr: Option<Instr>, frame: Frame) -> Option<usiz
     number_of(slot, frame)
 }
 
-// The number of registers that a list leaves out in whose frame of `bytes` bytes this is a slot, if there is such a
+// How many registers are missing from the list whose frame of `bytes` bytes has this slot; `None` if there is no such
 // list.
 fn left_out_at(slot: Slot, bytes: u32) -> Option<u8>
     ensures known { IfSome result (λ left_out. IsKnown left_out) }
@@ -87,7 +87,8 @@ fn left_out_at(slot: Slot, bytes: u32) -> Option<u8>
     }
 }
 
-/// The number of registers that a list leaves out in whose frame an instruction uses a slot, if there is such a list.
+/// How many registers are missing from the list in whose frame an instruction uses a slot; `None` if there is no such
+/// list.
 pub fn left_out_by(which: Access, instr: Option<Instr>, bytes: u32) -> Option<u8>
     ensures known { IfSome result (λ left_out. IsKnown left_out) }
     ensures each { (left_out j : ℕ) → IsKnown left_out → 4 * (j + 1) ≤ bytes
@@ -97,7 +98,7 @@ pub fn left_out_by(which: Access, instr: Option<Instr>, bytes: u32) -> Option<u8
     left_out_at(slot, bytes)
 }
 
-/// Whether all slots of a frame are used from an index on, in any order, by as many instructions.
+/// Whether the instructions from an index on, as many as the frame has slots, use all of its slots, in any order.
 pub fn fills(which: Access, run: &Run, from: usize, frame: Frame) -> bool
     requires some { frame.left_out < 13 }
     requires room { 52 ≤ frame.bytes + 4 * frame.left_out }

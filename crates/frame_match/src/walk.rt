@@ -23,8 +23,8 @@ use block_cut::cut::Cut;
 use psabi_sym::section_ref::SectionRef;
 use std::alloc::{AllocError, Global};
 
-/// The groups so far, what is kept of the section's items so far, and the number of the next items that belong to the
-/// last group.
+/// The groups so far, the marks of the section's items so far, and how many of the next items belong to the last
+/// group.
 #[derive(Drop)]
 pub struct Walk {
     pub groups: Vec<Group>,
@@ -45,8 +45,8 @@ fn begins(places: &[CodePlace]) -> bool
     }
 }
 
-// What the instructions from the first of some places of a section on come to. Few may begin a group, so most items are
-// looked at once.
+// The longest group that starts at the first of some places of a section. Few instructions can begin a group, so most
+// items are looked at once.
 fn found_at(cut: &Cut, section: &SectionRef, places: &[CodePlace]) -> Option<Found>
     requires { ArePlacesOf (parsed cut.now) section.now places.now }
     ensures { result ≡ longest_of (run_from (spots_of (parsed cut.now) section.now places.now)) }
@@ -84,7 +84,7 @@ impl Walk {
         Ok(())
     }
 
-    // Goes over the first of some places of a section.
+    // Visits the first of some places of a section.
     fn next(
         &mut self,
         cut: &Cut,
@@ -111,7 +111,7 @@ impl Walk {
         }
     }
 
-    // Goes over all of some places of a section.
+    // Visits all of some places of a section.
     fn go_over(
         &mut self,
         cut: &Cut,
@@ -132,7 +132,7 @@ impl Walk {
     }
 }
 
-/// The walk over all of a section, by its number among all, where some groups come before.
+/// The walk over a whole section, which is given by its number among all sections, after some groups were found.
 pub fn walk_section(
     alloc: Global,
     cut: &Cut,
@@ -147,7 +147,7 @@ pub fn walk_section(
     ensures groups { (l : IndexedSection) → slice_get (all_sections (parsed cut.now).objects) section ≡ Some l
         → IfOk result (λ w. w.groups.items ≡ groups.items ++ groups_in (parsed cut.now) l) }
 {
-    // There are no more groups than items.
+    // A group has at least one item, so the number fits in u32.
     cut.recall_invariant();
     let places = item_places(cut.places(section));
     let mut walk = Walk {

@@ -1,4 +1,4 @@
--- Pushes and pops, by where their instructions stand.
+-- Pushes and pops, by the indices of their instructions.
 use Rattle.std.specs.Prelude.{◌≡◌, ℕ, ◌+◌, ◌<◌, ◌⊎◌, Bool, true, false, List, Option, Some, None, slice_get}
 use Rattle.std.specs.Option.{option_map, option_or}
 use Rattle.rv_decode.specs.declared.instr.Instr.{Instr}
@@ -14,7 +14,8 @@ use Rattle.frame_match.specs.Invariants.Frames.{list_leaving_out, Fills, IsKnown
 
 -- ---- frames
 
--- the list that leaves out `left_out` registers may have a frame, and its slots are used from an index on
+-- the list without `left_out` registers may have a frame of `bytes` bytes, and the instructions from an index on use
+-- its slots
 pub record IsFramed (which : Access) (bytes left_out : ℕ) (is : List Instr) (from : ℕ) : Type 0 where
   pub fits : is_frame (list_leaving_out left_out) bytes ≡ true
   pub there : Fills which bytes left_out is from
@@ -43,11 +44,11 @@ pub record IsPop (is : List Instr) (g : Found) : Type 0 where
   pub framed : IsFramed Restores bytes left_out is (before ending)
   pub found_is : g ≡ pop_of ending (list_leaving_out left_out) bytes
 
--- the end of a pop after its loads, if the instructions there are this ending
+-- the end of a pop after its loads, if the instructions there fit this ending
 abbrev pub tail_as : Ending → List Instr → ℕ → Option Tail
 tail_as e is n = option_map (λ bytes. record { ending = e; bytes = bytes }) (frame_at e is n)
 
--- the longest that they are, by whether a0 was set before the loads
+-- the longest ending that the instructions after the loads fit, by whether a0 was set before the loads
 abbrev pub tail_at : Bool → List Instr → ℕ → Option Tail
 tail_at true is n = tail_as ZeroFirst is n
 tail_at false is n =
@@ -56,13 +57,13 @@ tail_at false is n =
 
 -- ---- the longest
 
--- what was found has more items than another, or is it
+-- what was found has more items than `g`, or is `g`
 pub record Beats (result : Option Found) (g : Found) : Type 0 where
   pub best : Found
   pub is : result ≡ Some best
   pub more : (g ≡ best) ⊎ (g.items < best.items)
 
--- the one of more items, if there are any
+-- the longer of two, each of which may be missing
 abbrev pub longer_or : Option Found → Option Found → Option Found
 longer_or f None = f
 longer_or f (Some g) = longer_of f g

@@ -1,4 +1,4 @@
--- What the code keeps of items, and how it finds that.
+-- The marks that the code stores for items, and how it finds them.
 use Rattle.std.specs.Prelude.{◌≡◌, ℕ, ◌+◌, true, List, [], ◌∷◌, ◌++◌, drop, length, map}
 use Rattle.std.specs.List.{flat_map}
 use Rattle.zc_base.specs.declared.place.Place.{Place}
@@ -38,25 +38,25 @@ all_marks inputs = section_marks 0 (map (roles_in inputs) (all_sections inputs.o
 
 -- ---- the walk over a section
 
--- what a walk comes to with the items that are left
+-- the marks, and the groups, once a walk has gone over the items that are left
 abbrev pub marks_after : Walk → List Spot → List Mark
 marks_after w ss = w.marks.items ++ marks_from (length w.groups.items) (roles_from w.left ss)
 
 abbrev pub groups_after : Walk → List Spot → List Group
 groups_after w ss = w.groups.items ++ flat_map starting_group (roles_from w.left ss)
 
--- a walk that is one item further on comes to the same marks and groups
+-- a walk that has gone over one more item ends with the same marks and groups
 pub record WalksOn (inputs : ParsedInputs) (l : IndexedSection) (ps : List CodePlace) (old new : Walk) : Type 0 where
   pub marks : marks_after new (spots_of inputs l (drop 1 ps)) ≡ marks_after old (spots_of inputs l ps)
   pub groups : groups_after new (spots_of inputs l (drop 1 ps)) ≡ groups_after old (spots_of inputs l ps)
 
 -- ---- the whole
 
--- what is kept beside a cut: the groups of all code, and a mark for each item
+-- what is stored with a cut: the groups of all code, and a mark for each item
 pub record ArePlanned (inputs : ParsedInputs) (groups : List Group) (marks : List (List Mark)) : Type 0 where
   pub groups_are : groups ≡ groups_of inputs
   pub marks_are : marks ≡ all_marks inputs
 
--- an item of code starts at the place that has this number among all
+-- an item starts at the place that has this number among all places
 abbrev pub HasItem : List ObjectParts → PlaceNumber → Type 0
 HasItem objects number = (q : Place) × (is_start_at objects q ≡ true) × IsPlaceNumber objects q number

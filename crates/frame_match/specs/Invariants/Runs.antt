@@ -1,4 +1,4 @@
--- Instructions one after another, as the code holds them.
+-- Runs of consecutive instructions, as the code stores them.
 use Rattle.std.specs.Prelude.{◌≡◌, ◌≤◌, ◌<◌, ℕ, Bool, true, false, not, ◌&&◌, ◌||◌, ◌==◌, List, [], ◌∷◌, length, map, slice_get, Option, Some}
 use Rattle.std.specs.Option.{is_some, option_and_then, option_map_or}
 use Rattle.psabi_sym.specs.Inputs.{ParsedInputs}
@@ -25,7 +25,8 @@ ops_of (p ∷ ps) = op_then (op_in p) (ops_of ps)
 abbrev pub HaveOps : List CodePlace → Type 0
 HaveOps ps = (k : ℕ) (p : CodePlace) → slice_get ps k ≡ Some p → is_some (op_in p) ≡ true
 
--- a push, a pop or moves may begin with an instruction: it restores a register, moves one, lowers sp or sets a0 to 0
+-- whether a push, a pop or moves may begin with an instruction: it restores a register, moves one, lowers sp or sets
+-- a0 to 0
 abbrev pub may_begin : Instr → Bool
 may_begin i = is_some (slot_of Restores i) || (is_some (move_of i) || (is_some (lowered (Some i)) || is_zero_instr i))
 
@@ -34,26 +35,26 @@ begins_with i = option_map_or may_begin i false
 
 -- ---- places of a section
 
--- each is what stands at its offset of a section
+-- each place holds what is at its offset in a section
 abbrev pub ArePlacesOf : ParsedInputs → IndexedSection → List CodePlace → Type 0
 ArePlacesOf inputs l ps = (k : ℕ) (p : CodePlace) → slice_get ps k ≡ Some p → p ≡ code_place inputs l p.offset
 
--- the items there
+-- the items at places of a section
 abbrev pub spots_of : ParsedInputs → IndexedSection → List CodePlace → List Spot
 spots_of inputs l ps = map (λ p. spot_on inputs l p.offset) ps
 
--- ---- how far instructions go
+-- ---- how far a run goes
 
--- the instructions that the first of some items begins
+-- the instructions from the first of some items on
 abbrev pub run_from : List Spot → List Instr
 run_from [] = []
 run_from (s ∷ ss) = ops_from s ss
 
--- an item's instruction stands behind those before it, or is the first
+-- whether an item's instruction goes on a run, or is its first
 abbrev pub joins : Bool → Spot → Bool
 joins first s = is_some s.op && (first || not s.leader)
 
--- n items are joined, at most 16; the next one isn't, unless these are 16 or all
+-- the first n items, at most 16, are a run; the next item doesn't go on with it, unless n is 16 or all items
 pub record IsRun (spots : List Spot) (n : ℕ) : Type 0 where
   pub within : n ≤ length spots
   pub few : n ≤ 16

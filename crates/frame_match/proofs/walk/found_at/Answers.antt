@@ -1,4 +1,5 @@
--- Where a group may begin, the code looks at as many instructions as one may have, which come to the same.
+-- Where a group may begin, the code looks at as many instructions as a group may have; more would not change what is
+-- found.
 use Rattle.std.proofs.Common.{◌∙◌, sym}
 use Rattle.psabi_sym.specs.Inputs.{parsed}
 use Rattle.frame_match.specs.Invariants.Runs.{run_from, spots_of}

@@ -5,7 +5,8 @@ use Rattle.psabi_sym.specs.Indexed.{IndexedSection}
 use Rattle.psabi_sym.proofs.SectionNumbers.{listed_at}
 use Rattle.block_cut.specs.Invariants.Led.{is_listed, is_marked, mark_in}
 use Rattle.block_cut.specs.Invariants.SectionItems.{no_tables}
-use Rattle.block_cut.proofs.LedLaws.{or_false, section_numbered}
+use Rattle.std.proofs.Math.Bool.{or-false}
+use Rattle.block_cut.proofs.LedLaws.{section_numbered}
 use Rattle.block_cut.proofs.ListedLaws.{listed}
 use Rattle.block_cut.proofs.RelocTargetLaws.{marked_is, none_in, numbered_target}
 use Rattle.block_cut.proofs.TextLaws.{kept_at, tables_of}
@@ -17,7 +18,7 @@ returns c = λ all q led.
     let objects = (parsed inputs).objects in
     let sections = c.args.leaders.now.sections.items in
     let empty : c.args.leaders.now.others.keys ≡ [] = none_in c.args.leaders.now.others.keys (c.is_empty.ensures.0 c.if-not-is_empty.false) in
-    let marked : is_marked objects sections q ≡ true = sym (or_false (is_marked objects sections q)) ∙ ap (λ ks. is_marked objects sections q || is_listed ks q) (sym empty) ∙ led in
+    let marked : is_marked objects sections q ≡ true = sym (or-false (is_marked objects sections q)) ∙ ap (λ ks. is_marked objects sections q || is_listed ks q) (sym empty) ∙ led in
     let is = marked_is objects sections q marked in
     let there = section_numbered objects q is.n is.number in
     let l : IndexedSection = listed q.object q.section there.0 in

@@ -5,7 +5,9 @@ use Rattle.std.proofs.lemmas.Option.{slice_get-get_or}
 use Rattle.psabi_sym.specs.Inputs.{parsed}
 use Rattle.block_cut.specs.Invariants.CodeTargets.{code_leads, is_wrong, is_wrong_code}
 use Rattle.block_cut.specs.Leaders.{is_place}
-use Rattle.block_cut.proofs.LedLaws.{adds_all, adds_next, adds_none, any_next, or_assoc, or_false}
+use Rattle.psabi_sym.proofs.UsedLaws.{any_next}
+use Rattle.std.proofs.Math.Bool.{or-false, or_assoc}
+use Rattle.block_cut.proofs.LedLaws.{adds_all, adds_next, adds_none}
 use Rattle.block_cut.proofs.RelocTargetLaws.{any_pushed}
 use Rattle.block_cut.proofs.ResolvedLaws.{no_reloc}
 use Rattle.block_cut.proofs.code_targets.CodeTargets.add.Goals as goal
@@ -13,7 +15,7 @@ use Rattle.block_cut.proofs.code_targets.CodeTargets.add.Goals as goal
 pub loop-reloc-init : goal.loop-reloc-init
 loop-reloc-init c = record {
   leaders = adds_none (parsed c.args.objects.now).objects c.args.self.now.leaders;
-  wrong = sym (or_false c.args.self.now.has_wrong);
+  wrong = sym (or-false c.args.self.now.has_wrong);
 }
 
 pub loop-reloc-preserved : goal.loop-reloc-preserved

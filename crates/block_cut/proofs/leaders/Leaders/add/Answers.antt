@@ -2,7 +2,8 @@ use Rattle.std.proofs.Common.{◌||◌, Some, sym, ap, ◌∙◌}
 use Rattle.zc_base.specs.Places.{same_place}
 use Rattle.psabi_sym.specs.Inputs.{parsed}
 use Rattle.block_cut.specs.Invariants.Led.{is_listed, is_marked}
-use Rattle.block_cut.proofs.LedLaws.{number_is, or_assoc}
+use Rattle.block_cut.proofs.LedLaws.{number_is}
+use Rattle.std.proofs.Math.Bool.{or_assoc}
 use Rattle.block_cut.proofs.PlaceLaws.{put_in}
 use Rattle.block_cut.proofs.leaders.Leaders.add.Goals as goal
 

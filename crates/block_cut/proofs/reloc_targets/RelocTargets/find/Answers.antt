@@ -16,7 +16,8 @@ use Rattle.block_cut.specs.Leaders.{is_place, section_leads}
 use Rattle.block_cut.specs.Resolved.{placed_relocs, resolved_fault}
 use Rattle.block_cut.proofs.DataLaws.{words_next}
 use Rattle.block_cut.proofs.FirstLaws.{none_next, some_next}
-use Rattle.block_cut.proofs.LedLaws.{any_next, or_false}
+use Rattle.psabi_sym.proofs.UsedLaws.{any_next}
+use Rattle.std.proofs.Math.Bool.{or-false}
 use Rattle.block_cut.proofs.RelocTargetLaws.{any_here, code_lead, code_led, left_judged, left_leads, when_both}
 use Rattle.block_cut.proofs.StrayLaws.{placed_data}
 use Rattle.block_cut.proofs.reloc_targets.RelocTargets.find.Goals as goal
@@ -25,7 +26,7 @@ pub loop-k-init : goal.loop-k-init
 loop-k-init c = record {
   faultless = refl;
   words = c.new-words.ensures.items;
-  leaders = λ q. c.requires.targets.leaders_are q ∙ sym (or_false (list_any (code_leads (parsed c.args.objects.now) q) (all_sections (parsed c.args.objects.now).objects)));
+  leaders = λ q. c.requires.targets.leaders_are q ∙ sym (or-false (list_any (code_leads (parsed c.args.objects.now) q) (all_sections (parsed c.args.objects.now).objects)));
 }
 
 pub relocs_left-requires-clause-section : goal.relocs_left-requires-clause-section

@@ -1,4 +1,4 @@
--- Where code may not lead, no item starts.
+-- If a place is no valid target, no item starts there.
 use Rattle.std.proofs.Common.{◌≡◌, false, subst, sym}
 use Rattle.std.proofs.lemmas.Bool.{both_ways, false_from_ne_true, or_left}
 use Rattle.psabi_sym.specs.Inputs.{Inputs, parsed}

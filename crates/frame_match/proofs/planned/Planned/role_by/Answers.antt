@@ -1,4 +1,4 @@
--- A place has a mark just where an item starts: a section ends behind its last item.
+-- A place has a mark exactly if an item starts there: a section ends after its last item.
 use Rattle.std.proofs.Common.{◌≡◌, ◌∙◌, None, ap, arith, sym}
 use Rattle.psabi_sym.specs.Faults.{gather_fault}
 use Rattle.psabi_sym.specs.Inputs.{parsed}
