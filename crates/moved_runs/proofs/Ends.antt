@@ -3,7 +3,6 @@
 use Rattle.std.proofs.Common.{◌≡◌, ℕ, ◌≤◌, List, [], ◌∷◌, map, drop, length, Option, Some, None, Bool, true, false, cond, refl, sym, ap, ◌∙◌, subst, leb, get_or, inl, inr}
 use Rattle.std.specs.Prelude.{◌&&◌, ◌⊎◌, All}
 use Rattle.std.specs.List.{fold}
-use Rattle.std.specs.Option.{option_map_or}
 use Rattle.zc_base.specs.declared.mem_map.MemMap.{MemMap}
 use Rattle.zc_base.specs.declared.place.Place.{Place}
 use Rattle.rv_decode.specs.Memory.{Region, changed, written}
@@ -15,30 +14,17 @@ use Rattle.sym_machine.specs.declared.word.SymWord.{SymWord}
 use Rattle.sym_machine.specs.Words.{number_of}
 use Rattle.sym_machine.specs.Change.{Change, Does, Goes, Stops}
 use Rattle.sym_machine.specs.State.{PlainCore, reg_of}
-use Rattle.sym_machine.specs.Step.{PlainStep, Went, Stuck, after_change, applied, ends, undefined_below}
-use Rattle.sym_machine.proofs.StepLaws.{ended, ends_within}
+use Rattle.sym_machine.specs.Step.{Went, Stuck, after_change, applied, ends, undefined_below}
+use Rattle.sym_machine.proofs.StepLaws.{ended, ends_at, ends_within, stored, with_stores}
 use Rattle.moved_runs.specs.Moved.{landing, moved_at, moved_byte, moved_change, moved_does, moved_memory, moved_regs, moved_step, moved_store, moved_write}
 use Rattle.moved_runs.specs.Named.{IsNamedMemory, IsNamedWord}
 use Rattle.moved_runs.proofs.Words.{number-moved}
 use Rattle.moved_runs.proofs.States.{NamedCore, below-moved, below-named, below-twice, changed-moved, changed-named, reg-moved, set-moved, set-named, written-moved, written-named}
 use Rattle.moved_runs.proofs.Leads.{DoesLead, StoresNamed, WritesNamed}
 
--- words go to registers, and bytes to memory, one after another
+-- words go to registers, one after another
 abbrev with_writes : List (ℕ × SymWord) → List SymWord → List SymWord
 with_writes ws regs = fold (λ regs w. set_reg regs w.0 w.1) regs ws
-
-abbrev stored : List (Region SymByte) → ℕ × List SymByte → List (Region SymByte)
-stored memory w = changed (written w.0 (length w.1) (λ i. get_or w.1 i Undef)) memory
-
-abbrev with_stores : List (ℕ × List SymByte) → List (Region SymByte) → List (Region SymByte)
-with_stores ws memory = fold stored memory ws
-
--- the end by the number that sp is
-abbrev ends_at : Option ℕ → MemMap → PlainCore → List Event → PlainStep
-ends_at o map s events = option_map_or (λ sp.
-    cond (leb map.stack_low sp && leb sp map.stack_high)
-    (Went (record s { memory = changed (undefined_below map sp) s.memory }) events)
-    (Stuck StackPointer)) o (Stuck StackPointer)
 
 -- sp is a number within the stack, and all that lies in the stack below it is undefined
 pub record Quiet (m : MemMap) (s : PlainCore) : Type 0 where

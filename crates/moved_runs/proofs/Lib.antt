@@ -1,5 +1,5 @@
 pub mod Words
-mod States
+pub mod States
 mod Effects
 mod Leads
 mod Ends

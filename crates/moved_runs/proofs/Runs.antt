@@ -26,6 +26,7 @@ use Rattle.moved_runs.specs.Named.{IsNamedByte, IsNamedWord}
 use Rattle.moved_runs.specs.Moves.{IsDead, IsMovedState, ItemLeads, KeepsItem, KeepsRuns, Moves, MovesExactly, MovesSharing, SameRuns, SharesItem, StartsQuiet}
 use Rattle.moved_runs.proofs.Words.{number-named, undef-named}
 use Rattle.moved_runs.proofs.Ends.{Fit, Quiet}
+use Rattle.moved_runs.proofs.States.{NamedCore}
 use Rattle.moved_runs.proofs.Steps.{dead-stops, keeps-step, leads-on, shares-jump, shares-step, stays, step-at, turn_goes, turn_ok}
 
 -- ---- the start
@@ -142,6 +143,20 @@ module _ (K V : Place → Type 0) (M : Place → Place) (p p' : Program) (exact 
   same-runs input n =
       ap (λ s. iterate (plain_turn p') n (record { core = s; events = [] })) (first-moved K V M p p' exact.moves input)
       ∙ turns n (record { core = first_plain p input; events = [] }) (first-fit K V M p p' exact.moves input)
+
+  fits : (n : ℕ) (r r' : PlainState) → Fit K V r.core → iterate (plain_turn p) n r ≡ Ok r' → Fit K V r'.core
+  fits zero r r' fit h = let same : r ≡ r' = cc in subst (λ x. Fit K V x.core) same fit
+  fits (suc n) r r' fit h =
+      let first = bind_ok (plain_turn p r) (iterate (plain_turn p) n) r' h in
+      let turn = turned r fit in
+      fits n first.0 r' (turn.fit first.0 first.1) first.2
+
+  -- the places in the state that a run comes to are named
+  pub after-named : (input : List ℕ) (n : ℕ) (r : PlainState) → program_after p input n ≡ Ok r → NamedCore K r.core
+  unfolding program_after
+  after-named input n r h =
+      let fit = fits n (record { core = first_plain p input; events = [] }) r (first-fit K V M p p' exact.moves input) h in
+      fit.named
 
 -- ---- within twice the steps
 

@@ -86,7 +86,7 @@ frame_misaligned s sp top frame odd go =
     let highest : ℕ = word_address sp top 0 in
     cond-false (eqb (highest % 4) 0) _ _ (ne_eqb (highest % 4) 0 (λ e. odd (omega (arith, e, frame.some, frame.words))))
 
--- data lie below the stack and not at address 0, so a frame that begins in the stack lies there as a whole, or its highest word lies
+-- data lie below the stack and not near address 0, so a frame that begins in the stack lies there as a whole, or its highest word lies
 -- nowhere
 module _ (k : Kept) (is : IsKept k) (s : PlainCore) (memory : s.memory ≡ regions_of k) (sp top : ℕ) (low : k.map.stack_low ≤ sp) (high : sp ≤ k.map.stack_high) (frame : IsFrameBytes top) where
   -- the highest word
@@ -98,7 +98,7 @@ module _ (k : Kept) (is : IsKept k) (s : PlainCore) (memory : s.memory ≡ regio
       let q = and_parts (leb k.map.stack_low (add32 sp (pos top))) (leb (add32 sp (pos top)) k.map.stack_high) inside in
       let from = leb-true k.map.stack_low (add32 sp (pos top)) q.0 in
       let to = leb-true (add32 sp (pos top)) k.map.stack_high q.1 in
-      let small : sp + top < 2 ^ 32 = omega (arith, from, high, frame.most, is.apart, is.map_is.above, is.map_is.code, is.map_is.top) in
+      let small : sp + top < 2 ^ 32 = omega (arith, from, high, frame.most, is.apart, is.clear, is.top) in
       let fits : sp + top ≤ k.map.stack_low + length k.stack = omega (arith, to, small, is.size, is.low, is.high) in
       let there : true ≡ spans (record { kind = Stack; at = k.map.stack_low; size = length k.stack }) sp top =
       sym (and_from (leb k.map.stack_low sp) (leb (sp + top) (k.map.stack_low + length k.stack)) (le-leb k.map.stack_low sp low) (le-leb (sp + top) (k.map.stack_low + length k.stack) fits)) in
@@ -120,7 +120,7 @@ module _ (k : Kept) (is : IsKept k) (s : PlainCore) (memory : s.memory ≡ regio
           let q = and_parts (leb k.map.data_low highest) (leb (highest + 4) (k.map.data_low + length k.bytes)) h in
           let from = leb-true k.map.data_low highest q.0 in
           let to = leb-true (highest + 4) (k.map.data_low + length k.bytes) q.1 in
-          omega (arith, from, to, low, high, frame.some, frame.most, is.apart, is.map_is.above, is.map_is.code, is.map_is.top))
+          omega (arith, from, to, low, high, frame.some, frame.most, is.apart, is.clear, is.top))
 
       in_stack : spans (record { kind = Stack; at = k.map.stack_low; size = length k.stack }) highest 4 ≡ false
       in_stack = none_of _ (λ h.
@@ -128,8 +128,8 @@ module _ (k : Kept) (is : IsKept k) (s : PlainCore) (memory : s.memory ≡ regio
           let from = leb-true k.map.stack_low highest q.0 in
           let to = leb-true (highest + 4) (k.map.stack_low + length k.stack) q.1 in
           let size = is.size in
-          let begins : k.map.stack_low ≤ add32 sp (pos top) = omega (arith, from, to, size, low, high, frame.some, frame.most, frame.words, is.apart, is.map_is.above, is.map_is.code, is.map_is.top) in
-          let ends : add32 sp (pos top) ≤ k.map.stack_high = omega (arith, from, to, size, is.low, is.high, low, high, frame.some, frame.most, frame.words, is.apart, is.map_is.above, is.map_is.code, is.map_is.top) in
+          let begins : k.map.stack_low ≤ add32 sp (pos top) = omega (arith, from, to, size, low, high, frame.some, frame.most, frame.words, is.apart, is.clear, is.top) in
+          let ends : add32 sp (pos top) ≤ k.map.stack_high = omega (arith, from, to, size, is.low, is.high, low, high, frame.some, frame.most, frame.words, is.apart, is.clear, is.top) in
           let inside = and_from (leb k.map.stack_low (add32 sp (pos top))) (leb (add32 sp (pos top)) k.map.stack_high) (le-leb k.map.stack_low (add32 sp (pos top)) begins) (le-leb (add32 sp (pos top)) k.map.stack_high ends) in
           let differ = sym inside ∙ outside in
           absurd cc)

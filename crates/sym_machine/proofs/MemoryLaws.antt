@@ -1,17 +1,18 @@
 -- Memory as it is kept: what a byte is, and which changes of what is kept are changes of memory.
-use Rattle.std.proofs.Common.{◌≡◌, ℕ, suc, ◌+◌, ◌-◌, ◌<◌, ◌≤◌, ⊎_elim, List, [], ◌∷◌, length, get_or, Bool, true, false, cond, refl, sym, ap, ap₂, ◌∙◌, arith, leb, ltb, ◌⊎◌, inl, inr}
+use Rattle.std.proofs.Common.{◌≡◌, ℕ, ◌+◌, ◌-◌, ◌<◌, ◌≤◌, ⊎_elim, List, [], ◌∷◌, length, get_or, Bool, true, false, cond, refl, sym, ap, ◌∙◌, arith, leb, ltb, ◌⊎◌, inl, inr}
 use Rattle.std.specs.Prelude.{◌&&◌, ◌||◌}
 use Rattle.std.proofs.lemmas.Bool.{and_from, and_parts, cases_lt, cond-false, cond-true, le-leb, leb-true, lt-ltb, ltb-true}
 use Rattle.std.proofs.lemmas.List.{get_or_default, get_or_past, same_lists}
 use Rattle.zc_base.specs.declared.mem_map.MemMap.{MemMap}
-use Rattle.rv_decode.specs.Memory.{Extent, Region, Data, Stack, cell_at, cells_changed, changed, extents_of, is_data, lies_in, spans, written}
+use Rattle.rv_decode.specs.Memory.{Extent, Data, Stack, cell_at, cells_changed, changed, extents_of, is_data, lies_in, spans, written}
 use Rattle.rv_decode.proofs.MemoryLaws.{get_or-cells_changed, length-cells_changed, untouched}
+use Rattle.rv_decode.proofs.WriteLaws.{changed-after, written_moved}
 use Rattle.sym_machine.specs.declared.word.SymByte.{SymByte}
 use Rattle.sym_machine.specs.declared.word.SymByte.TheVariants.{Undef}
 use Rattle.sym_machine.specs.Kept.{IsChanged, IsKept, Kept, above_only, kept_from, regions_of}
 use Rattle.sym_machine.specs.Pages.{AreCellsWritten}
 use Rattle.sym_machine.specs.Step.{undefined_below}
-use Rattle.sym_machine.proofs.WrittenLaws.{not_below, written_moved, written_more}
+use Rattle.sym_machine.proofs.WrittenLaws.{not_below, written_more}
 
 -- ---- cells
 
@@ -22,18 +23,6 @@ pub same_cells : (f : ℕ → SymByte → SymByte) (at : ℕ) (bytes bytes' : Li
 same_cells f at bytes bytes' long each =
     same_lists _ _ (long ∙ sym (length-cells_changed f at bytes))
     (λ i d lt. let within : i < length bytes = omega arith in each i d within ∙ sym (get_or-cells_changed f at i bytes d within))
-
--- ---- changes
-
-module _ {X : Type 0} (f g h : ℕ → X → X) (both : (x : ℕ) (c : X) → f x (g x c) ≡ h x c) where
-  cells_changed-after : (at : ℕ) (cs : List X) → cells_changed f at (cells_changed g at cs) ≡ cells_changed h at cs
-  cells_changed-after at [] = refl
-  cells_changed-after at (c ∷ cs) = ap₂ (λ x xs. x ∷ xs) (both at c) (cells_changed-after (suc at) cs)
-
-  -- two changes, one after another, are the change that does both to each cell
-  pub changed-after : (rs : List (Region X)) → changed f (changed g rs) ≡ changed h rs
-  changed-after [] = refl
-  changed-after (r ∷ rs) = ap₂ (λ cs xs. record r { cells = cs } ∷ xs) (cells_changed-after r.at r.cells) (changed-after rs)
 
 -- ---- the stack below an address
 
@@ -57,7 +46,7 @@ pub settled_kept : (k : Kept) (sp : ℕ) (stack' : List SymByte) → IsKept k �
     → IsKept (record { map = k.map; bytes = k.bytes; stack = stack'; from = sp })
     × (regions_of (record { map = k.map; bytes = k.bytes; stack = stack'; from = sp }) ≡ changed (undefined_below k.map sp) (regions_of k))
 settled_kept k sp stack' is long each low high = (
-  record { map_is = is.map_is; size = long ∙ is.size; low = low; high = high; apart = is.apart; below = below },
+  record { some = is.some; top = is.top; clear = is.clear; size = long ∙ is.size; low = low; high = high; apart = is.apart; below = below },
   (λ j. record { kind = Data; at = k.map.data_low; cells = data_is j } ∷ record { kind = Stack; at = k.map.stack_low; cells = stack_is j } ∷ []),
 )
   where
@@ -103,7 +92,9 @@ pub changed_kept : (k : Kept) (f : ℕ → SymByte → SymByte) (bytes' stack' :
     → IsChanged f k (record { map = k.map; bytes = bytes'; stack = stack'; from = k.from })
 changed_kept k f bytes' stack' is long_bytes long_stack data_each stack_each stack_stays = record {
   kept = record {
-    map_is = is.map_is;
+    some = is.some;
+    top = is.top;
+    clear = is.clear;
     size = long_stack ∙ is.size;
     low = is.low;
     high = is.high;

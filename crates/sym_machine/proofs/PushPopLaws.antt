@@ -27,7 +27,7 @@ use Rattle.sym_machine.specs.declared.word.SymByte.{SymByte}
 use Rattle.sym_machine.specs.declared.word.SymByte.TheVariants.{Undef}
 use Rattle.sym_machine.specs.declared.word.SymWord.{SymWord}
 use Rattle.sym_machine.proofs.FrameLaws.{is_set, loading_to, obstacle_same, saves_stuck}
-use Rattle.sym_machine.proofs.MemoryLaws.{changed-after}
+use Rattle.rv_decode.proofs.WriteLaws.{changed-after}
 use Rattle.sym_machine.proofs.StateLaws.{sp_outside}
 use Rattle.sym_machine.proofs.StepLaws.{ended, ends_within, extents-made, settled}
 use Rattle.sym_machine.proofs.WordLaws.{number_back}

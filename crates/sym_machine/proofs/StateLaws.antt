@@ -25,7 +25,8 @@ use Rattle.sym_machine.specs.Step.{Stuck, Went, after_change, ends, applied, ite
 use Rattle.sym_machine.specs.Words.{code_word, number_of, number_word, undef_word}
 use Rattle.rv_decode.proofs.MemoryLaws.{length_blank}
 use Rattle.rv_decode.proofs.RegisterLaws.{length-set_reg}
-use Rattle.sym_machine.proofs.MemoryLaws.{changed-after, settled_stays}
+use Rattle.rv_decode.proofs.WriteLaws.{changed-after}
+use Rattle.sym_machine.proofs.MemoryLaws.{settled_stays}
 use Rattle.sym_machine.proofs.StepLaws.{ends_outside, ends_unknown, ends_within, item_by, step_running}
 
 -- ---- registers
@@ -255,7 +256,7 @@ module _ (k : Kept) (is : IsKept k) (p : Program) (of : extents_of (regions_of k
   high_is : k.map.stack_high ≡ p.map.stack_high
   high_is =
       let sizes : k.map.stack_high - k.map.stack_low ≡ p.map.stack_high - p.map.stack_low = sym is.size ∙ ap (λ es. (second es).size) of ∙ length_blank (p.map.stack_high - p.map.stack_low) Undef in
-      omega (arith, is.map_is.stack, low_is, sizes)
+      omega (arith, is.some, low_is, sizes)
 
   -- a step of the machine is a step of the program
   pub step_of : (s : PlainCore) → s.exit ≡ None → plain_step p s ≡ item_step k.map p (p.item s.place) s (p.next s.place)

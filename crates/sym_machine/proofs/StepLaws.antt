@@ -55,8 +55,8 @@ step_expansion p s is running are =
 
 -- ---- the end
 
--- the end by sp
-abbrev ends_at : Option ℕ → MemMap → PlainCore → List Event → PlainStep
+-- the end by the number that sp is, if it is one
+abbrev pub ends_at : Option ℕ → MemMap → PlainCore → List Event → PlainStep
 ends_at o map s events = option_map_or (λ sp.
     cond (leb map.stack_low sp && leb sp map.stack_high)
     (Went (record s { memory = changed (undefined_below map sp) s.memory }) events)
@@ -146,15 +146,18 @@ item_by m n p item s next low high = by (item_expansion item)
 
 -- ---- where memory lies
 
--- bytes go to memory, one list after another
-abbrev with_stores : List (ℕ × List SymByte) → List (Region SymByte) → List (Region SymByte)
-with_stores ws memory = fold (λ memory w. changed (written w.0 (length w.1) (λ i. slice_index_or w.1 i Undef)) memory) memory ws
+-- bytes go to memory
+abbrev pub stored : List (Region SymByte) → ℕ × List SymByte → List (Region SymByte)
+stored memory w = changed (written w.0 (length w.1) (λ i. slice_index_or w.1 i Undef)) memory
+
+-- and one list of them after another
+abbrev pub with_stores : List (ℕ × List SymByte) → List (Region SymByte) → List (Region SymByte)
+with_stores ws memory = fold stored memory ws
 
 extents-with_stores : (ws : List (ℕ × List SymByte)) (memory : List (Region SymByte)) → extents_of (with_stores ws memory) ≡ extents_of memory
 extents-with_stores [] memory = refl
 extents-with_stores (w ∷ ws) memory =
-    let f = written w.0 (length w.1) (λ i. slice_index_or w.1 i Undef) in
-    extents-with_stores ws (changed f memory) ∙ extents-changed f memory
+    extents-with_stores ws (stored memory w) ∙ extents-changed (written w.0 (length w.1) (λ i. slice_index_or w.1 i Undef)) memory
 
 pub extents-made : (map : MemMap) (s s' : PlainCore) (d : Does) (events : List Event) → applied map s d ≡ Went s' events → extents_of s'.memory ≡ extents_of s.memory
 extents-made map s s' (Stops why) events h = absurd cc

@@ -1,7 +1,6 @@
 -- What the machine keeps of a state, and the state that this stands for.
-use Rattle.std.specs.Prelude.{◌≡◌, ℕ, ◌+◌, ◌-◌, ◌<◌, ◌≤◌, List, [], ◌∷◌, length, map, Some, slice_index_or}
+use Rattle.std.specs.Prelude.{◌≡◌, ℕ, ◌+◌, ◌-◌, ◌^◌, ◌<◌, ◌≤◌, List, [], ◌∷◌, length, map, Some, slice_index_or}
 use Rattle.zc_base.specs.declared.mem_map.MemMap.{MemMap}
-use Rattle.zc_base.specs.MemMap.{IsMap}
 use Rattle.rv_decode.specs.Memory.{Region, Data, Stack, cell_at, changed, extents_of}
 use Rattle.sym_machine.specs.declared.held.Held.{Held}
 use Rattle.sym_machine.specs.declared.held.Held.TheVariants as held
@@ -47,10 +46,12 @@ regions_of k =
 abbrev pub kept_from : Kept → ℕ
 kept_from k = k.from
 
--- the map is one that a link may be made for, the stack is as long as it says, its bytes below the address are undefined, and data
--- lie below it
+-- the stack is as long as the map says, its bytes below the address are undefined, and data lie below it and above where a frame
+-- would end that goes on at address 0
 pub record IsKept (k : Kept) : Type 0 where
-  pub map_is : IsMap k.map
+  pub some : k.map.stack_low < k.map.stack_high
+  pub top : k.map.stack_high < 2 ^ 32
+  pub clear : 112 ≤ k.map.data_low
   pub size : length k.stack ≡ k.map.stack_high - k.map.stack_low
   pub low : k.map.stack_low ≤ k.from
   pub high : k.from ≤ k.map.stack_high

@@ -129,7 +129,7 @@ pub fn item_here<'a>(cut: &Cut, here: &'a CodePlace, p: Place) -> Option<(&'a It
         return None;
     };
     // Objects without a fault have no item near the end of the numbers.
-    let _objects = cut.objects();
+    cut.recall_invariant();
     let next = Place {
         object: p.object,
         section: p.section,

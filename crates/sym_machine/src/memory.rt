@@ -5,7 +5,6 @@ ghost use Rattle.rv_decode.specs.Memory.{Kind, blank, cell_at, changed, extents_
 ghost use Rattle.sym_machine.specs.Kept.{IsKept, IsSpan, kept_from, regions_of};
 ghost use Rattle.sym_machine.specs.Step.{undefined_below};
 ghost use Rattle.sym_machine.specs.declared.word.SymByte.TheVariants.{Undef};
-ghost use Rattle.zc_base.specs.MemMap.{IsMap};
 
 mod reads;
 mod writes;
@@ -39,9 +38,11 @@ impl Model for SymMemory {
 }
 
 impl SymMemory {
-    /// Memory with these bytes of data, and a stack that nothing was written to.
+    /// Memory with these bytes of data, and a stack that nothing was written to. No frame that begins in the stack and
+    /// goes on at address 0 comes to data.
     pub fn new(alloc: Global, map: MemMap, bytes: Pages) -> Result<SymMemory, AllocError>
-        requires map { IsMap map }
+        requires some { map.stack_low < map.stack_high }
+        requires clear { 112 ≤ map.data_low }
         requires apart { map.data_low + length bytes ≤ map.stack_low }
         ensures { IfOk result (λ m. m ≡ record {
           map = map;

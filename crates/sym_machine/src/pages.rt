@@ -62,6 +62,14 @@ impl Pages {
         Ok(Pages { size, pool })
     }
 
+    /// Says what holds of all pages, for the proof of a caller that needs no value of them. Nothing runs.
+    #[inline]
+    pub fn recall_invariant(&self)
+        ensures few { length self.now ≤ 2 ^ 52 }
+    {
+        let _size = self.len();
+    }
+
     /// The number of cells.
     #[inline(always)]
     pub fn len(&self) -> usize
@@ -136,7 +144,7 @@ impl Pages {
         ensures { result ≡ cell_word self.now i }
     {
         // The number of cells is far below the largest index, so no sum overflows.
-        let _size = self.len();
+        self.recall_invariant();
         SymWord {
             b0: self.cell(i),
             b1: self.cell(i + 1),
@@ -180,7 +188,7 @@ impl Pages {
         ensures each { AreCellsWritten i (map Num numbers.now) self.old self.new }
     {
         // The number of cells is far below the largest index, so no sum overflows.
-        let _size = self.len();
+        self.recall_invariant();
         let mut done = 0;
         while done < numbers.len() {
             let at = i + done;
@@ -224,7 +232,7 @@ impl Pages {
         ensures each { AreCellsWritten i cells.now self.old self.new }
     {
         // The number of cells is far below the largest index, so no sum overflows.
-        let _size = self.len();
+        self.recall_invariant();
         for k in 0..cells.len() {
             self.write(i + k, cells[k]);
         }

@@ -53,6 +53,14 @@ impl Stack {
         })
     }
 
+    // Says what holds of every stack, for the proof of a caller that needs no value of it. Nothing runs.
+    #[inline]
+    fn recall_invariant(&self)
+        ensures few { length (stack_cells self.now) ≤ 2 ^ 52 }
+    {
+        let _size = self.len();
+    }
+
     /// The number of cells.
     #[inline(always)]
     pub fn len(&self) -> usize
@@ -143,7 +151,7 @@ impl Stack {
         ensures { result ≡ cell_word (stack_cells self.now) i }
     {
         // The number of cells is far below the largest index, so no sum overflows.
-        let _size = self.len();
+        self.recall_invariant();
         SymWord {
             b0: self.cell(i),
             b1: self.cell(i + 1),
@@ -202,7 +210,7 @@ impl Stack {
         ensures { AreOpened i n self.old self.new }
     {
         // The number of cells is far below the largest index, so no sum overflows.
-        let _size = self.cells.len();
+        self.cells.recall_invariant();
         if i % STRIP + n > STRIP {
             self.open_across(i, n);
         } else if n > 0 && !self.is_open(i) {
@@ -218,7 +226,7 @@ impl Stack {
         ensures { AreOpened i n self.old self.new }
     {
         // The number of cells is far below the largest index, so no sum overflows.
-        let _size = self.cells.len();
+        self.cells.recall_invariant();
         for k in 0..n {
             self.open_strip(i + k, 1);
         }
@@ -244,7 +252,7 @@ impl Stack {
         ensures mark { self.new.mark ≤ 32 * strip + 32 }
     {
         // The number of cells is far below the largest index, so no sum overflows.
-        let _size = self.cells.len();
+        self.cells.recall_invariant();
         if STRIP * strip + STRIP < self.mark {
             self.lower_to(strip + 1);
         }
@@ -303,7 +311,7 @@ impl Stack {
         ensures { AreOpened i n self.old self.new }
     {
         // The number of cells is far below the largest index, so no sum overflows.
-        let _size = self.cells.len();
+        self.cells.recall_invariant();
         if i + n < self.mark {
             self.cells.clear(i + n, self.mark);
             self.mark = i;

@@ -228,7 +228,7 @@ impl State {
             return Ok(self.stuck(Why::NoInstruction));
         };
         // Objects without a fault have no item near the end of the numbers.
-        let _objects = cut.objects();
+        cut.recall_invariant();
         let next = Place {
             object: place.object,
             section: place.section,

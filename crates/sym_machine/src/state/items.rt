@@ -8,9 +8,10 @@ ghost use Rattle.sym_machine.specs.Objects.{program_of};
 ghost use Rattle.sym_machine.specs.Step.{applied, item_step};
 
 use super::State;
+use crate::address_parts::pc_low_sum;
 use crate::answer::SymStep;
 use crate::known::condition;
-use crate::results::{imm_word, reg_word};
+use crate::results::{imm_word, reg_word, sum, upper_word};
 use crate::why::Why;
 use block_cut::cut::Cut;
 use block_cut::item::Item;
@@ -36,7 +37,10 @@ impl State {
             Item::Hi(instr, target) => self.step_hi(instr, *target, next),
             Item::Lo(instr, target) => self.step_lo(instr, *target, next),
             Item::PcHi(instr, _) => self.step_pc_hi(instr, next),
-            Item::PcLo(instr, q) => self.step_pc_lo(cut, instr, *q, next),
+            Item::PcLo(instr, q) => {
+                let word = pc_low_sum(cut, *q, &self.base(instr));
+                self.step_sum(instr, &word, next)
+            }
             Item::Branch {
                 op,
                 first,
@@ -62,10 +66,13 @@ impl State {
             self.new.core }
     {
         match instr {
-            Instr::Upper { op, rd, imm } => self.step_upper_imm(*op, *rd, *imm, next),
+            Instr::Upper { op, rd, imm } => self.give(*rd, &upper_word(*op, *imm), next),
             Instr::Jalr { base, imm, .. }
             | Instr::Load { base, imm, .. }
-            | Instr::Store { base, imm, .. } => self.step_from(instr, *base, *imm, next),
+            | Instr::Store { base, imm, .. } => {
+                let word = sum(self.register(*base), *imm);
+                self.step_sum(instr, &word, next)
+            }
             Instr::WithImm { op, rd, first, imm } => {
                 let word = imm_word(*op, self.register(*first), *imm);
                 self.give(*rd, &word, next)

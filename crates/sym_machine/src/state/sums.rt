@@ -2,46 +2,24 @@
 // immediate, or the lower part of an address.
 
 ghost use Rattle.std.specs.Prelude.{◌≡◌, None};
-ghost use Rattle.psabi_sym.specs.Inputs.{parsed};
 ghost use Rattle.sym_machine.specs.Answer.{Makes};
 ghost use Rattle.sym_machine.specs.AddressParts as parts;
-ghost use Rattle.sym_machine.specs.Words as words;
 ghost use Rattle.sym_machine.specs.Change.{base_register, by_sum};
 ghost use Rattle.sym_machine.specs.Kept.{word_of};
-ghost use Rattle.sym_machine.specs.Objects.{program_of};
 ghost use Rattle.sym_machine.specs.State.{reg_of};
 ghost use Rattle.sym_machine.specs.Step.{applied};
 
 use super::State;
-use crate::address_parts::{low_sum, pc_low_sum};
+use crate::address_parts::low_sum;
 use crate::answer::SymStep;
 use crate::held::Held;
-use crate::results::sum;
 use crate::why::Why;
-use block_cut::cut::Cut;
 use psabi_sym::target::Target;
 use rv_decode::instr::{ImmOp, Instr};
 use std::alloc::AllocError;
 use zc_base::place::Place;
-use zc_base::reg::Reg;
 
 impl State {
-    // An instruction by the sum of a register and an immediate.
-    pub(super) fn step_from(
-        &mut self,
-        instr: &Instr,
-        base: Reg,
-        imm: i32,
-        next: Place,
-    ) -> Result<SymStep, AllocError>
-        requires { self.old.core.exit ≡ None }
-        ensures { Makes result (applied self.old.map self.old.core (by_sum instr.now (words.sum_word
-            (reg_of self.old.core base) imm) self.old.core next)) self.old.core self.new.core }
-    {
-        let word = sum(self.register(base), imm);
-        self.step_sum(instr, &word, next)
-    }
-
     // An instruction whose immediate is the lower part of a target.
     pub(super) fn step_lo(
         &mut self,
@@ -57,25 +35,8 @@ impl State {
         self.step_sum(instr, &word, next)
     }
 
-    // An instruction whose immediate is the lower part that goes with the `auipc` at a place.
-    pub(super) fn step_pc_lo(
-        &mut self,
-        cut: &Cut,
-        instr: &Instr,
-        q: Place,
-        next: Place,
-    ) -> Result<SymStep, AllocError>
-        requires { self.old.core.exit ≡ None }
-        ensures { Makes result (applied self.old.map self.old.core (by_sum instr.now (parts.pc_low_sum q
-            (parts.pc_target ((program_of (parsed cut.now)).item q)) (reg_of self.old.core
-            (base_register instr.now))) self.old.core next)) self.old.core self.new.core }
-    {
-        let word = pc_low_sum(cut, q, &self.base(instr));
-        self.step_sum(instr, &word, next)
-    }
-
     // The word in the register that the sum of an instruction begins with.
-    fn base(&self, instr: &Instr) -> Held
+    pub(super) fn base(&self, instr: &Instr) -> Held
         ensures { word_of result ≡ reg_of self.now.core (base_register instr.now) }
     {
         match instr {
@@ -88,7 +49,12 @@ impl State {
     }
 
     // An instruction that goes by a sum, with the word of that sum.
-    fn step_sum(&mut self, instr: &Instr, word: &Held, next: Place) -> Result<SymStep, AllocError>
+    pub(super) fn step_sum(
+        &mut self,
+        instr: &Instr,
+        word: &Held,
+        next: Place,
+    ) -> Result<SymStep, AllocError>
         requires { self.old.core.exit ≡ None }
         ensures { Makes result (applied self.old.map self.old.core (by_sum instr.now
             (word_of word.now) self.old.core next)) self.old.core self.new.core }

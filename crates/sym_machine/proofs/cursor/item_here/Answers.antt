@@ -10,7 +10,7 @@ pub overflow_add-next : goal.overflow_add-next
 overflow_add-next c =
     let inputs = c.args.cut.now in
     let q = c.args.p in
-    let none = (faultless inputs c.objects-objects.ensures.faultless).gathered in
+    let none = (faultless inputs c.recall_invariant.ensures.faultless).gathered in
     let there = c.requires in
     let here : item_at (parsed inputs) q ≡ Some c.in-Some.item = sym (ap (λ w. w.item) there) ∙ c.in-Some.is in
     omega (arith, (item_sized inputs none q c.in-Some.item here).inside, c.from.ensures, ap (λ w. w.size) there)

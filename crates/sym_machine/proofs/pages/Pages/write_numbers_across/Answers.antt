@@ -12,10 +12,10 @@ part_length : (numbers : List ℕ) (done end : ℕ) → done ≤ end → end ≤
 part_length numbers done end few within = omega (arith, length-take (end - done) (drop done numbers), length-drop done numbers, few, within)
 
 pub overflow_add-at : goal.overflow_add-at
-overflow_add-at c = omega (arith, c.requires, c.loop-done.invariant.within, c.len-size.ensures.value, c.len-size.ensures.few)
+overflow_add-at c = omega (arith, c.requires, c.loop-done.invariant.within, c.recall_invariant.ensures.few)
 
 pub overflow_add-done : goal.overflow_add-done
-overflow_add-done c = omega (arith, c.requires, c.loop-done.invariant.within, c.len-size.ensures.value, c.len-size.ensures.few)
+overflow_add-done c = omega (arith, c.requires, c.loop-done.invariant.within, c.recall_invariant.ensures.few)
 
 pub loop-done-init : goal.loop-done-init
 loop-done-init c = record {

@@ -29,3 +29,6 @@ returns c =
 
 pub new-requires-clause-apart : goal.new-requires-clause-apart
 new-requires-clause-apart c = omega (arith, c.map-map.ensures.is_map.data_room, c.map-map.ensures.is_map.stack, c.in_ok-data.ensures.most)
+
+pub new-requires-clause-clear : goal.new-requires-clause-clear
+new-requires-clause-clear c = omega (arith, c.map-map.ensures.is_map.above, c.map-map.ensures.is_map.code)

@@ -59,7 +59,7 @@ pub overflow_add-next : goal.overflow_add-next
 overflow_add-next c =
     let inputs = c.args.cut.now in
     let q = c.self.inside.place in
-    let none = (faultless inputs c.objects-objects.ensures.faultless).gathered in
+    let none = (faultless inputs c.recall_invariant.ensures.faultless).gathered in
     let here : item_at (parsed inputs) q ≡ Some c.in-Some-item.item = sym (ap (λ w. w.item) c.in-Some-at.ensures.1) ∙ c.in-Some-item.is in
     omega (arith, (item_sized inputs none q c.in-Some-item.item here).inside, c.from.ensures, ap (λ w. w.size) c.in-Some-at.ensures.1)
 
