@@ -113,22 +113,22 @@ fn numbers_from(alloc: Global, first: u32, count: u32) -> Result<IndexSet<u32>, 
     Ok(numbers)
 }
 
-// An object of functions, of their statements. The functions that these call are added to those that are named.
+// An object of functions, of their statements.
 fn function_parts(
     alloc: Global,
     first: u32,
     bodies: &[Body],
-    named: &mut IndexSet<u32>,
     statements: &[Statement],
 ) -> Result<ObjectParts, AllocError>
     requires number { first + length bodies.now < 2 ^ 31 }
     requires code { statements.now ≡ flat_map (λ body. body) bodies.now }
     requires size { code_size statements.now < 2 ^ 31 }
     requires range { All IsInRange statements.now }
-    requires own { named.old.keys ≡ range_with_len first (length bodies.now) }
     ensures { IfOk result (λ parts. parts ≡ function_object first bodies.now) }
 {
-    let sections = code_sections(alloc, 0, named, statements)?;
+    // The functions that these call come after their own.
+    let mut named = numbers_from(alloc, first, bodies.len() as u32)?;
+    let sections = code_sections(alloc, 0, &mut named, statements)?;
     let symbols = object_symbols(alloc, first, bodies, named.as_slice())?;
     Ok(ObjectParts {
         flags: 0,
@@ -149,6 +149,5 @@ pub fn function_object(
     ensures { IfOk result (λ parts. parts ≡ function_object first bodies.now) }
 {
     let statements = all_statements(alloc, bodies)?;
-    let mut named = numbers_from(alloc, first, bodies.len() as u32)?;
-    function_parts(alloc, first, bodies, &mut named, &statements)
+    function_parts(alloc, first, bodies, &statements)
 }

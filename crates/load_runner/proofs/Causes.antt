@@ -1,4 +1,4 @@
--- The causes of an end without a load, from those of each run, once the runs before it have exited.
+-- Why a load ends without a result: from the causes of each run, once the runs before it have exited.
 use Rattle.std.proofs.Common.{◌≡◌, ℕ, List, [], None, Result, IfErr, inl, inr, sym, subst}
 use Rattle.std.proofs.lemmas.List.Elements.{All-nil}
 use Rattle.std.specs.Result.{IsErrAnd}
@@ -19,7 +19,7 @@ use Rattle.load_runner.specs.declared.load_end.LoadEnd.TheVariants.{Stuck, Spent
 use Rattle.load_runner.specs.declared.run_load.TheConstants.{LOAD_CUTS}
 use Rattle.load_runner.proofs.ExitLaws.{eventually_exits, image_faultless}
 
--- the end of a call that is handed on
+-- an error of a call that is passed on
 pub handed_on : {T : Type 0} (r : Result T LoadEnd) (P : LoadEnd → Type 0) (last : LoadEnd) → IsErrAnd r (λ x. x ≡ last) → P last → IfErr r P
 handed_on r P last is given =
     let at = err_from_is_err_and r is in
@@ -53,7 +53,7 @@ module _ (inputs : Inputs) (plain zc : Link) (links : AreLinks inputs plain zc) 
     pub zc_exits : EventuallyExits zc.elf plan
     zc_exits = eventually_exits links.files zc.elf zc_kept count exit (subst (λ i. IsTraced i count exit) links.are traced) plan is_plan
 
--- the plan without interrupts is one
+-- the plan without interrupts writes only bytes
 pub no_cuts : IsPlan []
 no_cuts = All-nil (λ e. IsInterrupt e.cut)
 

@@ -41,7 +41,7 @@ use Rattle.load_runner.specs.Runs.{EventuallyExits, IsTraced, image_run, standar
 
 -- ---- refusals
 
--- a fault between objects is their first one, so objects without a fault are refused only when memory runs out
+-- a fault that is reported is the objects' first one, so objects without a fault are refused only if memory runs out
 pub none_refused : (inputs : Inputs) (fault : LinkFault) → first_fault inputs ≡ None → IsRefusal (gather_fault inputs) fault → IsRefusal None fault
 unfolding first_fault
 none_refused inputs (Object index fault) none is =
@@ -52,7 +52,7 @@ none_refused inputs OutOfMemory none is = tt
 -- ---- the image that a file is
 
 module _ (elf : List ℕ) (map : MemMap) (image : Image) where
-  -- what is read of it
+  -- the image that the file of a link is read as
   abbrev given : Image
   given = record { entry = entry_address elf; segments = segments_of elf; address = listed_address (place_list elf); map = map }
 
@@ -65,7 +65,7 @@ module _ (elf : List ℕ) (map : MemMap) (image : Image) where
       by None is some = is
       by (Some fault) is none = absurd (none-some image none)
 
-  -- the machine starts in the image's first state
+  -- the machine starts in the image's initial state
   image_core : image_in elf map ≡ Some image → loaded_core image ≡ first_core_of elf map
   unfolding image_in
   image_core read = by (is_some (image_fault elf map)) read
@@ -74,9 +74,9 @@ module _ (elf : List ℕ) (map : MemMap) (image : Image) where
       by true none = absurd (none-some image none)
       by false some = ap loaded_core (sym (same_Some given image some))
 
--- ---- how its run ends
+-- ---- how the image's run ends
 
--- in the first state the program hasn't exited, and nothing is committed
+-- in the initial state the program hasn't exited, and nothing is committed
 first_running : (elf : List ℕ) (map : MemMap) → (first_core_of elf map).exit ≡ None
 unfolding first_core
 first_running elf map = refl
@@ -108,7 +108,7 @@ module _ (elf : List ℕ) (plan : List Entry) (first : ZcCore) (is : first ≡ f
       let here = subst (λ z. EndsWithStop (zc_course z [] plan LOAD_STEPS) reason before after) is ran.0 in
       never_stops (first_core_of elf standard_map) [] (interrupts_by plan) has.count has.status has.last LOAD_STEPS reason before after has.state has.exit here
 
--- ---- its exit
+-- ---- the image's exit
 
 pub eventually_exits :
     (files : List (List ℕ)) (elf : List ℕ) → Preserves (standard_inputs files) elf → (count : ℕ) (exit : Exit)

@@ -16,7 +16,7 @@ lines_added text [] new is = is ∙ sym (append-nil text)
 lines_added text (line ∷ lines) new added =
     lines_added added.0 lines new added.2 ∙ ap (λ t. t ++ text_of lines) added.1 ∙ append_assoc text (line ++ 10 ∷ []) (text_of lines)
 
--- the lines of the counts, then those of the numbers and of the exits
+-- the lines of the counts, then the lines of the numbers and of the exits
 pub put_together :
     (functions objects : ℕ) (load : Load) (t1 t2 t3 text : List ℕ) → t1 ≡ line_with (codes "functions") (functions ∷ []) ++ 10 ∷ []
     → t2 ≡ t1 ++ (line_with (codes "objects") (objects ∷ []) ++ 10 ∷ []) → t3 ≡ t2 ++ text_of (number_lines load)

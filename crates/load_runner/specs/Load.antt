@@ -1,4 +1,4 @@
--- What a load says of objects.
+-- The result of a load: both links of objects, and how their runs exit.
 use Rattle.std.specs.Prelude.{◌≡◌, ℕ, List, []}
 use Rattle.interrupt_plan.specs.Made.{made_plan}
 use Rattle.psabi_sym.specs.Inputs.{Inputs}
@@ -22,8 +22,8 @@ pub record AreLinks (inputs : Inputs) (plain zc : Link) : Type 0 where
   pub is_plain : IsPlainLink inputs plain
   pub is_zc : IsZcLink inputs zc
 
--- the numbers are those of the links and of the exits: of the program after `steps` steps, of the plain image, of the Zc image
--- after `commits` commits, and of the Zc image under the plan that is made from a number
+-- the load has the numbers of the links, and the exits of the program after `steps` steps, of the plain image, of the
+-- Zc image after `commits` commits, and of the Zc image under the plan that is generated from a number
 pub record IsLoad (inputs : Inputs) (number : ℕ) (load : Load) : Type 0 where
   pub links : BothLinks inputs
   pub plain_text : load.plain_text ≡ links.plain.plain.text

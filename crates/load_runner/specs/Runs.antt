@@ -1,4 +1,4 @@
--- The runs of a load, each over no input: that of the objects' program, and those of images.
+-- The runs of a load, each without input: the run of the objects' program, and the runs of images.
 use Rattle.std.specs.Prelude.{◌≡◌, ℕ, List, [], ◌∷◌, ◌++◌, Some, Ok}
 use Rattle.zc_base.specs.MemMap.{standard_map}
 use Rattle.zc_base.specs.declared.place.Place.{Place}
@@ -16,7 +16,7 @@ use Rattle.zc_machine.specs.declared.reason.Reason.{Reason}
 use Rattle.zc_outside.specs.Course.{Course, Exit, ExitsAt}
 use Rattle.load_runner.specs.declared.run_load.TheConstants.{LOAD_STEPS}
 
--- objects in the map that the linker uses if it is told no other
+-- objects with the map that the linker uses if it is given no other
 abbrev pub standard_inputs : List (List ℕ) → Inputs
 standard_inputs files = inputs_in standard_map files
 
@@ -38,7 +38,7 @@ Exits run = (exit : Exit) × ExitsWith run exit
 
 -- ---- what the runs rest on
 
--- the program's run exits so, and the exit is its last event
+-- the program's run ends with this exit, which is its last event
 pub record IsTraced (inputs : Inputs) (count : ℕ) (exit : Exit) : Type 0 where
   pub exits : ExitsAt (trace_run inputs) count exit
   pub events : List Event
@@ -52,7 +52,7 @@ pub record EventuallyExits (elf : List ℕ) (plan : List Entry) : Type 0 where
   pub status : ℕ
   pub exit : last.core.exit ≡ Some status
 
--- a machine is in the first state of an image that exits under a plan
+-- a machine is in the initial state of an image that exits under a plan
 pub record BeginsImage (z : ZcCore) (plan : List Entry) : Type 0 where
   pub elf : List ℕ
   pub first : z ≡ first_core_of elf standard_map

@@ -6,11 +6,11 @@ use Rattle.pick_check.specs.Text.{line_with, net_line, text_of}
 use Rattle.zc_outside.specs.Course.{Exit}
 use Rattle.load_runner.specs.declared.load.Load.{Load}
 
--- a name, the bytes that were written, as hexadecimal digits, and the status, with one space between two
+-- a line of an exit: a name, the bytes that were written, in hexadecimal digits, and the status, separated by spaces
 abbrev pub exit_line : List ℕ → Exit → List ℕ
 exit_line name exit = join_with_byte 32 (name ∷ encode_lower exit.bytes ∷ decimal exit.status ∷ [])
 
--- a load's numbers
+-- the lines of a load's numbers
 abbrev pub number_lines : Load → List (List ℕ)
 number_lines load =
     line_with (codes "plain text") (load.plain_text ∷ []) ∷

@@ -1,4 +1,4 @@
-// What objects without a fault are linked to and cut into. Want of memory alone can stop that.
+// Links and cuts objects that have no fault. Only running out of memory can stop that.
 
 ghost use Rattle.std.specs.Prelude.{◌≡◌, IfErr, IfOk, None};
 ghost use Rattle.block_cut.specs.Faults.{first_fault};
@@ -65,7 +65,7 @@ fn faultless_objects(alloc: Global, files: &[Vec<u8>]) -> Result<Objects, LoadEn
     }
 }
 
-// Why objects without a fault are refused.
+// The end of a load when objects without a fault are refused: memory ran out.
 fn want_of_memory(fault: LinkFault) -> LoadEnd
     requires { IsRefusal None fault }
     ensures { result ≡ LoadEnd.OutOfMemory }

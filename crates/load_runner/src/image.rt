@@ -21,7 +21,7 @@ use zc_machine::run::{RunEnd, run};
 use zc_outside::console::ConsoleFault;
 use zc_outside::mem_console::MemConsole;
 
-/// Runs the image of a link over no input twice, first without interrupts and then under a plan, each up to its exit.
+/// Runs the image of a link twice without input, first without interrupts and then under a plan, each up to its exit.
 pub fn run_both(alloc: Global, linked: &Linked, plan: &Plan) -> Result<(Ended, Ended), LoadEnd>
     requires faultless { image_fault linked.now.elf standard_map ≡ None }
     requires uncut_exits { EventuallyExits linked.now.elf [] }
@@ -35,7 +35,7 @@ pub fn run_both(alloc: Global, linked: &Linked, plan: &Plan) -> Result<(Ended, E
     Ok((uncut, cut))
 }
 
-/// Runs the image of a link over no input without interrupts, up to its exit.
+/// Runs the image of a link without input and without interrupts, up to its exit.
 pub fn run_uncut(alloc: Global, linked: &Linked) -> Result<Ended, LoadEnd>
     requires faultless { image_fault linked.now.elf standard_map ≡ None }
     requires exits { EventuallyExits linked.now.elf [] }
@@ -46,8 +46,8 @@ pub fn run_uncut(alloc: Global, linked: &Linked) -> Result<Ended, LoadEnd>
     run_image(alloc, linked, &no_cuts)
 }
 
-/// Runs the image of a link over no input under a plan, up to its exit. An image that has one is never stopped before
-/// it.
+/// Runs the image of a link without input under a plan, up to its exit. An image that exits is never stopped before
+/// its exit.
 fn run_image(alloc: Global, linked: &Linked, plan: &Plan) -> Result<Ended, LoadEnd>
     requires faultless { image_fault linked.now.elf standard_map ≡ None }
     requires exits { EventuallyExits linked.now.elf plan.now }
@@ -61,7 +61,7 @@ fn run_image(alloc: Global, linked: &Linked, plan: &Plan) -> Result<Ended, LoadE
     run_machine(alloc, &mut machine, plan)
 }
 
-// Runs a machine from the first state of an image.
+// Runs a machine from the initial state of an image.
 fn run_machine(alloc: Global, machine: &mut Machine, plan: &Plan) -> Result<Ended, LoadEnd>
     requires { BeginsImage machine.old plan.now }
     ensures ok { IfOk result (λ ended. (elf : List ℕ) → machine.old ≡ first_core_of elf standard_map

@@ -1,4 +1,4 @@
-//! Runs of objects: they are linked as they are and with short code, their program is traced, and both images are run.
+//! Loads: objects are linked by `plain` and by `zc`, their program is traced, and both images are run.
 #![tactic(auto)]
 
 mod ended;

@@ -1,4 +1,4 @@
-// What is known of objects once their program was traced and their images were run.
+// The result of a load: objects linked both ways, their program traced, and both images run.
 
 use std::marker::Model;
 
@@ -17,12 +17,12 @@ impl Model for Exit {
     ghost view = { λ exit. record { bytes = exit.bytes.items; status = exit.status } };
 }
 
-/// The lengths of both texts in bytes, what the Zc image's table of jumps and calls saves by its certificate, and how
-/// the program exited.
+/// The lengths of both texts in bytes, what the Zc image's jump table saves by its certificate, and how the program
+/// exited.
 ///
-/// `trace` is the exit in the symbolic machine, after `steps` steps. The others are those of images: `plain` that of
-/// the plain image, `zc` that of the Zc image, after `commits` commits, and `cuts` that of the Zc image under
-/// interrupts. An exit is the last of its steps or commits.
+/// `trace` is the exit in the symbolic machine, after `steps` steps. The other exits are made by images: `plain` by the
+/// plain image, `zc` by the Zc image, after `commits` commits, and `cuts` by the Zc image under interrupts. The exit is
+/// counted as the last step or commit.
 #[derive(Drop)]
 pub struct Load {
     pub plain_text: u32,

@@ -1,17 +1,17 @@
-// Why no load is known.
+// Why a load has no result.
 
 use std::alloc::AllocError;
 use sym_machine::why::Why;
 use thiserror::Error;
 use zc_base::place::Place;
 
-/// Why one of the runs of objects doesn't come to its exit.
+/// Why one of the runs doesn't exit.
 #[derive(Clone, Copy, PartialEq, Eq, Debug, Error)]
 pub enum LoadEnd {
     /// The symbolic machine is stuck at a place.
     #[error("the program is stuck")]
     Stuck(Place, Why),
-    /// A run made `LOAD_STEPS` steps or commits without coming to its exit. The runs before it came to theirs.
+    /// A run made `LOAD_STEPS` steps or commits without an exit. The runs before it exited.
     #[error("the program doesn't exit in time")]
     Spent,
     #[error("out of memory")]

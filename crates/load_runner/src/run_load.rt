@@ -23,17 +23,17 @@ use interrupt_plan::plan::Plan;
 use std::alloc::Global;
 use zc_link::linked::Linked;
 
-/// The most steps or commits of a run.
+/// The limit of steps or commits of each run.
 pub const LOAD_STEPS: u64 = 100_000_000;
 
 /// The number of interrupts in the last run.
 pub const LOAD_CUTS: u32 = 200;
 
-/// Links these objects as they are and with short code, traces their program, runs the plain image, the Zc image, and
-/// the Zc image under the plan of `LOAD_CUTS` interrupts that is made from the number. No program has input.
+/// Links these objects by `plain` and by `zc`, traces their program, and runs the plain image, the Zc image, and the Zc
+/// image under the plan of `LOAD_CUTS` interrupts that is generated from the number. No run has input.
 ///
-/// What is answered is how the runs exit, or why the first that doesn't come to its exit doesn't: in the symbolic
-/// machine a program may be stuck, but once it has exited there, its images are never stopped.
+/// The result is how the runs exit, or why the first one that doesn't exit doesn't. In the symbolic machine a program
+/// may get stuck, but once it has exited there, its images are never stopped.
 pub fn run_load(alloc: Global, number: u64, objects: &[Vec<u8>]) -> Result<Load, LoadEnd>
     requires { first_fault (standard_inputs (contents_of objects.now)) ≡ None }
     ensures ok { IfOk result (IsLoad (standard_inputs (contents_of objects.now)) number) }

@@ -38,7 +38,7 @@ fn push_numbers(text: &mut String, load: &Load) -> Result<(), AllocError>
     Ok(())
 }
 
-// Adds the lines of its exits.
+// Adds the lines of a load's exits.
 fn push_exits(alloc: Global, text: &mut String, load: &Load) -> Result<(), AllocError>
     ensures { OnOk result (string_bytes text.new ≡ string_bytes text.old ++ text_of (exit_lines load.now)) }
 {

@@ -17,7 +17,7 @@ use sym_machine::sym::Sym;
 use zc_outside::console::ConsoleFault;
 use zc_outside::mem_console::MemConsole;
 
-/// Traces the program of the objects over no input, up to its exit.
+/// Traces the program of the objects without input, up to its exit.
 pub fn trace(alloc: Global, cut: &Cut) -> Result<Ended, LoadEnd>
     ensures ok { IfOk result (λ ended. IsTraced cut.now ended.count ended.exit) }
     ensures err { IfErr result (TraceCause cut.now) }
@@ -26,7 +26,7 @@ pub fn trace(alloc: Global, cut: &Cut) -> Result<Ended, LoadEnd>
     trace_start(alloc, cut, &mut sym)
 }
 
-// Traces it from its start.
+// Traces the program from its start.
 fn trace_start(alloc: Global, cut: &Cut, sym: &mut Sym) -> Result<Ended, LoadEnd>
     requires { sym.old ≡ first_plain (program_of (parsed cut.now)) [] }
     ensures ok { IfOk result (λ ended. IsTraced cut.now ended.count ended.exit) }

@@ -1,41 +1,15 @@
 -- Roles of items, one after another: after the first item of a group come as many inside it as it has further items, and then one
 -- that isn't inside (`role_next`).
-use Rattle.std.proofs.Common.{◌≡◌, ◌∙◌, ℕ, zero, suc, ◌+◌, ◌<◌, ◌≤◌, List, [], ◌∷◌, Option, Some, None, Bool, true, false, cond, length, refl, ap, subst, arith}
+use Rattle.std.proofs.Common.{◌≡◌, ◌∙◌, ℕ, zero, suc, ◌+◌, ◌<◌, ◌≤◌, List, [], ◌∷◌, Option, Some, None, false, length, refl, ap, subst, arith}
 use Rattle.std.specs.Prelude.{slice_get}
 use Rattle.std.proofs.lemmas.Option.{none-some, same_Some}
-use Rattle.rv_decode.specs.declared.instr.Instr.{Instr}
-use Rattle.frame_match.specs.Groups.{Spot, items_behind, op_then, ops_behind, ops_from, group_role, roles_from}
+use Rattle.frame_match.specs.Groups.{Spot, items_behind, ops_from, group_role, roles_from}
 use Rattle.frame_match.specs.Matches.{longest_of}
 use Rattle.frame_match.specs.declared.found.Found.{Found}
 use Rattle.frame_match.specs.declared.role.Role.{Role}
 use Rattle.frame_match.specs.declared.role.Role.TheVariants.{Alone, First, Inside}
 use Rattle.shrink_layout.specs.Units.{is_within}
-use Rattle.frame_match.proofs.GroupLaws.{longest_sized}
-
--- ---- instructions behind an item
-
--- no more than items
-then_few : (o : Option Instr) (is : List Instr) → length (op_then o is) ≤ suc (length is)
-then_few None is = omega arith
-then_few (Some i) is = omega arith
-
-behind_few : (ss : List Spot) → length (ops_behind ss) ≤ length ss
-behind_few [] = omega arith
-behind_few (s ∷ ss) = by s.leader (behind_few ss)
-  where
-    by : (b : Bool) → length (ops_behind ss) ≤ length ss → length (cond b [] (op_then s.op (ops_behind ss))) ≤ suc (length ss)
-    by true few = omega arith
-    by false few = omega (arith, few, then_few s.op (ops_behind ss))
-
--- a group has no more further items than instructions stand behind its first
-group_few : (s : Spot) (ss : List Spot) → items_behind (group_role s.place (longest_of (ops_from s ss))) ≤ length (ops_behind ss)
-group_few s ss = by (longest_of (ops_from s ss)) refl
-  where
-    by : (o : Option Found) → longest_of (ops_from s ss) ≡ o → items_behind (group_role s.place o) ≤ length (ops_behind ss)
-    by None at = omega arith
-    by (Some f) at =
-        let sized = longest_sized (ops_from s ss) f at in
-        omega (arith, sized.least, sized.within, then_few s.op (ops_behind ss))
+use Rattle.frame_match.proofs.GroupLaws.{left_within, longest_sized, ops_few}
 
 -- what is found at an item isn't inside
 role_outside : (s : Spot) (ss : List Spot) → is_within (Some (group_role s.place (longest_of (ops_from s ss)))) ≡ false
@@ -46,13 +20,6 @@ role_outside s ss = by (longest_of (ops_from s ss))
     by (Some f) = refl
 
 -- ---- roles
-
--- there are as many roles as items
-pub roles_count : (left : ℕ) (ss : List Spot) → length (roles_from left ss) ≡ length ss
-roles_count zero [] = refl
-roles_count (suc left) [] = refl
-roles_count zero (s ∷ ss) = ap suc (roles_count (items_behind (group_role s.place (longest_of (ops_from s ss)))) ss)
-roles_count (suc left) (s ∷ ss) = ap suc (roles_count left ss)
 
 -- from role k on, `left` items are inside a group, and the next one isn't
 pub record AreInside (rs : List Role) (k left : ℕ) : Type 0 where
@@ -89,7 +56,7 @@ role_next zero [] k r at outside = absurd (none-some r at)
 role_next (suc left) [] k r at outside = absurd (none-some r at)
 role_next zero (s ∷ ss) zero r at outside =
     let own = group_role s.place (longest_of (ops_from s ss)) in
-    let rest = inside_first (items_behind own) ss (omega (arith, group_few s ss, behind_few ss)) in
+    let rest = inside_first (items_behind own) ss (omega (arith, left_within s ss, ops_few ss)) in
     let more = inside_more own (roles_from (items_behind own) ss) 0 (items_behind own) rest in
     subst (λ (x : Role). AreInside (roles_from zero (s ∷ ss)) 1 (items_behind x)) (same_Some own r at) more
 role_next zero (s ∷ ss) (suc k) r at outside =

@@ -22,12 +22,12 @@ use Rattle.frame_match.specs.Groups.{Spot, items_behind, role_at, role_on, roles
 use Rattle.frame_match.specs.declared.group.Group.{Group}
 use Rattle.frame_match.specs.declared.role.Role.{Role}
 use Rattle.frame_match.specs.declared.role.Role.TheVariants.{Alone, First, Inside}
-use Rattle.frame_match.proofs.GroupLaws.{inside_no_leader}
+use Rattle.frame_match.proofs.GroupLaws.{inside_no_leader, roles_count}
 use Rattle.shrink_layout.specs.Pieces.{piece_number_at, pieces_of, slot_at, unit_at, unit_piece}
 use Rattle.shrink_layout.specs.Units.{CodeUnit, OneGroup, OneItem, OneSite, is_inside, is_listed_at, is_within, item_unit, no_slot, unit_by, unit_items}
 use Rattle.shrink_layout.specs.declared.piece.Piece.TheVariants.{WithOthers}
 use Rattle.shrink_layout.proofs.NumberLaws.{behind, below_more, filter_few, number_next, place_piece, starts_cut}
-use Rattle.shrink_layout.proofs.RoleLaws.{AreInside, first_some, role_next, roles_count}
+use Rattle.shrink_layout.proofs.RoleLaws.{AreInside, first_some, role_next}
 use Rattle.shrink_layout.proofs.SectionLaws.{some_at}
 use Rattle.shrink_layout.proofs.UnitLaws.{found_item, found_start, role_found, start_item, unit-alone, unit-first, unit-inside, unit-some, unit_found, unit_group, unit_item, unit_site}
 

@@ -1,46 +1,40 @@
 -- What slots save is two bytes for each jump or call through the table (`saved_twice`). So if the table pays, the text with it is shorter than that
 -- without by the net at least (`net_paid`).
-use Rattle.std.proofs.Common.{◌≡◌, ◌∙◌, ℕ, zero, suc, ◌+◌, ◌*◌, ◌<◌, ◌≤◌, List, [], ◌∷◌, ◌++◌, Bool, true, false, cond, drop, filter, length, map, take, Option, Some, None, slice_get, slice_index, refl, sym, ap, subst, arith, eqb}
+use Rattle.std.proofs.Common.{◌≡◌, ◌∙◌, ℕ, zero, suc, ◌+◌, ◌*◌, ◌<◌, ◌≤◌, List, [], ◌∷◌, ◌++◌, Bool, true, false, cond, drop, filter, length, map, not, take, Option, Some, None, slice_get, slice_index, refl, sym, ap, subst, arith, eqb}
 use Rattle.std.specs.Prelude.{◌&&◌, ◌||◌}
 use Rattle.std.specs.List.{flat_map, list_any}
 use Rattle.std.specs.Option.{is_some, option_map, option_map_or, option_to_list}
-use Rattle.std.proofs.lemmas.Bool.{false≢true}
-use Rattle.std.proofs.lemmas.List.{length-map}
+use Rattle.std.proofs.lemmas.Bool.{false≢true, or_left, or_parts, or_right}
+use Rattle.std.proofs.lemmas.List.{drop-map, length-map, take-map}
 use Rattle.std.proofs.lemmas.List.Elements.{All-map, All-weaker}
 use Rattle.std.proofs.lemmas.Option.{none-some, same_Some}
 use Rattle.zc_base.specs.Places.{same_place}
 use Rattle.zc_base.specs.declared.place.Place.{Place}
 use Rattle.psabi_sym.specs.Faults.{gather_fault}
+use Rattle.psabi_sym.specs.Indexed.{all_sections}
 use Rattle.psabi_sym.specs.Inputs.{Inputs, ParsedInputs, parsed}
-use Rattle.block_cut.specs.Items.{all_places, all_targets, is_target_at}
+use Rattle.block_cut.specs.Items.{all_places, all_targets, is_target_at, next_at}
+use Rattle.block_cut.specs.Leaders.{ends_block, goes_to, is_leader_at, item_leads, section_leads}
 use Rattle.block_cut.specs.declared.item.Item.{Item}
+use Rattle.block_cut.specs.declared.item.Item.TheVariants as item
 use Rattle.pick_check.specs.Best.{IsAssignment, Saves}
 use Rattle.pick_check.specs.Saved.{cost_of, saved_by, saved_in, saved_of}
 use Rattle.pick_check.specs.declared.part.Part.TheVariants.{Jumps, Calls}
 use Rattle.pick_check.specs.declared.saving.Saving.{Saving}
 use Rattle.shrink_layout.specs.Pieces.{piece_number_at, site_at, slot_at, unit_at}
-use Rattle.shrink_layout.specs.Savings.{has_sites, saving_of, savings_of, sites_of}
+use Rattle.shrink_layout.specs.Savings.{has_sites, saving_of, savings_of, sites_of, sites_to}
 use Rattle.shrink_layout.specs.Settled.{is_site, settled_end, settled_sizes, units_with}
 use Rattle.shrink_layout.specs.Table.{TablePays}
-use Rattle.shrink_layout.specs.Units.{AreTargetSlots, IsTargetSlot, CodeUnit, OneGroup, OneItem, OneSite, front_size, is_slot_of, item_unit, slot_for, slot_from}
+use Rattle.shrink_layout.specs.Units.{AreTargetSlots, IsTargetSlot, CodeUnit, OneGroup, OneItem, OneSite, front_size, is_listed_at, is_slot_of, item_unit, jump_of, slot_for, slot_from}
 use Rattle.shrink_layout.proofs.GroupedSites.{AreApart, AreCounted, AreSlotPlaces, ArePlacesApart, at_sites, kept_apart, kept_counted, slotted, saved_same, sites_saved, any_slotted}
 use Rattle.shrink_layout.proofs.PlaceLaws.{same_place-true}
 use Rattle.shrink_layout.proofs.PremiseLaws.{Each, each-append}
+use Rattle.shrink_layout.proofs.RolePlaces.{leader_listed}
 use Rattle.shrink_layout.proofs.SiteLaws.{site_found, site_unit, slot_nowhere, slot_there}
 use Rattle.shrink_layout.proofs.TargetNumbers.{IsNumbered, got_target}
 use Rattle.shrink_layout.proofs.UnitLaws.{unit_site}
 
 -- ---- lists
-
-take_map : {X Y : Type 0} (f : X → Y) (n : ℕ) (xs : List X) → take n (map f xs) ≡ map f (take n xs)
-take_map f zero xs = refl
-take_map f (suc n) [] = refl
-take_map f (suc n) (x ∷ xs) = ap (λ l. f x ∷ l) (take_map f n xs)
-
-drop_map : {X Y : Type 0} (f : X → Y) (n : ℕ) (xs : List X) → drop n (map f xs) ≡ map f (drop n xs)
-drop_map f zero xs = refl
-drop_map f (suc n) [] = refl
-drop_map f (suc n) (x ∷ xs) = drop_map f n xs
 
 -- what passes of what there is, place by place
 passed_flat : {X Y : Type 0} (f : X → Option Y) (test : Y → Bool) (xs : List X)
@@ -104,23 +98,68 @@ module _ (inputs : Inputs) (none : gather_fault inputs ≡ None) where
   unfolding savings_of
   savings_counted = kept_counted (sites_of given) has_sites (all_targets given.objects)
 
-  -- code may lead to each target
-  savings_targets : Each (λ (s : Saving). is_target_at given.objects s.target ≡ true) (savings_of given)
+  -- no site leads to a place to which no item leads
+  no_sites : (to : Place) (qs : List Place) (rd : ℕ) → list_any (item_leads given to) qs ≡ false → sites_to (flat_map (λ q. option_to_list (site_at given q)) qs) rd to ≡ 0
+  no_sites to [] rd h = refl
+  no_sites to (q ∷ qs) rd h =
+      let two = or_parts (item_leads given to q) (list_any (item_leads given to) qs) h in
+      by (site_at given q) refl two.0 (no_sites to qs rd two.1)
+    where
+      rest : List (ℕ × Place)
+      rest = flat_map (λ q. option_to_list (site_at given q)) qs
+
+      goes : (i : Item) (jump : ℕ × Place) → jump_of i ≡ Some jump → goes_to to i ≡ same_place jump.1 to
+      goes (item.Jump own there) jump is = ap (λ (x : ℕ × Place). same_place x.1 to) (same_Some (own, there) jump is)
+      goes (item.Call own temp there) jump is = ap (λ (x : ℕ × Place). same_place x.1 to) (same_Some (own, there) jump is)
+      goes i jump is = absurd (none-some jump is)
+
+      passed : (b c : Bool) → c ≡ false → (jump : ℕ × Place) (n : ℕ) → sites_to rest rd to ≡ n
+          → length (cond (b && c) (jump ∷ filter (λ s. eqb s.0 rd && same_place s.1 to) rest) (filter (λ s. eqb s.0 rd && same_place s.1 to) rest)) ≡ n
+      passed true true other jump n more = absurd cc
+      passed true false other jump n more = more
+      passed false c other jump n more = more
+
+      by : (o : Option (ℕ × Place)) → site_at given q ≡ o → item_leads given to q ≡ false → sites_to rest rd to ≡ 0 → sites_to (option_to_list o ++ rest) rd to ≡ 0
+      by None at other more = more
+      by (Some jump) at other more =
+          let site = site_found given q jump at in
+          let leads : (goes_to to site.item || (ends_block site.item && same_place (next_at given.objects q) to)) ≡ false =
+          ap (λ o. option_map_or (λ i. goes_to to i || (ends_block i && same_place (next_at given.objects q) to)) o false) (sym site.is) ∙ other in
+          let elsewhere : same_place jump.1 to ≡ false = sym (goes site.item jump site.leads) ∙ (or_parts (goes_to to site.item) _ leads).0 in
+          passed (eqb jump.0 rd) (same_place jump.1 to) elsewhere jump 0 more
+
+  -- so a basic block begins where one leads
+  sites_leader : (to : Place) → has_sites (saving_of (sites_of given) to) ≡ true → is_leader_at given to ≡ true
+  unfolding sites_of is_leader_at
+  sites_leader to some = by (list_any (item_leads given to) (all_places given.objects)) refl
+    where
+      by : (b : Bool) → list_any (item_leads given to) (all_places given.objects) ≡ b → is_leader_at given to ≡ true
+      by true h =
+          let placed = eqb to.offset 0 && is_target_at given.objects to in
+          let related = list_any (section_leads given to) (all_sections given.objects) in
+          or_right placed _ (or_right related _ (or_left (list_any (item_leads given to) (all_places given.objects)) _ h))
+      by false h =
+          let none_at : (rd : ℕ) → sites_to (sites_of given) rd to ≡ 0 = λ rd. no_sites to (all_places given.objects) rd h in
+          let zero_sites : has_sites (saving_of (sites_of given) to) ≡ false = λ j. not (eqb (none_at 0 j + none_at 1 j) 0) in
+          absurd (cc (some, zero_sites))
+
+  -- images list each target
+  savings_listed : Each (λ (s : Saving). is_listed_at given s.target ≡ true) (savings_of given)
   unfolding savings_of
-  savings_targets = from (all_targets given.objects) (λ j q at. (got_target inputs none j q at).target)
+  savings_listed = from (all_targets given.objects) (λ j q at. (got_target inputs none j q at).target)
     where
       from : (qs : List Place) → ((j : ℕ) (q : Place) → slice_get qs j ≡ Some q → is_target_at given.objects q ≡ true)
-          → Each (λ (s : Saving). is_target_at given.objects s.target ≡ true) (filter has_sites (map (saving_of (sites_of given)) qs))
+          → Each (λ (s : Saving). is_listed_at given s.target ≡ true) (filter has_sites (map (saving_of (sites_of given)) qs))
       from [] each = tt
-      from (q ∷ qs) each = by (has_sites (saving_of (sites_of given) q)) (from qs (λ j r at. each (suc j) r at))
+      from (q ∷ qs) each = by (has_sites (saving_of (sites_of given) q)) refl (from qs (λ j r at. each (suc j) r at))
         where
           rest : List Saving
           rest = filter has_sites (map (saving_of (sites_of given)) qs)
 
-          by : (b : Bool) → Each (λ (s : Saving). is_target_at given.objects s.target ≡ true) rest
-              → Each (λ (s : Saving). is_target_at given.objects s.target ≡ true) (cond b (saving_of (sites_of given) q ∷ rest) rest)
-          by true more = (each 0 q refl, more)
-          by false more = more
+          by : (b : Bool) → has_sites (saving_of (sites_of given) q) ≡ b → Each (λ (s : Saving). is_listed_at given s.target ≡ true) rest
+              → Each (λ (s : Saving). is_listed_at given s.target ≡ true) (cond b (saving_of (sites_of given) q ∷ rest) rest)
+          by true some more = (leader_listed inputs none q (each 0 q refl) (sites_leader q some), more)
+          by false none more = more
 
   -- ---- sites by the registers that they link
 
@@ -240,7 +279,7 @@ module _ (inputs : Inputs) (none : gather_fault inputs ≡ None) where
         each (s ∷ rest) counted = (ap (λ (x : Saving). 2 * x.jump_sites) counted.0, each rest counted.1)
 
         same : (p : Place) → slotted (take 32 numbers) 0 (savings_of given) p ≡ has_low slots p
-        same p = sym (ap (list_any (is_slot_of p)) (take_map place 32 numbers) ∙ any_slotted (savings_of given) place are p (take 32 numbers))
+        same p = sym (ap (list_any (is_slot_of p)) (take-map place 32 numbers) ∙ any_slotted (savings_of given) place are p (take 32 numbers))
 
     -- the calls to targets with a slot from 32 on save two bytes each
     calls_saved : saved_in Calls (savings_of given) (drop 32 numbers) ≡ 2 * length (filter (λ s. eqb s.0 1 && has_high slots s.1) (sites_of given))
@@ -254,7 +293,7 @@ module _ (inputs : Inputs) (none : gather_fault inputs ≡ None) where
         each (s ∷ rest) counted = (ap (λ (x : Saving). 2 * x.call_sites) counted.0, each rest counted.1)
 
         same : (p : Place) → slotted (drop 32 numbers) 0 (savings_of given) p ≡ has_high slots p
-        same p = sym (ap (list_any (is_slot_of p)) (drop_map place 32 numbers) ∙ any_slotted (savings_of given) place are p (drop 32 numbers))
+        same p = sym (ap (list_any (is_slot_of p)) (drop-map place 32 numbers) ∙ any_slotted (savings_of given) place are p (drop 32 numbers))
 
     -- two bytes for each jump or call through the table
     pub saved_twice : saved_of (savings_of given) numbers ≡ 2 * units_with given slots is_site
@@ -272,17 +311,17 @@ module _ (inputs : Inputs) (none : gather_fault inputs ≡ None) where
     pub net_paid : (net : ℕ) → Saves (savings_of given) numbers net → TablePays given slots → settled_end given slots + net ≤ settled_end given []
     net_paid net saves pays = omega (arith, saves, pays, saved_twice, cost_front)
 
-    -- the slots lead where code may lead
-    target_slot : (n : ℕ) → IsTargetSlot given.objects (place n)
-    target_slot zero = subst (IsTargetSlot given.objects) (sym are.hole) tt
-    target_slot (suc k) = subst (IsTargetSlot given.objects) (sym (are.target k)) (by (slice_get (savings_of given) k) refl)
+    -- the slots lead to places that images list
+    target_slot : (n : ℕ) → IsTargetSlot given (place n)
+    target_slot zero = subst (IsTargetSlot given) (sym are.hole) tt
+    target_slot (suc k) = subst (IsTargetSlot given) (sym (are.target k)) (by (slice_get (savings_of given) k) refl)
       where
-        by : (o : Option Saving) → slice_get (savings_of given) k ≡ o → IsTargetSlot given.objects (option_map (λ (s : Saving). s.target) o)
+        by : (o : Option Saving) → slice_get (savings_of given) k ≡ o → IsTargetSlot given (option_map (λ (s : Saving). s.target) o)
         by None at = tt
-        by (Some s) at = each_got (λ (t : Saving). is_target_at given.objects t.target ≡ true) (savings_of given) k s savings_targets at
+        by (Some s) at = each_got (λ (t : Saving). is_listed_at given t.target ≡ true) (savings_of given) k s savings_listed at
 
-    pub target_slots : IsAssignment (savings_of given) numbers → AreTargetSlots given.objects slots
+    pub target_slots : IsAssignment (savings_of given) numbers → AreTargetSlots given slots
     target_slots assigned = record {
       few = omega (arith, length-map numbers place, assigned.few);
-      each = All-map (IsTargetSlot given.objects) place numbers (All-weaker (λ n. n ≤ length (savings_of given)) (λ n. IsTargetSlot given.objects (place n)) (λ n within. target_slot n) numbers assigned.in_range);
+      each = All-map (IsTargetSlot given) place numbers (All-weaker (λ n. n ≤ length (savings_of given)) (λ n. IsTargetSlot given (place n)) (λ n within. target_slot n) numbers assigned.in_range);
     }

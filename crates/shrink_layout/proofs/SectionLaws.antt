@@ -2,10 +2,9 @@
 use Rattle.std.proofs.Common.{◌≡◌, ℕ, zero, suc, ◌+◌, ◌-◌, ◌<◌, ◌≤◌, List, [], ◌∷◌, ◌++◌, length, map, take, drop, cond, Bool, true, false, Option, Some, None, slice_get, refl, sym, ap, ◌∙◌, arith, append_assoc, eqb}
 use Rattle.std.specs.List.{flat_map, sum_by}
 use Rattle.std.proofs.lemmas.Bool.{eqb-true}
-use Rattle.std.proofs.lemmas.List.{append-nil, length-append, length-map, map-append, take-append-drop, take_at, take_more}
+use Rattle.std.proofs.lemmas.List.{append-nil, length-append, length-map, map-append, take-append-drop, take_at}
 use Rattle.std.proofs.lemmas.List.Concat.{flat_map-append}
 use Rattle.std.proofs.lemmas.List.Sums.{sum_by-append, sum_by-cons}
-use Rattle.std.proofs.lemmas.Option.{get_or_from_slice_get, slice_get_within}
 use Rattle.zc_base.specs.declared.place.Place.{Place}
 use Rattle.elf32_read.specs.Parts.{ObjectParts, is_code_section}
 use Rattle.psabi_sym.specs.Faults.{gather_fault}
@@ -17,6 +16,7 @@ use Rattle.block_cut.specs.Items.{place_of, places_of, starts_in, targets_in}
 use Rattle.block_cut.specs.Places.{code_place, code_places}
 use Rattle.block_cut.specs.Whole.{IsWhole}
 use Rattle.block_cut.specs.declared.code_place.CodePlace.{CodePlace}
+use Rattle.block_cut.proofs.TakeLaws.{take_next}
 use Rattle.block_cut.proofs.WholeLaws.{inputs_whole}
 use Rattle.shrink_layout.specs.Invariants.Made.{owners_in, places_held, section_owners}
 use Rattle.shrink_layout.specs.Pieces.{piece_at, piece_count, pieces_in, section_alignment, section_pieces}
@@ -25,14 +25,10 @@ use Rattle.shrink_layout.specs.declared.piece.Piece.TheVariants.{Align}
 use Rattle.shrink_layout.proofs.NumberLaws.{length-pieces_of}
 use Rattle.shrink_layout.proofs.PremiseLaws.{pieces_few}
 
--- the front of a list and what follows one of its elements
-split_at : {X : Type 0} (xs : List X) (k : ℕ) (x : X) → slice_get xs k ≡ Some x → take (k + 1) xs ≡ take k xs ++ x ∷ []
-split_at xs k x is = take_more xs k x (slice_get_within xs k x is) ∙ ap (λ y. take k xs ++ y ∷ []) (get_or_from_slice_get xs k x x is)
-
 -- what a function gives for one element more
 pub flat_next : {X Y : Type 0} (f : X → List Y) (xs : List X) (k : ℕ) (x : X) → slice_get xs k ≡ Some x → flat_map f (take (k + 1) xs) ≡ flat_map f (take k xs) ++ f x
 flat_next f xs k x is =
-    ap (flat_map f) (split_at xs k x is) ∙ flat_map-append f (take k xs) (x ∷ []) ∙ ap (λ l. flat_map f (take k xs) ++ l) (append-nil (f x))
+    ap (flat_map f) (take_next xs k x is) ∙ flat_map-append f (take k xs) (x ∷ []) ∙ ap (λ l. flat_map f (take k xs) ++ l) (append-nil (f x))
 
 -- a sum of a front isn't greater
 sum_front : {X : Type 0} (f : X → ℕ) (xs : List X) (k : ℕ) → sum_by f (take k xs) ≤ sum_by f xs
@@ -57,7 +53,7 @@ not_none (suc n) is = omega arith
 
 -- one place more
 pub held_next : (l : IndexedSection) (places : List CodePlace) (k : ℕ) (p : CodePlace) → slice_get places k ≡ Some p → places_held l (take (k + 1) places) ≡ places_held l (take k places) ++ place_of l p.offset ∷ []
-held_next l places k p is = ap (places_held l) (split_at places k p is) ∙ map-append (λ (q : CodePlace). place_of l q.offset) (take k places) (p ∷ [])
+held_next l places k p is = ap (places_held l) (take_next places k p is) ∙ map-append (λ (q : CodePlace). place_of l q.offset) (take k places) (p ∷ [])
 
 module _ (inputs : Inputs) (none : gather_fault inputs ≡ None) where
   abbrev given : ParsedInputs
@@ -84,7 +80,7 @@ module _ (inputs : Inputs) (none : gather_fault inputs ≡ None) where
 
     pub count_next : sum_by piece_count (take (k + 1) all) ≡ sum_by piece_count (take k all) + piece_count l
     count_next =
-        ap (sum_by piece_count) (split_at all k l is)
+        ap (sum_by piece_count) (take_next all k l is)
         ∙ omega (arith, sum_by-append piece_count (take k all) (l ∷ []), sum_by-cons piece_count l [])
 
     -- a section of code has a place for its end, as it has a piece for its padding

@@ -4,14 +4,13 @@ use Rattle.std.specs.Prelude.{◌≡◌, ℕ, pos, negsuc, ◌≤◌, ⊤, All, 
 use Rattle.std.specs.Option.{is_some, option_and_then, option_map}
 use Rattle.zc_base.specs.Places.{same_place}
 use Rattle.zc_base.specs.declared.place.Place.{Place}
-use Rattle.elf32_read.specs.Parts.{ObjectParts}
 use Rattle.psabi_sym.specs.Inputs.{ParsedInputs}
 use Rattle.rv_decode.specs.declared.instr.ImmOp.TheVariants.{Addi}
 use Rattle.rv_decode.specs.declared.instr.Instr.{Instr}
 use Rattle.rv_decode.specs.declared.instr.Instr.TheVariants.{WithImm}
 use Rattle.zc_decode.specs.declared.short.Short.{Short}
 use Rattle.zc_decode.specs.declared.short.Short.TheVariants.{Push}
-use Rattle.block_cut.specs.Items.{is_end_at, is_target_at, item_at}
+use Rattle.block_cut.specs.Items.{is_end_at, item_at}
 use Rattle.block_cut.specs.declared.item.Item.{Item}
 use Rattle.block_cut.specs.declared.item.Item.TheVariants as item
 use Rattle.frame_match.specs.Groups.{role_at}
@@ -92,15 +91,15 @@ abbrev pub slot_for : List (Option Place) → ℕ × Place → Option ℕ
 slot_for slots jump =
     if jump.0 == 0 then slot_from 0 jump.1 (take 32 slots) else slot_from 32 jump.1 (drop 32 slots)
 
--- a slot is a hole, or leads to a place that code may lead to
-abbrev pub IsTargetSlot : List ObjectParts → Option Place → Type 0
-IsTargetSlot objects None = ⊤
-IsTargetSlot objects (Some q) = is_target_at objects q ≡ true
+-- a slot is a hole, or leads to a place that images list
+abbrev pub IsTargetSlot : ParsedInputs → Option Place → Type 0
+IsTargetSlot inputs None = ⊤
+IsTargetSlot inputs (Some q) = is_listed_at inputs q ≡ true
 
--- a table has at most 256 slots, each of which is a hole or leads to a place that code may lead to
-pub record AreTargetSlots (objects : List ObjectParts) (slots : List (Option Place)) : Type 0 where
+-- a table has at most 256 slots, each of which is a hole or leads to a place that images list
+pub record AreTargetSlots (inputs : ParsedInputs) (slots : List (Option Place)) : Type 0 where
   pub few : length slots ≤ 256
-  pub each : All (IsTargetSlot objects) slots
+  pub each : All (IsTargetSlot inputs) slots
 
 -- ---- the rest of a frame
 

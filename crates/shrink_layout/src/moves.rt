@@ -82,7 +82,8 @@ fn are_alike(here: u32, at: u32, multiple: u32) -> bool
     ensures some { result ≡ true → 0 < multiple }
     ensures alike { result ≡ true → here % multiple ≡ at % multiple }
 {
-    multiple != 0 && (here == at || here % multiple == at % multiple)
+    // 1 is the usual multiple, and needs no division.
+    multiple != 0 && (multiple == 1 || here == at || here % multiple == at % multiple)
 }
 
 // Whether a block can be moved as a whole from one address to another: none of its pieces grew, and its paddings

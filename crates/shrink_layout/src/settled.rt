@@ -155,7 +155,7 @@ fn lay_out(
     slots: &[Option<Place>],
 ) -> Result<KeptLayout, AllocError>
     requires numbered { AreNumbered of.now }
-    requires targets { AreTargetSlots (parsed of.now.planned.now).objects slots.now }
+    requires targets { AreTargetSlots (parsed of.now.planned.now) slots.now }
     requires made { ArePiecesOf (parsed of.now.planned.now) slots.now made }
     ensures settled { IfOk result (λ kept. IsSettled of.now.planned.now slots.now
         of.now.starts.now kept.made kept.sums kept.block_starts.items kept.counts) }
@@ -238,7 +238,7 @@ pub fn settle_with(
     slots: &[Option<Place>],
 ) -> Result<Settled, AllocError>
     requires without { settled.slots ≡ [] }
-    requires targets { AreTargetSlots (parsed settled.inputs).objects slots.now }
+    requires targets { AreTargetSlots (parsed settled.inputs) slots.now }
     ensures same { IfOk result (λ r. r.inputs ≡ settled.inputs) }
     ensures slots { IfOk result (λ r. r.slots ≡ slots.now) }
     ensures laid { IfOk result (λ _. IsLaidBehind (parsed settled.inputs) slots.now) }
@@ -427,7 +427,7 @@ impl Settled {
     /// runs.
     #[inline]
     pub fn recall_invariant(&self)
-        ensures targets { AreTargetSlots (parsed self.now.inputs).objects self.now.slots }
+        ensures targets { AreTargetSlots (parsed self.now.inputs) self.now.slots }
     {
         let _slots = &self.slots;
     }
@@ -435,7 +435,7 @@ impl Settled {
     /// The slots of the table: the place that each leads to, or a hole. Without a table there are none.
     pub fn slots(&self) -> &[Option<Place>]
         ensures same { result.now ≡ self.now.slots }
-        ensures targets { AreTargetSlots (parsed self.now.inputs).objects self.now.slots }
+        ensures targets { AreTargetSlots (parsed self.now.inputs) self.now.slots }
     {
         &self.slots
     }

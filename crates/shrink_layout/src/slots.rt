@@ -61,7 +61,7 @@ fn first_slots(
 ) -> Result<Vec<Option<u8>>, AllocError>
     requires numbered { AreNumbered of.now }
     requires few { part.first + length part.slots.now ≤ 256 }
-    requires targets { All (IsTargetSlot (parsed of.now.planned.now).objects) part.slots.now }
+    requires targets { All (IsTargetSlot (parsed of.now.planned.now)) part.slots.now }
     requires count { count ≡ length (pieces_of (parsed of.now.planned.now) []) + 1 }
     ensures long { IfOk result (λ firsts. length firsts.items ≡ count) }
     ensures firsts { IfOk result (λ firsts.
@@ -87,7 +87,7 @@ impl<'a> Slots<'a> {
     ) -> Result<Slots<'a>, AllocError>
         requires numbered { AreNumbered of.now }
         requires first { first ≡ settled_widths (parsed of.now.planned.now) [] }
-        requires targets { AreTargetSlots (parsed of.now.planned.now).objects slots.now }
+        requires targets { AreTargetSlots (parsed of.now.planned.now) slots.now }
         ensures same { IfOk result (λ kept. kept.slots.now ≡ slots.now) }
         ensures kept { IfOk result (AreSlotsOf (parsed of.now.planned.now)) }
     {

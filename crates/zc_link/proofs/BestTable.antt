@@ -1,4 +1,4 @@
--- The table of an accepted certificate: its slots lead to places of code (`slots_led`), and behind it the layout is the shortest, and
+-- The table of an accepted certificate: its slots lead to places that images list (`slots_led`), and behind it the layout is the shortest, and
 -- shorter than without the table by the net (`shortest`).
 use Rattle.std.proofs.Common.{IsTrue, ◌≡◌, ◌%◌, List, Option, None, refl, arith}
 use Rattle.zc_base.specs.MemMap.{IsMap}
@@ -35,8 +35,8 @@ module _ (inputs : Inputs) (faultless : first_fault inputs ≡ None) (c : Certif
   places_are : AreSlotPlaces (savings_of p) (slot_place (savings_of p))
   places_are = record { hole = refl; target = λ k. refl }
 
-  -- which is a place that code may lead to
-  pub slots_led : AreTargetSlots p.objects slots
+  -- which images list
+  pub slots_led : AreTargetSlots p slots
   slots_led = target_slots inputs none (slot_place (savings_of p)) places_are c.slots accepted.assignment
 
   -- the layout behind it

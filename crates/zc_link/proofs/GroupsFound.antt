@@ -5,7 +5,7 @@ use Rattle.std.specs.List.{flat_map, fold, list_all, list_any}
 use Rattle.std.specs.Option.{option_and_then, option_map, option_map_or, option_or, option_to_list}
 use Rattle.std.specs.Ordering.{int_eq}
 use Rattle.std.proofs.lemmas.Bool.{and_parts, eq-eqb, eqb-true, false≢true, leb-true, or_cases}
-use Rattle.std.proofs.lemmas.List.{append-nil}
+use Rattle.std.proofs.lemmas.List.{append-nil, take-append-drop}
 use Rattle.std.proofs.lemmas.Bool.Decides.{Decides-int_eq}
 use Rattle.rv_decode.specs.declared.instr.Instr.{Instr}
 use Rattle.rv_decode.specs.declared.instr.Instr.TheVariants.{Upper, Jal, Jalr, Branch, Load, Store, WithImm, WithReg, Fence, Ecall, Ebreak, Csrrw}
@@ -25,6 +25,7 @@ use Rattle.frame_match.specs.declared.found.Move.{Move}
 use Rattle.frame_match.specs.declared.slot.Access.{Access}
 use Rattle.frame_match.specs.declared.slot.Access.TheVariants.{Saves, Restores}
 use Rattle.frame_match.specs.declared.slot.Slot.{Slot}
+use Rattle.shrink_layout.proofs.PremiseLaws.{Each, each-append}
 use Rattle.zc_link.specs.Invariants.Groups.{A0First, A1First, GroupKind, IsFrame, IsGroup, MovesFromSaved, MovesToSaved, PopOf, PushOf, SameSlots, group_half, group_ops, group_rest, slot_loads, lower_sp, move_to, raise_sp, return_to_ra, stores_of, zero_a0}
 use Rattle.zc_link.proofs.Slots.{IsOneOf, contained_one, one_contained}
 
@@ -328,30 +329,16 @@ pub record IsFound (is : List Instr) (f : Found) : Type 0 where
   pub half : f.kind ≡ group_half kind
   pub rest : f.rest ≡ group_rest kind
 
-cut_at : {X : Type 0} (n : ℕ) (xs : List X) → xs ≡ take n xs ++ drop n xs
-cut_at zero xs = refl
-cut_at (suc n) [] = refl
-cut_at (suc n) (x ∷ xs) = ap (λ ys. x ∷ ys) (cut_at n xs)
-
 get_drop : {X : Type 0} (n j : ℕ) (xs : List X) → slice_get (drop n xs) j ≡ slice_get xs (n + j)
 get_drop zero j xs = let same : j ≡ 0 + j = omega arith in ap (slice_get xs) same
 get_drop (suc n) j [] = refl
 get_drop (suc n) j (x ∷ xs) = let same : suc (n + j) ≡ suc n + j = omega arith in get_drop n j xs ∙ ap (slice_get (x ∷ xs)) same
 
--- each of some
-abbrev Each : {X : Type 0} → (X → Type 0) → List X → Type 0
-Each P [] = Unit {0}
-Each P (x ∷ xs) = P x × Each P xs
-
-each_both : {X : Type 0} (P : X → Type 0) (xs ys : List X) → Each P xs → Each P ys → Each P (xs ++ ys)
-each_both P [] ys a b = b
-each_both P (x ∷ xs) ys a b = (a.0, each_both P xs ys a.1 b)
-
 each_flat : {X Y : Type 0} (P : Y → Type 0) (f : X → List Y) (test : X → Bool) (xs : List X) → list_all test xs ≡ true → ((x : X) → test x ≡ true → Each P (f x)) → Each P (flat_map f xs)
 each_flat P f test [] h each = tt
 each_flat P f test (x ∷ xs) h each =
     let q = all_passes test x xs h in
-    each_both P (f x) (flat_map f xs) (each x q.0) (each_flat P f test xs q.1 each)
+    each-append P (f x) (flat_map f xs) (each x q.0) (each_flat P f test xs q.1 each)
 
 -- what holds of a thing that is found only if a test passes
 each_if : {X : Type 0} (P : X → Type 0) (b : Bool) (x : X) → (b ≡ true → P x) → Each P (cond b (x ∷ []) [])
@@ -376,7 +363,7 @@ module _ (is : List Instr) where
             kind = PushOf list frame o.order;
             group = frame_from list frame o.order from to q.0 o.same;
             tail = drop (length rs) xs;
-            first = same ∙ ap₂ (λ a ys. a ∷ ys) (lower_is i frame g) (cut_at (length rs) xs ∙ ap (λ ys. ys ++ drop (length rs) xs) o.are);
+            first = same ∙ ap₂ (λ a ys. a ∷ ys) (lower_is i frame g) (sym (take-append-drop (length rs) xs) ∙ ap (λ ys. ys ++ drop (length rs) xs) o.are);
             items = (let long = o.long in omega (arith, long, slots_long frame rs));
             half = refl;
             rest = refl;
@@ -514,7 +501,7 @@ module _ (is : List Instr) where
           let ops = slot_loads o.order in
           let tail = drop (ending_items e) last in
           let whole : is ≡ ops_ahead e ++ (ops ++ (ops_behind e frame ++ tail)) =
-          ahead_is e is q.0 ∙ ap (λ xs. ops_ahead e ++ xs) (cut_at (length rs) inner ∙ ap₂ (λ xs ys. xs ++ ys) o.are (behind_is e frame last frame_is)) in
+          ahead_is e is q.0 ∙ ap (λ xs. ops_ahead e ++ xs) (sym (take-append-drop (length rs) inner) ∙ ap₂ (λ xs ys. xs ++ ys) o.are (behind_is e frame last frame_is)) in
           let again : group_ops (PopOf e list frame o.order) ++ tail ≡ ops_ahead e ++ (ops ++ (ops_behind e frame ++ tail)) =
           ap (λ xs. xs ++ tail) (pop_is e list frame o.order) ∙ append_assoc (ops_ahead e) (ops ++ ops_behind e frame) tail
           ∙ ap (λ xs. ops_ahead e ++ xs) (append_assoc ops (ops_behind e frame) tail) in
@@ -658,6 +645,6 @@ pub longest_is : (is : List Instr) (f : Found) → longest_of is ≡ Some f → 
 unfolding longest_of
 longest_is is f h =
     longest_holds (IsFound is) (all_found is) None f
-    (each_both (IsFound is) (pushes_in is) (pops_in is ++ option_to_list (moves_in is)) (pushes_found is)
-    (each_both (IsFound is) (pops_in is) (option_to_list (moves_in is)) (pops_found is) (moves_found is)))
+    (each-append (IsFound is) (pushes_in is) (pops_in is ++ option_to_list (moves_in is)) (pushes_found is)
+    (each-append (IsFound is) (pops_in is) (option_to_list (moves_in is)) (pops_found is) (moves_found is)))
     (λ g k. absurd cc) h

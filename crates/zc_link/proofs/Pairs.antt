@@ -4,7 +4,7 @@ use Rattle.std.proofs.Common.{◌≡◌, ℕ, suc, ◌+◌, ◌<◌, ◌≤◌, 
 use Rattle.std.specs.Prelude.{◌&&◌, ◌||◌, not}
 use Rattle.std.specs.List.{find, list_any}
 use Rattle.std.specs.Option.{option_and_then, option_map, option_map_or}
-use Rattle.std.proofs.lemmas.Bool.{and_from, and_parts, eq-eqb, eqb-true, leb-true, lt-ltb, ltb-false, or_cases, or_parts}
+use Rattle.std.proofs.lemmas.Bool.{and_from, and_parts, eq-eqb, eqb-true, leb-true, lt-ltb, ltb-false, not-false, or_cases, or_parts}
 use Rattle.zc_base.specs.declared.place.Place.{Place}
 use Rattle.elf32_read.specs.Parts.{SectionParts, is_code_section}
 use Rattle.elf32_read.specs.declared.reloc.Reloc.{Reloc}
@@ -200,9 +200,9 @@ module _ (inputs : Inputs) (none : first_fault inputs ≡ None) (A : Place → O
       let both : (not (is_zero_addend r.addend) || not (is_pair_at l (resolved p2 q.object r.symbol (pos 0)))) ≡ false =
       ap (λ b. b && (not (is_zero_addend r.addend) || not (is_pair_at l (resolved p2 q.object r.symbol (pos 0))))) (sym lower) ∙ fine.paired in
       let parts = or_parts (not (is_zero_addend r.addend)) (not (is_pair_at l (resolved p2 q.object r.symbol (pos 0)))) both in
-      let zero : r.addend ≡ pos 0 = nothing r.addend (not_false (is_zero_addend r.addend) parts.0) in
+      let zero : r.addend ≡ pos 0 = nothing r.addend (not-false (is_zero_addend r.addend) parts.0) in
       let to : resolved p2 q.object r.symbol (pos 0) ≡ Code from = ap (resolved p2 q.object r.symbol) (sym zero) ∙ leads in
-      let pair : is_pair_at l (Code from) ≡ true = ap (is_pair_at l) (sym to) ∙ not_false (is_pair_at l (resolved p2 q.object r.symbol (pos 0))) parts.1 in
+      let pair : is_pair_at l (Code from) ≡ true = ap (is_pair_at l) (sym to) ∙ not-false (is_pair_at l (resolved p2 q.object r.symbol (pos 0))) parts.1 in
       let one = and_parts (eqb from.object q.object) _ pair in
       let rest = and_parts (eqb from.section q.section) (has_pcrel_hi_at s from.offset) one.1 in
       let object = eqb-true from.object q.object one.0 in
@@ -218,10 +218,6 @@ module _ (inputs : Inputs) (none : first_fault inputs ≡ None) (A : Place → O
             ∙ ap (option_map (way address.0)) upper.has.1,
       )
     where
-      not_false : (b : Bool) → not b ≡ false → b ≡ true
-      not_false true h = refl
-      not_false false h = absurd cc
-
       nothing : (z : ℤ) → is_zero_addend z ≡ true → z ≡ pos 0
       nothing (pos n) h = ap pos (eqb-true n 0 h)
       nothing (negsuc n) h = absurd cc

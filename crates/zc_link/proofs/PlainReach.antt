@@ -1,8 +1,9 @@
 -- The branches of inputs without a fault reach in the plain layout, and the branches and jumps of 2 bytes do in these.
-use Rattle.std.proofs.Common.{◌≡◌, ℕ, pos, ◌-ℤ◌, [], ◌∷◌, ◌++◌, map, Some, None, Bool, true, false, cond, refl, sym, ap, ◌∙◌, subst}
+use Rattle.std.proofs.Common.{◌≡◌, ℕ, pos, ◌-ℤ◌, [], ◌∷◌, ◌++◌, map, Some, None, true, false, cond, refl, sym, ap, ◌∙◌, subst}
 use Rattle.std.specs.Prelude.{not}
 use Rattle.std.specs.List.{find, flat_map}
 use Rattle.std.specs.Option.{option_map_or}
+use Rattle.std.proofs.lemmas.Bool.{not-false}
 use Rattle.zc_base.specs.declared.place.Place.{Place}
 use Rattle.psabi_reloc.specs.Reaches.{branch_reach, short_branch_reach, short_jump_reach}
 use Rattle.psabi_sym.specs.Inputs.{Inputs, ParsedInputs, parsed}
@@ -48,11 +49,7 @@ module _ (inputs : Inputs) (none : first_fault inputs ≡ None) where
       (λ j. option_map_or (λ d. not (reaches size i d)) (distance_between (sym from j) (sym there j)) false)
       ∙ (λ j. option_map_or (is_far p q size i) (sym way j) false)
       ∙ (λ j. option_map_or (λ x. option_map_or (is_far p q size x) (way_place size x) false) (sym is j) false) ∙ here in
-      not_false (reaches size i (pos b -ℤ pos a)) far
-    where
-      not_false : (b : Bool) → not b ≡ false → b ≡ true
-      not_false true h = refl
-      not_false false h = absurd cc
+      not-false (reaches size i (pos b -ℤ pos a)) far
 
   module _ (q to : Place) (a b : ℕ) (from : plain_address p q ≡ Some a) (there : plain_address p to ≡ Some b) where
     module _ (op : BranchOp) (first second : ℕ) (is : item_at p q ≡ Some (Branch op first second to)) where

@@ -1,8 +1,8 @@
 -- Slots of a frame, in whatever order: they lie apart and within the frame, each register has one, and none is that of x0, sp or a0. So it
 -- is for each register list, by computation.
-use Rattle.std.proofs.Common.{◌≡◌, ◌≢◌, ℕ, zero, suc, ◌+◌, ◌-◌, ◌*◌, ◌<◌, ◌≤◌, List, [], ◌∷◌, length, Bool, true, false, not, refl, sym, ap, ◌∙◌, arith, eqb, ltb, leb, slice_index_or, inl, inr}
+use Rattle.std.proofs.Common.{◌≡◌, ◌≢◌, ℕ, zero, suc, ◌+◌, ◌-◌, ◌*◌, ◌<◌, ◌≤◌, List, [], ◌∷◌, length, Bool, true, not, refl, sym, ap, ◌∙◌, arith, eqb, ltb, leb, slice_index_or, inl, inr}
 use Rattle.std.specs.Prelude.{◌⊎◌, ◌&&◌, Contains}
-use Rattle.std.proofs.lemmas.Bool.{agree_below_at, and_parts, eq-eqb, eqb-false, false≢true, leb-true, ltb-true}
+use Rattle.std.proofs.lemmas.Bool.{agree_below_at, and_parts, eq-eqb, eqb-false, false≢true, leb-true, ltb-true, not-true}
 use Rattle.zc_decode.specs.Lists.{stack_adjust_base, registers_of}
 use Rattle.zc_link.specs.Invariants.Groups.{IsFrame, SameSlots, Slot, frame_adjust, rest_of, slots_below}
 
@@ -53,11 +53,7 @@ falls b r rs h =
     let q = and_parts (ltb r b && (not (eqb r 2) && ltb 0 r)) (fall r rs) h in
     let t = and_parts (ltb r b) (not (eqb r 2) && ltb 0 r) q.0 in
     let u = and_parts (not (eqb r 2)) (ltb 0 r) t.1 in
-    record { under = ltb-true r b t.0; no_sp = eqb-false r 2 (not_true (eqb r 2) u.0); some = ltb-true 0 r u.1; rest = q.1 }
-  where
-    not_true : (b : Bool) → not b ≡ true → b ≡ false
-    not_true true h = absurd cc
-    not_true false h = refl
+    record { under = ltb-true r b t.0; no_sp = eqb-false r 2 (not-true (eqb r 2) u.0); some = ltb-true 0 r u.1; rest = q.1 }
 
 -- a0 is none of the registers
 abbrev avoid : ℕ → List ℕ → Bool

@@ -3,7 +3,7 @@
 use Rattle.std.proofs.Common.{◌≡◌, ℕ, ◌+◌, ℤ, Option, Some, None, Bool, true, false, refl, sym, ap, ◌∙◌, subst, inl, inr}
 use Rattle.std.specs.Prelude.{◌&&◌, not}
 use Rattle.std.specs.Option.{option_map_or}
-use Rattle.std.proofs.lemmas.Bool.{eqb-true, or_left, or_right}
+use Rattle.std.proofs.lemmas.Bool.{eqb-true, not-false, or_left, or_right}
 use Rattle.zc_base.specs.declared.place.Place.{Place}
 use Rattle.elf32_read.specs.Parts.{SectionParts}
 use Rattle.elf32_read.specs.declared.reloc.Reloc.{Reloc}
@@ -122,11 +122,7 @@ module _ (inputs : Inputs) (none : gather_fault inputs ≡ None) (ready : IsRead
 
     -- a place where it may lead
     target_is : (t : Target) (to : Place) (transfers : Bool) → is_bad_target p.objects transfers t ≡ false → t ≡ Code to → is_target_at p.objects to ≡ true
-    target_is t to transfers lost is = not_false (is_target_at p.objects to) (ap (is_bad_target p.objects transfers) (sym is) ∙ lost)
-      where
-        not_false : (b : Bool) → not b ≡ false → b ≡ true
-        not_false true h = refl
-        not_false false h = absurd cc
+    target_is t to transfers lost is = not-false (is_target_at p.objects to) (ap (is_bad_target p.objects transfers) (sym is) ∙ lost)
 
     -- an instruction with a part of an address
     parted :

@@ -5,3 +5,4 @@ pub mod Groups
 pub mod Leads
 pub mod Stretches
 pub mod Laid
+pub mod Counted

@@ -3,6 +3,7 @@
 ghost use Rattle.std.specs.Prelude.{◌≡◌, ◌++◌, [], OnOk};
 ghost use Rattle.psabi_sym.specs.Inputs.{parsed};
 ghost use Rattle.shrink_layout.specs.Settled.{settled_address};
+ghost use Rattle.shrink_layout.specs.Units.{IsTargetSlot};
 ghost use Rattle.zc_base.specs.Fields.{word_bytes};
 ghost use Rattle.zc_link.specs.Front.{IsFront, slot_bytes, start_address, stub_address, table_bytes};
 ghost use Rattle.zc_link.specs.LaidOut.{IsLaidOut};
@@ -17,12 +18,11 @@ use zc_base::place::Place;
 
 /// The address of the program's start.
 pub fn program_start(settled: &Settled) -> u32
+    requires laid { IsLaidOut (zc_layout settled.now.inputs settled.now.slots) }
     ensures { result ≡ start_address (zc_layout settled.now.inputs settled.now.slots) }
 {
-    let cut = settled.planned().cut();
-    settled
-        .address(cut.entry())
-        .unwrap_or(cut.objects().map().text)
+    let start = settled.planned().cut().entry();
+    settled.address(start).unwrap()
 }
 
 /// The address of the stub, which comes after the table.
@@ -64,11 +64,12 @@ fn add_table(settled: &Settled, text: &mut Vec<u8>) -> Result<(), AllocError>
 
 // What a slot holds: the address of its place, or 0 if it is a hole.
 fn slot_value(settled: &Settled, slot: Option<Place>) -> u32
+    requires { IsTargetSlot (parsed settled.now.inputs) slot }
     ensures { word_bytes result
         ≡ slot_bytes (settled_address (parsed settled.now.inputs) settled.now.slots) slot }
 {
     match slot {
-        Some(p) => settled.address(p).unwrap_or(0),
+        Some(p) => settled.address(p).unwrap(),
         None => 0,
     }
 }

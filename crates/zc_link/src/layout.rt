@@ -143,8 +143,8 @@ impl Layout for Cut {
     }
 
     fn entry(&self) -> u32 {
-        let start = self.plain_address(Cut::entry(self));
-        start.unwrap_or(self.objects().map().text)
+        self.recall_laid_out();
+        self.plain_address(Cut::entry(self)).unwrap()
     }
 }
 

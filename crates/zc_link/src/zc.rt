@@ -2,7 +2,6 @@
 
 ghost use Rattle.std.specs.Prelude.{◌≡◌, ◌≤◌, [], None, IfOk, IfErr, length};
 ghost use Rattle.block_cut.specs.Faults.{first_fault};
-ghost use Rattle.block_cut.specs.PlainLayout.{plain_counts};
 ghost use Rattle.jumptable_pick.specs.Picked.{picked};
 ghost use Rattle.jumptable_pick.specs.Slots as slots;
 ghost use Rattle.pick_check.specs.Best.{NoneSavesMore};
@@ -10,7 +9,7 @@ ghost use Rattle.pick_check.specs.Certified.{IsAccepted};
 ghost use Rattle.psabi_sym.specs.Inputs.{parsed};
 ghost use Rattle.psabi_sym.specs.LinkFault.{IsRefusal};
 ghost use Rattle.shrink_layout.specs.Savings.{savings_of};
-ghost use Rattle.shrink_layout.specs.Settled.{settled_counts, settled_end};
+ghost use Rattle.zc_link.specs.Invariants.Counted.{IsCountedImage};
 ghost use Rattle.zc_link.specs.LaidOut.{text_end};
 ghost use Rattle.zc_link.specs.Links.{IsImageOf, IsZcLink};
 ghost use Rattle.zc_link.specs.Standing.{IsReady};
@@ -133,13 +132,7 @@ fn counted_image(
     requires tableless { first.slots ≡ [] }
     requires savings { savings.now ≡ savings_of (parsed first.inputs) }
     requires accepted { IsAccepted savings.now certificate.now }
-    ensures ready { IfOk result (λ _. IsReady first.inputs) }
-    ensures image { IfOk result (λ image.
-        IsImageOf (zc_layout first.inputs (slots.slot_places savings.now certificate.now.slots)) 1
-        (settled_end (parsed first.inputs) (slots.slot_places savings.now certificate.now.slots)) image.elf.items) }
-    ensures plain { IfOk result (λ image. image.plain_counts ≡ plain_counts (parsed first.inputs)) }
-    ensures counts { IfOk result (λ image. image.image_counts
-        ≡ settled_counts (parsed first.inputs) (slots.slot_places savings.now certificate.now.slots)) }
+    ensures { IfOk result (IsCountedImage first.inputs (slots.slot_places savings.now certificate.now.slots)) }
 {
     let settled = with_table(alloc, first, savings, certificate)?;
     let plain_counts = settled.planned().cut().counts();

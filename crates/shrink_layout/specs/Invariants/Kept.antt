@@ -16,7 +16,7 @@ use Rattle.shrink_layout.specs.declared.pieces.Pieces.{Pieces}
 pub record IsSettled (inputs : Inputs) (slots : List (Option Place)) (starts : List ℕ) (made : Pieces)
     (sums block_starts : List ℕ) (counts : Counts) : Type 0 where
   pub faultless : gather_fault inputs ≡ None
-  pub targets : AreTargetSlots (parsed inputs).objects slots
+  pub targets : AreTargetSlots (parsed inputs) slots
   pub starts_are : AreFirstNumbers (parsed inputs).objects starts
   pub made_are : ArePiecesOf (parsed inputs) slots made
   pub sums_are : sums ≡ settled_widths (parsed inputs) slots

@@ -25,7 +25,7 @@ HasAll inputs xs = length xs ≡ length (pieces_of inputs []) + 1
 
 -- the slots of a table by where they lead, and the bytes of pieces in the layout without the table
 pub record AreSlotsOf (inputs : ParsedInputs) (kept : Slots) : Type 0 where
-  pub targets : AreTargetSlots inputs.objects kept.slots.now
+  pub targets : AreTargetSlots inputs kept.slots.now
   pub first : kept.first ≡ settled_widths inputs []
   pub all_jumps : HasAll inputs kept.jumps.items
   pub all_calls : HasAll inputs kept.calls.items

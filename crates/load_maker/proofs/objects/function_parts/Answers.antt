@@ -8,7 +8,7 @@ pub code_sections-requires-clause-symbols : goal.code_sections-requires-clause-s
 code_sections-requires-clause-symbols c =
     omega (
       arith,
-      ap length c.requires.own,
+      ap length c.in_ok-named.ensures,
       length-range_with_len c.args.first (length c.args.bodies.now),
       few_statements c.args.statements.now,
       c.requires.number,
@@ -20,7 +20,7 @@ object_symbols-requires-clause-named c =
     omega (
       arith,
       ap length (c.as_slice.ensures.keys ∙ c.in_ok-sections.ensures.named),
-      named_many c.args.named.now.keys c.args.statements.now,
-      ap length c.requires.own,
+      named_many c.in_ok-named.named.keys c.args.statements.now,
+      ap length c.in_ok-named.ensures,
       length-range_with_len c.args.first (length c.args.bodies.now),
     )

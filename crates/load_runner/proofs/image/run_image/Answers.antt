@@ -1,4 +1,4 @@
--- The machine starts in the first state of the link's image.
+-- The machine starts in the initial state of the link's image.
 use Rattle.std.proofs.Common.{◌∙◌, ℕ, List, ap, ap₂}
 use Rattle.zc_base.specs.declared.mem_map.MemMap.{MemMap}
 use Rattle.zc_link.specs.Links.{Link}

@@ -1,4 +1,4 @@
--- The machine exits with what the console got, or spends its commits, and never stops.
+-- The machine exits with the output that the console got, or reaches its limit of commits, and never stops.
 use Rattle.std.proofs.Common.{ap, sym, subst}
 use Rattle.rv_decode.specs.State.{ZcCore}
 use Rattle.zc_outside.specs.Course.{ExitsAt}

@@ -1,4 +1,5 @@
--- Once the program has exited, the images do; each end is that of the first run that doesn't.
+-- Once the program has exited, the images exit too; an end without a result is the end of the first run that doesn't
+-- exit.
 use Rattle.std.proofs.Common.{ℕ, ◌≡◌, refl, sym, subst}
 use Rattle.interrupt_plan.specs.Made.{made_plan}
 use Rattle.zc_outside.specs.Course.{ExitsAt}

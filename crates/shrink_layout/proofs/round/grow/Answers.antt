@@ -1,6 +1,6 @@
 use Rattle.std.proofs.Common.{◌≡◌, ℕ, ◌+◌, ◌*◌, ◌<◌, ◌⊎◌, Bool, true, false, not, ◌&&◌, get_or, get_or-set_same, get_or-set_other, length, length-set, min, set, refl, sym, ap, ◌∙◌, subst, arith, inl, inr}
 use Rattle.std.specs.Prelude.{slice_index}
-use Rattle.std.proofs.lemmas.Bool.{and_parts, true≢false}
+use Rattle.std.proofs.lemmas.Bool.{and_parts, not-false}
 use Rattle.shrink_layout.specs.declared.blocks.Blocks.{Blocks}
 use Rattle.shrink_layout.specs.Invariants.Blocks.{HaveGrownIn, IsStill, block_size, nth_piece}
 use Rattle.shrink_layout.specs.Invariants.Widths.{addresses_in}
@@ -11,11 +11,6 @@ use Rattle.shrink_layout.proofs.RoundLaws.{length_forms}
 use Rattle.shrink_layout.proofs.TestLaws.{AreGrown, block_grows, block_stays}
 use Rattle.shrink_layout.proofs.round.grow.Goals as goal
 use Rattle.shrink_layout.proofs.round.grow.Goals.{then-index, else-index}
-
--- what isn't false is true
-unless : (b : Bool) → not b ≡ false → b ≡ true
-unless true e = refl
-unless false e = absurd (true≢false e)
 
 -- two aren't both true if one is false
 one_false : (b c : Bool) → (b && c) ≡ false → (b ≡ false) ⊎ (c ≡ false)
@@ -100,7 +95,7 @@ loop-block-preserved c =
           let all = block_grows a pieces old sizes tested.new.sizes before.lows.items lows new.lows.items before.highs.items highs new.highs.items grown new.grown.items block n end
           tested.result.low tested.result.high fitted c.if-index.fitted tested.result.fitted laid.placed.can.targets in_grown (omega arith) (omega arith) (omega (arith, now.blocks, in_grown)) (omega arith)
           now part (λ b ne. ap (λ g. get_or g b false) grown_is ∙ get_or-set_other marked block b mark false ne ∙ get_or-set_other grown block b false false ne)
-          (λ kept. unless tested.result.fitted (sym here ∙ kept)) (ap length grown_is ∙ length-set marked block mark ∙ length-set grown block false)
+          (λ kept. not-false tested.result.fitted (sym here ∙ kept)) (ap length grown_is ∙ length-set marked block mark ∙ length-set grown block false)
           (ap (λ b. b.lows.items) v.blocks-is) (ap (λ b. b.highs.items) v.blocks-is) (λ y. and_parts fitted tested.result.fitted (sym v.fitted-is ∙ y)) (λ y. one_false fitted tested.result.fitted (sym v.fitted-is ∙ y)) in
           let ended = subst (λ m. AreGrown a pieces old tested.new.sizes before.lows.items new.lows.items before.highs.items new.highs.items new.grown.items (block + 1) m c.if-index.fitted) end_of all in
           record {

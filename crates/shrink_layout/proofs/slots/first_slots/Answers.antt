@@ -5,6 +5,7 @@ use Rattle.shrink_layout.specs.Invariants.Slots.{AreFirstSlots}
 use Rattle.shrink_layout.specs.Pieces.{piece_number_at}
 use Rattle.shrink_layout.specs.Units.{IsTargetSlot}
 use Rattle.shrink_layout.proofs.NumberLaws.{number_most}
+use Rattle.shrink_layout.proofs.RolePlaces.{listed_target}
 use Rattle.shrink_layout.proofs.SlotLaws.{firsts_more}
 use Rattle.shrink_layout.proofs.slots.first_slots.Goals as goal
 
@@ -27,7 +28,7 @@ loop-k-preserved-in-Some c =
     let within : k < length part = omega (arith, c.loop-k-test.true, c.loop-k.auto.k) in
     let next : c.loop-k.k ≡ k + 1 = omega (arith, c.loop-k-test.true) in
     let are = subst (λ m. AreFirstSlots objects (first + m) (drop m part) firsts) next c.loop-k.invariant.firsts in
-    let target = subst (IsTargetSlot objects) c.in-Some.is (c.requires.targets k None within) in
+    let target = listed_target (parsed inputs) to (subst (IsTargetSlot (parsed inputs)) c.in-Some.is (c.requires.targets k None within)) in
     let there : piece_number_at objects to < length firsts = omega (arith, number_most (parsed inputs) [] to, c.loop-k.invariant.long, c.requires.count) in
     record {
       long = length-set firsts c.piece_number_at-number.result (Some (first + k)) ∙ c.loop-k.invariant.long;

@@ -13,29 +13,21 @@ use Rattle.zc_link.specs.TextLayout.{zc_layout}
 use Rattle.zc_link.proofs.SettledLaws.{settled_end_is}
 use Rattle.zc_link.proofs.zc.counted_image.Goals as goal
 
-pub returns-clause-ready : goal.returns-clause-ready
-returns-clause-ready c = subst IsReady c.in_ok-settled.ensures.same c.in_ok-elf.ensures.ready
-
-pub returns-clause-image : goal.returns-clause-image
-returns-clause-image c =
+pub returns : goal.returns
+returns c =
     let inputs = c.args.first.inputs in
-    let savings = c.args.savings.now in
     let certificate = c.args.certificate.now in
     let elf = c.in_ok-elf.elf.items in
-    let table : List (Option Place) = slot_places savings certificate.slots in
-    let few : length table ≤ 256 = omega (arith, length-map certificate.slots (slot_place savings), c.requires.accepted.assignment.few) in
-    let same = c.in_ok-settled.ensures.same in
-    let ready = subst IsReady same c.in_ok-elf.ensures.ready in
-    let image : IsImageOf (zc_layout inputs table) 1 (text_end (zc_layout inputs table)) elf =
-    subst₂ (λ (x : Inputs) (slots : List (Option Place)). IsImageOf (zc_layout x slots) 1 (text_end (zc_layout x slots)) elf) same c.in_ok-settled.ensures.slots c.in_ok-elf.ensures.image in
-    subst (λ n. IsImageOf (zc_layout inputs table) 1 n elf) (settled_end_is inputs ready.faultless ready.is_map table few) image
-
-pub returns-clause-plain : goal.returns-clause-plain
-returns-clause-plain c =
-    c.counts-plain_counts.ensures ∙ ap (λ (x : Inputs). plain_counts (parsed x)) (c.cut.ensures.same ∙ c.planned.ensures.same ∙ c.in_ok-settled.ensures.same)
-
-pub returns-clause-counts : goal.returns-clause-counts
-returns-clause-counts c =
+    let table : List (Option Place) = slot_places c.args.savings.now certificate.slots in
+    let few : length table ≤ 256 = omega (arith, length-map certificate.slots (slot_place c.args.savings.now), c.requires.accepted.assignment.few) in
     let same = c.in_ok-settled.ensures.same in
     let slots = c.in_ok-settled.ensures.slots in
-    c.counts-image_counts.ensures ∙ (λ i. settled_counts (parsed (same i)) (slots i))
+    let ready = subst IsReady same c.in_ok-elf.ensures.ready in
+    let image : IsImageOf (zc_layout inputs table) 1 (text_end (zc_layout inputs table)) elf =
+    subst₂ (λ (x : Inputs) (slots : List (Option Place)). IsImageOf (zc_layout x slots) 1 (text_end (zc_layout x slots)) elf) same slots c.in_ok-elf.ensures.image in
+    record {
+      ready = ready;
+      image = subst (λ n. IsImageOf (zc_layout inputs table) 1 n elf) (settled_end_is inputs ready.faultless ready.is_map table few) image;
+      plain = c.counts-plain_counts.ensures ∙ ap (λ (x : Inputs). plain_counts (parsed x)) (c.cut.ensures.same ∙ c.planned.ensures.same ∙ same);
+      counts = c.counts-image_counts.ensures ∙ (λ i. settled_counts (parsed (same i)) (slots i));
+    }

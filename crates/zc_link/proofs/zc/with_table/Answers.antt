@@ -14,4 +14,4 @@ settle_with-requires-clause-targets c =
     let certificate = c.args.certificate.now in
     let accepted = subst (λ (s : List Saving). IsAccepted s certificate) c.requires.savings c.requires.accepted in
     let are = c.deref.ensures.value ∙ c.in_ok-slots.ensures.value ∙ ap (λ (s : List Saving). slot_places s certificate.slots) c.requires.savings in
-    subst (AreTargetSlots (parsed inputs).objects) (sym are) (slots_led inputs c.requires.faultless certificate accepted)
+    subst (AreTargetSlots (parsed inputs)) (sym are) (slots_led inputs c.requires.faultless certificate accepted)
