@@ -1,5 +1,5 @@
 -- What is needed is closed, if no fault stands.
-use Rattle.std.proofs.Common.{◌≡◌, ℕ, List, [], ◌∷◌, map, length, refl, sym, ap, ◌∙◌, Bool, true, false, cond, Option, Some, None, slice_get, get_or, subst}
+use Rattle.std.proofs.Common.{◌≡◌, ℕ, List, [], ◌∷◌, length, refl, sym, ap, ◌∙◌, Bool, true, false, cond, Option, Some, None, slice_get, get_or, subst}
 use Rattle.std.specs.Prelude.{◌&&◌, ◌||◌, not, All, Contains}
 use Rattle.std.specs.Option.{option_and_then, option_map_or, option_or}
 use Rattle.std.proofs.lemmas.List.Elements.{All-from_get_or, All-nil, Contains-get_or}
@@ -9,20 +9,19 @@ use Rattle.elf32_read.specs.Parts.{SectionParts, is_kept_section}
 use Rattle.elf32_read.specs.declared.fault.Fault.{Fault}
 use Rattle.elf32_read.specs.declared.fault.Fault.TheVariants.{BadTarget, LoPair, RelocKind, RelocPlace}
 use Rattle.elf32_read.specs.declared.reloc.Reloc.{Reloc}
-use Rattle.psabi_sym.specs.Faults.{first_some}
 use Rattle.psabi_sym.specs.Inputs.{ParsedInputs}
-use Rattle.psabi_sym.specs.Indexed.{section_at, sections_before}
+use Rattle.psabi_sym.specs.Indexed.{section_at}
 use Rattle.psabi_sym.specs.Resolve.{name_target}
 use Rattle.psabi_sym.specs.Start.{start_name}
 use Rattle.psabi_sym.specs.declared.target.Target.{Target}
 use Rattle.psabi_sym.specs.declared.target.Target.TheVariants as target
 use Rattle.psabi_reloc.specs.Kinds.{kind_of}
-use Rattle.block_cut.specs.Faults.{if_so, has_bad_target, is_stray, lacks_pcrel_hi, is_bad_target, relocs_fault, section_fault}
+use Rattle.block_cut.specs.Faults.{if_so, has_bad_target, is_stray, lacks_pcrel_hi, is_bad_target, relocs_fault}
 use Rattle.block_cut.specs.Items.{code_at, entry_in, is_end_at, is_start_at, is_target_at, start_only, starts_on, target_of}
 use Rattle.block_cut.specs.Relocs.{is_bad_kind, is_bad_place, is_ignored, is_transfer}
 use Rattle.block_cut.proofs.DataLaws.{reloc_none}
-use Rattle.block_cut.proofs.FirstLaws.{none_within}
-use Rattle.block_cut.proofs.ListedLaws.{cut_at, listed}
+use Rattle.block_cut.proofs.FaultLaws.{section_fine}
+use Rattle.block_cut.proofs.ListedLaws.{listed}
 use Rattle.block_cut.proofs.WholeLaws.{code_is_section}
 use Rattle.block_cut.specs.Resolved.{asks}
 use Rattle.section_gc.specs.Kept.{AreNeeded, Needed, Start, Data, Referred}
@@ -31,13 +30,6 @@ use Rattle.section_gc.proofs.ResolveLaws.{IsNeededTarget}
 
 module _ (inputs : ParsedInputs) (fine : relocs_fault inputs ≡ None) where
   -- ---- a relocation without a fault isn't astray
-
-  -- a section has no fault of relocations
-  pub section-fine : (o i : ℕ) (s : SectionParts) → section_at inputs.objects o i ≡ Some s → section_fault inputs (listed o i s) ≡ None
-  unfolding relocs_fault
-  section-fine o i s at =
-      let cut = cut_at inputs.objects o i s at in
-      none_within (section_fault inputs) (sections_before inputs.objects o i) (listed o i s) cut.rest (ap (λ l. first_some (map (section_fault inputs) l)) (sym cut.all_are) ∙ fine)
 
   not-astray : (a b c d : Bool) (f g h i : Fault) → option_or (if_so a f) (option_or (if_so b g) (option_or (if_so c h) (option_or (if_so d i) None))) ≡ None → d ≡ false
   not-astray false false false false f g h i e = refl
@@ -49,7 +41,7 @@ module _ (inputs : ParsedInputs) (fine : relocs_fault inputs ≡ None) where
   leads-on : (o i k : ℕ) (s : SectionParts) (r : Reloc) → section_at inputs.objects o i ≡ Some s → slice_get s.relocs k ≡ Some r → has_bad_target inputs (listed o i s) r ≡ false
   leads-on o i k s r at is =
       not-astray (is_bad_kind s (kind_of r.kind)) (is_bad_place s r || is_stray s r) (lacks_pcrel_hi inputs (listed o i s) r) (has_bad_target inputs (listed o i s) r)
-      (RelocKind i r.offset) (RelocPlace i r.offset) (LoPair i r.offset) (BadTarget i r.offset) (reloc_none inputs o i s at (section-fine o i s at) k r is)
+      (RelocKind i r.offset) (RelocPlace i r.offset) (LoPair i r.offset) (BadTarget i r.offset) (reloc_none inputs o i s at (section_fine inputs fine o i s at) k r is)
 
   -- ---- places in kept code
 

@@ -1,7 +1,7 @@
 -- The items of cleaned objects: at places of needed sections the same stand, with their places moved.
-use Rattle.std.proofs.Common.{◌≡◌, ℕ, zero, suc, ◌+◌, ℤ, pos, negsuc, ◌+ℤ◌, max, min, List, [], ◌∷◌, length, refl, sym, ap, ap₂, ◌∙◌, filter, Bool, true, false, cond, eqb, ltb, Option, Some, None, subst, arith}
-use Rattle.std.specs.Prelude.{◌&&◌, ◌||◌, not, All}
-use Rattle.std.specs.List.{find, list_any}
+use Rattle.std.proofs.Common.{◌≡◌, ℕ, ◌+◌, ℤ, pos, negsuc, ◌+ℤ◌, List, [], ◌∷◌, length, refl, sym, ap, ap₂, ◌∙◌, Bool, true, false, cond, eqb, Option, Some, None, subst}
+use Rattle.std.specs.Prelude.{◌&&◌, ◌||◌, All}
+use Rattle.std.specs.List.{find}
 use Rattle.std.specs.Option.{option_and_then, option_map, option_map_or, unwrap_or}
 use Rattle.std.proofs.lemmas.List.Elements.{All-head, All-tail}
 use Rattle.zc_base.specs.Fields.{half_in, word_in}
@@ -14,17 +14,17 @@ use Rattle.psabi_sym.specs.Resolve.{name_target}
 use Rattle.psabi_sym.specs.Start.{start_name}
 use Rattle.psabi_sym.specs.declared.target.Target.{Target}
 use Rattle.psabi_sym.specs.declared.target.Target.TheVariants as target
-use Rattle.psabi_reloc.specs.Kinds.{field_length, kind_of}
+use Rattle.psabi_reloc.specs.Kinds.{kind_of}
 use Rattle.psabi_reloc.specs.declared.kind.RelocKind.{RelocKind}
 use Rattle.psabi_reloc.specs.declared.kind.RelocKind.TheVariants as kind
 use Rattle.rv_decode.specs.declared.instr.Instr.{Instr}
 use Rattle.rv_decode.specs.declared.instr.Instr.TheVariants as instr
-use Rattle.block_cut.specs.Items.{call_item, code_at, entry_in, entry_of, instr_item, is_end_at, is_start_at, is_target_at, item_at, item_in, item_under, known_item, next_at, place_on, raw_in, raw_pair, size_on, spelled_item, start_only, starts_from, starts_in, starts_on, target_away, target_of, to_place, transfer_item, transfer_under}
-use Rattle.block_cut.specs.Relocs.{field_end, field_of, is_bad_kind, is_bad_place, overlaps_another, is_ignored, is_placed, is_sound, instr_in, overlap, reloc_on}
-use Rattle.block_cut.specs.CodeSizes.{own_size}
+use Rattle.block_cut.specs.Items.{call_item, code_at, entry_in, entry_of, instr_item, is_end_at, is_start_at, is_target_at, item_at, item_in, item_under, known_item, next_at, place_on, raw_in, raw_pair, size_on, spelled_item, start_only, starts_on, target_away, target_of, to_place, transfer_item, transfer_under}
+use Rattle.block_cut.specs.Relocs.{is_sound, instr_in, reloc_on}
 use Rattle.block_cut.specs.declared.item.Item.{Item}
 use Rattle.block_cut.specs.declared.item.Item.TheVariants as item
 use Rattle.block_cut.specs.Resolved.{asks}
+use Rattle.block_cut.proofs.AskingLaws.{asked, reloc_same, size_same, sound_asks, starts_same}
 use Rattle.section_gc.specs.Cleaned.{moved_by}
 use Rattle.moved_runs.specs.Passes.{ArePassed}
 use Rattle.moved_runs.specs.Moved.{moved_item, moved_target}
@@ -46,66 +46,8 @@ target_only objects p = cond (is_target_at objects p) (Some p) None
 abbrev pub of_instr : Option Instr → Item → (Instr → Item) → Item
 of_instr i raw f = option_map_or f i raw
 
--- ---- relocations of a section without those that ask for nothing
+-- ---- what is found
 
-abbrev pub asked : SectionParts → SectionParts
-asked s = record s { relocs = filter asks s.relocs }
-
-quiet-field : (x : Reloc) → asks x ≡ false → field_of x ≡ 0
-quiet-field x none = by (kind_of x.kind) none
-  where
-    by : (k : Option RelocKind) → not (is_ignored k) ≡ false → field_length k x.addend ≡ 0
-    by (Some kind.Ignored) h = refl
-    by None h = refl
-    by (Some k) h = absurd cc
-
-no-overlap : (r x : Reloc) → asks x ≡ false → overlap r x ≡ false
-no-overlap r x none = narrow r.offset x.offset (field_end r) (field_of x) (quiet-field x none)
-  where
-    narrow : (a b e n : ℕ) → n ≡ 0 → ltb (max a b) (min e (b + n)) ≡ false
-    narrow a b e n is = grind arith
-
-crowded-in : (r : Reloc) (xs : List Reloc) → filter (overlap r) (filter asks xs) ≡ filter (overlap r) xs
-crowded-in r [] = refl
-crowded-in r (x ∷ xs) = by (crowded-in r xs) (asks x) refl
-  where
-    by : filter (overlap r) (filter asks xs) ≡ filter (overlap r) xs → (a : Bool) → asks x ≡ a → filter (overlap r) (cond a (x ∷ filter asks xs) (filter asks xs)) ≡ cond (overlap r x) (x ∷ filter (overlap r) xs) (filter (overlap r) xs)
-    by rest true is = ap (λ t. cond (overlap r x) (x ∷ t) t) rest
-    by rest false is = rest ∙ sym (ap (λ b. cond b (x ∷ filter (overlap r) xs) (filter (overlap r) xs)) (no-overlap r x is))
-
-pub crowded-same : (r : Reloc) (xs : List Reloc) → overlaps_another (filter asks xs) r ≡ overlaps_another xs r
-crowded-same r xs = ap (λ l. ltb 1 (length l)) (crowded-in r xs)
-
-sound-same : (s : SectionParts) (r : Reloc) → is_sound (asked s) r ≡ is_sound s r
-sound-same s r = ap (λ c. asks r && (not (is_bad_kind s (kind_of r.kind)) && not (asks r && (ltb s.size (field_end r) || (not (is_placed s r) || c))))) (crowded-same r s.relocs)
-
-sound-asks : (s : SectionParts) (r : Reloc) (n : ℕ) → (is_sound s r && eqb r.offset n) ≡ true → asks r ≡ true
-sound-asks s r n h = by (asks r) (not (is_bad_kind s (kind_of r.kind)) && not (is_bad_place s r)) (eqb r.offset n) h
-  where
-    by : (a b c : Bool) → ((a && b) && c) ≡ true → a ≡ true
-    by true b c h = refl
-    by false b c h = absurd cc
-
--- a search that finds what asks alone
-find-asked : (p : Reloc → Bool) → ((r : Reloc) → p r ≡ true → asks r ≡ true) → (xs : List Reloc) → find p (filter asks xs) ≡ find p xs
-find-asked p only [] = refl
-find-asked p only (x ∷ xs) = by (find-asked p only xs) (asks x) refl
-  where
-    by : find p (filter asks xs) ≡ find p xs → (a : Bool) → asks x ≡ a → find p (cond a (x ∷ filter asks xs) (filter asks xs)) ≡ cond (p x) (Some x) (find p xs)
-    by rest true is = ap (λ t. cond (p x) (Some x) t) rest
-    by rest false is = rest ∙ no (p x) refl
-      where
-        no : (b : Bool) → p x ≡ b → find p xs ≡ cond b (Some x) (find p xs)
-        no false h = refl
-        no true h = let a = only x h in absurd cc
-
-pub reloc-same : (s : SectionParts) (n : ℕ) → reloc_on (asked s) n ≡ reloc_on s n
-unfolding reloc_on
-reloc-same s n =
-    ap (λ p. find p (filter asks s.relocs)) (λ i. λ r. sound-same s r i && eqb r.offset n)
-    ∙ find-asked (λ r. is_sound s r && eqb r.offset n) (λ r h. sound-asks s r n h) s.relocs
-
--- what is found
 found-in : (p : Reloc → Bool) (P : Reloc → Type 0) (xs : List Reloc) (r : Reloc) → All P xs → find p xs ≡ Some r → P r × (p r ≡ true)
 found-in p P [] r all is = absurd cc
 found-in p P (x ∷ xs) r all is = by (λ later. found-in p P xs r (All-tail P x xs all) later) (p x) refl is
@@ -113,19 +55,6 @@ found-in p P (x ∷ xs) r all is = by (λ later. found-in p P xs r (All-tail P x
     by : (find p xs ≡ Some r → P r × (p r ≡ true)) → (b : Bool) → p x ≡ b → cond b (Some x) (find p xs) ≡ Some r → P r × (p r ≡ true)
     by rest true h is = let same : x ≡ r = cc in subst (λ y. P y × (p y ≡ true)) same (All-head P x xs all, h)
     by rest false h is = rest is
-
--- ---- where items start
-
-size-same : (s : SectionParts) (n : ℕ) → size_on (asked s) n ≡ size_on s n
-size-same s n = ap (λ r. option_map_or field_of r (own_size s.compressed s.bytes n)) (reloc-same s n)
-
-from-same : (s : SectionParts) (fuel n : ℕ) → starts_from fuel (asked s) n ≡ starts_from fuel s n
-from-same s zero n = refl
-from-same s (suc fuel) n = ap (λ t. cond (ltb n (length s.bytes)) (n ∷ t) []) (ap (λ m. starts_from fuel (asked s) (n + m)) (size-same s n) ∙ from-same s fuel (n + size_on s n))
-
-pub starts-same : (s : SectionParts) (n : ℕ) → starts_on (asked s) n ≡ starts_on s n
-unfolding starts_in
-starts-same s n = ap (λ l. list_any (λ m. eqb m n) l) (from-same s (length s.bytes) 0)
 
 -- ---- places
 
@@ -162,7 +91,7 @@ module _ (needed : ℕ → ℕ → Bool) (number : ℕ → ℕ → ℕ) (inputs 
     where
       by : (x : Option SectionParts) → option_map_or (λ s. starts_on s q.offset) (option_map asked x) false ≡ option_map_or (λ s. starts_on s q.offset) x false
       by None = refl
-      by (Some s) = starts-same s q.offset
+      by (Some s) = starts_same s q.offset
 
   end-clean : (q : Place) → Stays q → is_end_at result.objects (M q) ≡ is_end_at inputs.objects q
   end-clean q k = ap (λ x. option_map_or (λ s. eqb q.offset (length s.bytes)) x false) (code-at-clean q k) ∙ by (code_at inputs.objects q)
@@ -179,7 +108,7 @@ module _ (needed : ℕ → ℕ → Bool) (number : ℕ → ℕ → ℕ) (inputs 
     where
       by : (x : Option SectionParts) → (record { object = q.object; section = number q.object q.section; offset = q.offset + option_map_or (λ s. size_on s q.offset) (option_map asked x) 4 }) ≡ M (record q { offset = q.offset + option_map_or (λ s. size_on s q.offset) x 4 })
       by None = refl
-      by (Some s) = ap (λ n. M (record q { offset = q.offset + n })) (size-same s q.offset)
+      by (Some s) = ap (λ n. M (record q { offset = q.offset + n })) (size_same s q.offset)
 
   -- ---- items without relocation
 
@@ -287,11 +216,11 @@ module _ (needed : ℕ → ℕ → Bool) (number : ℕ → ℕ → ℕ) (inputs 
   unfolding reloc_on
   reloc-needed q s r k at is =
       let both = found-in (λ r. is_sound s r && eqb r.offset q.offset) (λ r. asks r ≡ true → IsNeededTarget needed (target_of inputs q.object r)) s.relocs r (closed.leads q.object q.section s at k) is in
-      both.0 (sound-asks s r q.offset both.1)
+      both.0 (sound_asks s r q.offset both.1)
 
   item-in-clean : (q : Place) (s : SectionParts) → Stays q → section_at inputs.objects q.object q.section ≡ Some s → item_in result (asked s) (M q) ≡ moved_item M (item_in inputs s q)
   item-in-clean q s k at =
-      ap₂ (λ r size. item_under result (M q) r size s.bytes) (reloc-same s q.offset) (size-same s q.offset)
+      ap₂ (λ r size. item_under result (M q) r size s.bytes) (reloc_same s q.offset) (size_same s q.offset)
       ∙ by (reloc_on s q.offset) refl (size_on s q.offset)
     where
       by : (r : Option Reloc) → reloc_on s q.offset ≡ r → (size : ℕ) → item_under result (M q) r size s.bytes ≡ moved_item M (item_under inputs q r size s.bytes)
@@ -315,7 +244,7 @@ module _ (needed : ℕ → ℕ → Bool) (number : ℕ → ℕ → ℕ) (inputs 
 
       by : (s : SectionParts) → section_at inputs.objects q.object q.section ≡ Some s → (b : Bool) → option_and_then (item_from result (M q)) (option_map asked (cond b (Some s) None)) ≡ option_map (moved_item M) (option_and_then (item_from inputs q) (cond b (Some s) None))
       by s at false = refl
-      by s at true = ap (λ b. cond b (Some (item_in result (asked s) (M q))) None) (starts-same s q.offset) ∙ from s at (starts_on s q.offset)
+      by s at true = ap (λ b. cond b (Some (item_in result (asked s) (M q))) None) (starts_same s q.offset) ∙ from s at (starts_on s q.offset)
 
   -- ---- the start
 

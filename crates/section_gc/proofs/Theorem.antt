@@ -1,5 +1,5 @@
 -- Files of objects without what isn't needed run as the given ones do, with their sections renumbered.
-use Rattle.std.proofs.Common.{◌≡◌, ℕ, suc, ◌+◌, List, [], ◌∷◌, ◌++◌, refl, sym, ap, ap₂, ◌∙◌, arith, map, filter, Bool, true, false, cond, Some, None, slice_get}
+use Rattle.std.proofs.Common.{◌≡◌, ℕ, suc, ◌+◌, List, [], ◌∷◌, ◌++◌, length, refl, sym, ap, ap₂, ◌∙◌, arith, map, filter, Bool, true, false, cond, Some, None, slice_get}
 use Rattle.std.specs.Prelude.{not, ◌&&◌, ◌||◌}
 use Rattle.std.specs.List.{AllZip, enumerate_from, list_any, range_with_len}
 use Rattle.std.specs.Option.{option_map_or}
@@ -8,7 +8,6 @@ use Rattle.elf32_read.specs.Compressed.{has_rvc}
 use Rattle.elf32_read.specs.Header.{file_flags, section_count}
 use Rattle.elf32_read.specs.Object.{object_fault}
 use Rattle.elf32_read.specs.Parts.{ObjectParts, SectionParts, is_code_section, is_kept_section, object_parts, section_parts}
-use Rattle.elf32_write.specs.ObjectFile.{object_bytes}
 use Rattle.elf32_write.specs.Writable.{IsObjectOf, added_parts, in_object, null_part, null_symbol_part}
 use Rattle.psabi_sym.specs.Inputs.{Inputs, parsed}
 use Rattle.psabi_sym.proofs.Gathered.{readable}
@@ -16,17 +15,18 @@ use Rattle.block_cut.specs.Faults.{first_fault}
 use Rattle.block_cut.specs.Resolved.{asks}
 use Rattle.block_cut.proofs.FaultLaws.{faultless}
 use Rattle.sym_machine.specs.Objects.{program_of}
-use Rattle.moved_runs.specs.Moves.{SameRuns}
+use Rattle.moved_runs.specs.Moves.{MovesExactly, SameRuns}
 use Rattle.moved_runs.specs.Passes.{ArePassed, ArePassesFrom, IsOrderly, IsPassOf, new_number, passed_from}
-use Rattle.section_gc.specs.Cleaned.{cleaned, cleaned_object, cleaned_section, moved_by, renumbered}
-use Rattle.section_gc.specs.Collected.{IsCollected, with_files}
+use Rattle.section_gc.specs.Cleaned.{cleaned, cleaned_object, cleaned_section, renumbered}
+use Rattle.section_gc.specs.Collected.{Collection, IsCollected, IsCollection, IsInNeeded, collected_files, collected_place, with_files}
+use Rattle.section_gc.specs.Counts.{listed_bytes, needed_code}
 use Rattle.section_gc.specs.Kept.{AreNeeded}
 use Rattle.section_gc.specs.Written.{without_marks, without_mark}
 use Rattle.section_gc.proofs.CleaningLaws.{cleaning}
 use Rattle.section_gc.proofs.Closed.{IsClosed}
 use Rattle.section_gc.proofs.ClosedLaws.{closed}
 use Rattle.section_gc.proofs.OrderlyLaws.{orderly}
-use Rattle.section_gc.proofs.Programs.{clean-runs}
+use Rattle.section_gc.proofs.Programs.{clean-runs, programs-move}
 
 -- ---- compressed objects stay compressed
 
@@ -126,22 +126,26 @@ module _ (inputs : Inputs) (needed : ℕ → ℕ → Bool) (files : List (List �
   pub inputs-closed : IsClosed (parsed inputs) needed
   inputs-closed = let all = faultless inputs none in closed (parsed inputs) all.relocs needed are all.entry all.entry_found
 
+  -- the programs are the same where code is needed
+  pub collected-moves : MovesExactly (IsInNeeded needed) (IsInNeeded needed) (collected_place inputs) (program_of (parsed inputs)) (program_of (parsed (with_files inputs files)))
+  collected-moves = programs-move needed (renumbered (parsed inputs).objects) (parsed inputs) (parsed (with_files inputs files)) inputs-clean inputs-closed
+
   -- the runs are the same, stuck ones too
-  pub collected-runs : SameRuns (moved_by (renumbered (parsed inputs).objects)) (program_of (parsed inputs)) (program_of (parsed (with_files inputs files)))
+  pub collected-runs : SameRuns (collected_place inputs) (program_of (parsed inputs)) (program_of (parsed (with_files inputs files)))
   collected-runs = clean-runs needed (renumbered (parsed inputs).objects) (parsed inputs) (parsed (with_files inputs files)) inputs-clean inputs-closed
 
 -- ---- what the code owes
 
 -- what is written of each, and has no fault with the others, is what is promised
 pub collected : (inputs : Inputs) (needed : ℕ → ℕ → Bool) (files : List (List ℕ)) → first_fault inputs ≡ None → AreNeeded (parsed inputs) needed
-    → files ≡ map object_bytes (cleaned needed (parsed inputs).objects) → AllZip IsObjectOf (map without_marks (cleaned needed (parsed inputs).objects)) files
-    → first_fault (with_files inputs files) ≡ None → IsCollected inputs files
+    → files ≡ collected_files inputs needed → AllZip IsObjectOf (map without_marks (cleaned needed (parsed inputs).objects)) files
+    → first_fault (with_files inputs files) ≡ None → IsCollected inputs needed files
 collected inputs needed files none are is read fine = record {
   given_faultless = none;
-  needed = needed;
   are_needed = are;
   files_are = is;
   faultless = fine;
+  moves = collected-moves inputs needed files none are read;
   runs = collected-runs inputs needed files none are read;
 }
 
@@ -155,7 +159,13 @@ one-needed inputs a b are also = λ k. λ o. λ i. by o i (a o i) refl (b o i) r
     by o i true e false f = absurd (let h = also.all o i (are.only o i e) in cc)
     by o i false e true f = absurd (let h = are.all o i (also.only o i f) in cc)
 
--- so is what is written
-pub one-result : (inputs : Inputs) (xs ys : List (List ℕ)) → IsCollected inputs xs → IsCollected inputs ys → xs ≡ ys
-one-result inputs xs ys x y =
-    x.files_are ∙ ap (λ needed. map object_bytes (cleaned needed (parsed inputs).objects)) (one-needed inputs x.needed y.needed x.are_needed y.are_needed) ∙ sym y.files_are
+-- so has what is given
+pub one-result : (inputs : Inputs) (c d : Collection) → IsCollection inputs c → IsCollection inputs d → c ≡ d
+one-result inputs c d x y =
+    let same = one-needed inputs x.needed y.needed x.collected.are_needed y.collected.are_needed in
+    let files = x.collected.files_are ∙ ap (collected_files inputs) same ∙ sym y.collected.files_are in
+    let kept = x.kept ∙ ap (λ needed. length (needed_code needed (parsed inputs).objects)) same ∙ sym y.kept in
+    let all = x.all ∙ sym y.all in
+    let bytes = x.bytes ∙ ap (λ needed. listed_bytes (needed_code needed (parsed inputs).objects)) same ∙ sym y.bytes in
+    let from = x.from ∙ sym y.from in
+    λ i. record { files = files i; kept = kept i; all = all i; bytes = bytes i; from = from i }

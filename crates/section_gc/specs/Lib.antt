@@ -3,4 +3,8 @@ pub mod Cleaned
 pub mod Collected
 pub mod Counts
 pub mod Graph
+pub mod Marked
+pub mod Remains
+pub mod Sizes
 pub mod Written
+pub mod Rooms

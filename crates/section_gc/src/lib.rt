@@ -1,6 +1,15 @@
 //! Objects without the sections of code that nothing reaches.
 #![tactic(auto)]
 
+pub mod counts;
+pub mod files;
+pub mod gc;
+pub mod gc_fault;
 pub mod graph;
 pub mod needed;
+pub mod remains;
 pub mod section_part;
+pub mod section_room;
+pub mod sections;
+pub mod sizes;
+pub mod symbols;

@@ -14,8 +14,8 @@ use psabi_reloc::kind::RelocKind;
 use psabi_sym::section_ref::SectionRef;
 use std::alloc::{AllocError, Global};
 
-// Whether a relocation asks for something.
-fn asks(reloc: Reloc) -> bool
+/// Whether a relocation asks for something.
+pub fn asks(reloc: Reloc) -> bool
     ensures { result ≡ asks reloc }
 {
     RelocKind::of(reloc.kind) != Some(RelocKind::Ignored)

@@ -1,0 +1,13 @@
+use Rattle.std.proofs.Common.{◌∙◌, [], ap, get_or}
+use Rattle.elf32_read.specs.Parts.{object_parts}
+use Rattle.elf32_write.specs.ObjectFile.{object_bytes}
+use Rattle.psabi_sym.specs.Inputs.{parsed}
+use Rattle.section_gc.specs.Cleaned.{cleaned_object}
+use Rattle.section_gc.specs.Graph.{has_mark}
+use Rattle.section_gc.proofs.MarkLaws.{bytes-same}
+use Rattle.section_gc.proofs.files.file_of.Goals as goal
+
+pub returns-clause-bytes : goal.returns-clause-bytes
+returns-clause-bytes c =
+    c.in_ok-file.ensures.bytes ∙ ap object_bytes c.in_ok-parts.ensures
+    ∙ bytes-same (cleaned_object (has_mark (parsed c.args.objects.now).objects c.args.marks.now c.args.object) (object_parts (get_or c.args.objects.now.files c.args.object [])))

@@ -1,0 +1,18 @@
+use Rattle.std.proofs.Common.{◌≡◌, map, take}
+use Rattle.std.specs.List.{AllZip}
+use Rattle.elf32_write.specs.ObjectFile.{object_bytes}
+use Rattle.elf32_write.specs.Writable.{IsObjectOf}
+use Rattle.psabi_sym.specs.Inputs.{parsed}
+use Rattle.psabi_sym.specs.Objects.{contents_of}
+use Rattle.section_gc.specs.Cleaned.{cleaned}
+use Rattle.section_gc.specs.Graph.{has_mark}
+use Rattle.section_gc.specs.Written.{without_marks}
+use Rattle.section_gc.proofs.files.files_of.Given as goal
+
+abbrev pub invariant-loop-o : goal.invariant-loop-o
+invariant-loop-o l =
+    let all = cleaned (has_mark (parsed l.objects).objects l.marks) (parsed l.objects).objects in
+    record {
+      bytes : contents_of l.files.items ≡ map object_bytes (take l.o all);
+      read_back : AllZip IsObjectOf (map without_marks (take l.o all)) (contents_of l.files.items);
+    }

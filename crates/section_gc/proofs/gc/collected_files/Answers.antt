@@ -1,0 +1,47 @@
+use Rattle.std.proofs.Common.{◌∙◌, sym, ap, ap₂, subst}
+use Rattle.std.specs.Prelude.{map}
+use Rattle.std.specs.List.{AllZip}
+use Rattle.elf32_write.specs.Writable.{IsObjectOf}
+use Rattle.psabi_sym.specs.Inputs.{Inputs, inputs_in, parsed}
+use Rattle.psabi_sym.specs.LinkFault.{IsRefusal}
+use Rattle.psabi_sym.specs.Objects.{contents_of}
+use Rattle.block_cut.specs.Faults.{first_fault}
+use Rattle.section_gc.specs.Cleaned.{cleaned}
+use Rattle.section_gc.specs.Graph.{has_mark}
+use Rattle.section_gc.specs.Written.{without_marks}
+use Rattle.section_gc.proofs.LeftFaults.{range-left}
+use Rattle.section_gc.proofs.OversizedLaws.{oversized-broken}
+use Rattle.section_gc.proofs.Theorem.{collected}
+use Rattle.section_gc.proofs.gc.collected_files.Goals as goal
+
+pub returns-in-Some-clause-err : goal.returns-in-Some-clause-err
+returns-in-Some-clause-err c =
+    let inputs = c.args.objects.now in
+    let needed = has_mark (parsed inputs).objects c.args.marks.now in
+    record {
+      given_faultless = c.requires.faultless;
+      needed = needed;
+      are_needed = c.requires.needed;
+      broken = oversized-broken inputs needed c.in-Some.index c.requires.faultless (sym c.first_oversized.ensures ∙ c.in-Some.is);
+      is_breakage = tt;
+    }
+
+pub returns-in-Err-clause-err : goal.returns-in-Err-clause-err
+returns-in-Err-clause-err c =
+    let inputs = c.args.objects.now in
+    let needed = has_mark (parsed inputs).objects c.args.marks.now in
+    let parts = map without_marks (cleaned needed (parsed inputs).objects) in
+    let read = subst (AllZip IsObjectOf parts) c.in_ok-files.ensures.bytes c.in_ok-files.ensures.read_back in
+    let small = sym c.first_oversized.ensures ∙ c.in_default.is in
+    c.of_result.ensures inputs needed c.requires.faultless c.requires.needed
+    (λ i fault is. range-left inputs needed i fault c.requires.faultless c.requires.needed read small is)
+    (subst (λ (it : Inputs). IsRefusal (first_fault it) c.in-Err.fault)
+    (ap₂ inputs_in c.map.ensures.value (ap contents_of c.deref.ensures.value ∙ c.in_ok-files.ensures.bytes)) c.in-Err.ensures.err)
+
+pub returns-in-Ok-clause-ok : goal.returns-in-Ok-clause-ok
+returns-in-Ok-clause-ok c =
+    let inputs = c.args.objects.now in
+    let needed = has_mark (parsed inputs).objects c.args.marks.now in
+    let files = c.in_ok-files.files.items in
+    collected inputs needed (contents_of files) c.requires.faultless c.requires.needed c.in_ok-files.ensures.bytes c.in_ok-files.ensures.read_back
+    (let fine = c.in-Ok.ensures.ok in cc (fine, c.deref.ensures.value, c.map.ensures.value))
