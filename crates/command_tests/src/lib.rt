@@ -7,6 +7,8 @@ mod check;
 #[cfg(test)]
 mod fixture;
 #[cfg(test)]
+mod gc;
+#[cfg(test)]
 mod make;
 #[cfg(test)]
 mod outcomes;

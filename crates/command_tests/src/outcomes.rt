@@ -1,5 +1,6 @@
 // Lines and statuses that the tests of commands don't have.
 
+use elf32_read::fault::Fault;
 use elf32_read::image_fault::ImageFault;
 use interrupt_plan::fault::PlanFault;
 use pick_check::fault::CertFault;
@@ -16,10 +17,20 @@ const PLACE: Place = Place {
 };
 
 // Statuses from 118 on are kept for `zcld` itself.
-const ROWS: [(Outcome, &str, u8); 10] = [
+const ROWS: [(Outcome, &str, u8); 12] = [
     (Outcome::Exited(117), "exited 117\n", 117),
     (Outcome::Exited(118), "exited 118\n", 118),
     (Outcome::Exited(119), "exited 119\n", 118),
+    (
+        Outcome::Broken(4_294_967_295, Fault::TooLarge),
+        "broken 4294967295 17 TooLarge\n",
+        119,
+    ),
+    (
+        Outcome::Broken(0, Fault::BadTarget { section: 2, at: 4 }),
+        "broken 0 14 BadTarget\n",
+        119,
+    ),
     (Outcome::OutOfMemory, "out of memory\n", 124),
     (
         Outcome::BadFile(FileFault::Image(ImageFault::TooLarge)),

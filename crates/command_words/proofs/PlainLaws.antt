@@ -8,9 +8,9 @@ use Rattle.clap.specs.Lexer.{usize_max}
 use Rattle.clap.specs.Simple.{App, Shape, built, help_shape}
 use Rattle.clap.specs.Walk.{Row, Text, first_of}
 use Rattle.clap.proofs.OnLiterals.{clap_on_literals}
-use Rattle.command_words.specs.Command.{Command, Meaning, Spelled, Words, check_of, command_of, found_in, make_of, meaning, meaning_named, meanings, plain_of, read_by_clap, run_of, trace_of, values_in, zc_of}
+use Rattle.command_words.specs.Command.{Command, Meaning, Spelled, Words, check_of, command_of, found_in, gc_of, make_of, meaning, meaning_named, meanings, plain_of, read_by_clap, run_of, trace_of, values_in, zc_of}
 use Rattle.command_words.specs.PlainForm.{IsReadAsPlain, is_plain_form, plain_command_of, spelled_words}
-use Rattle.command_words.specs.Table.{OptionSyntax, Syntax, check_syntax, make_syntax, one, plain_syntax, program_app, run_syntax, several, trace_syntax, zc_syntax}
+use Rattle.command_words.specs.Table.{OptionSyntax, Syntax, check_syntax, gc_syntax, make_syntax, one, plain_syntax, program_app, run_syntax, several, trace_syntax, zc_syntax}
 use Rattle.command_words.proofs.Given.{Given, all_of-given, first_of-given, lookup, rows_for, same_text}
 use Rattle.command_words.proofs.PlainOptions.{Each, values_of}
 use Rattle.command_words.proofs.PlainWords.{Reads, SeveralFits, SingleFits}
@@ -207,10 +207,28 @@ make_read words =
     form_read (record { form = make_syntax; command = make_of }) words (λ rows. refl)
     (two_read (codes "make") make_syntax.options (sub 5) make_enters words (codes "NUMBER") (codes "FUNCTIONS") make_leaf make_words.0 make_words.1 refl refl) _ refl
 
+-- `gc`
+gc_enters : Enters built_app (codes "gc") (sub 6)
+unfolding built_app sub program_app clap_on_literals
+gc_enters = record { named = refl; found = refl; other = refl; same = refl; defaults = (refl, tt); negates = refl; free = refl }
+
+gc_leaf : IsLeafOf (sub 6) gc_syntax.options (codes "OBJ" ∷ [])
+unfolding built_app sub program_app clap_on_literals
+gc_leaf = record { defaults = refl; help = refl; required = refl; negates = refl; written = refl; dashes = refl; by_long = refl; by_id = refl; apart = refl; other = refl; back = refl; rules = refl; rest = refl }
+
+gc_words : SeveralFits (sub 6).rules (codes "OBJ")
+unfolding built_app sub program_app clap_on_literals
+gc_words = record { by_index = refl; by_id = refl }
+
+gc_read : (words : List Text) → length words ≤ usize_max → ReadsForm words (record { form = gc_syntax; command = gc_of })
+gc_read words few =
+    form_read (record { form = gc_syntax; command = gc_of }) words (λ rows. refl)
+    (several_read (codes "gc") gc_syntax.options (sub 6) gc_enters words (codes "OBJ") gc_leaf gc_words few) _ refl
+
 -- ---- all commands
 
 forms_read : (words : List Text) → length words ≤ usize_max → Each (ReadsForm words) meanings
-forms_read words few = (plain_read words few, (zc_read words few, (run_read words, (trace_read words few, (check_read words, (make_read words, tt))))))
+forms_read words few = (plain_read words few, (zc_read words few, (run_read words, (trace_read words few, (check_read words, (make_read words, (gc_read words few, tt)))))))
 
 -- words of a command that is one of these
 module _ (name : Text) (words : List Text) where

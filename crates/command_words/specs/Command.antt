@@ -12,6 +12,7 @@ use Rattle.zc_base.specs.declared.mem_map.MemMap.{MemMap}
 use Rattle.command_words.specs.declared.command_line.TheConstants.{MOST_FUNCTIONS, MOST_STEPS, USUAL_STEPS}
 use Rattle.command_words.specs.declared.command_line.CommandLine.{CommandLine}
 use Rattle.command_words.specs.declared.command_line.CommandLine.TheVariants as line
+use Rattle.command_words.specs.declared.command_line.GcArgs.{GcArgs}
 use Rattle.command_words.specs.declared.command_line.MakeArgs.{MakeArgs}
 use Rattle.command_words.specs.declared.command_line.PlainArgs.{PlainArgs}
 use Rattle.command_words.specs.declared.command_line.RunArgs.{RunArgs}
@@ -19,7 +20,7 @@ use Rattle.command_words.specs.declared.command_line.TraceArgs.{TraceArgs}
 use Rattle.command_words.specs.declared.command_line.ZcArgs.{ZcArgs}
 use Rattle.command_words.specs.MapWords.{map_given}
 use Rattle.command_words.specs.Number.{number_up_to}
-use Rattle.command_words.specs.Table.{OptionSyntax, PositionalSyntax, Syntax, check_syntax, make_syntax, plain_syntax, program_app, run_syntax, trace_syntax, zc_syntax}
+use Rattle.command_words.specs.Table.{OptionSyntax, PositionalSyntax, Syntax, check_syntax, gc_syntax, make_syntax, plain_syntax, program_app, run_syntax, trace_syntax, zc_syntax}
 
 -- a command, with the memory map that it works in, the names of its files, and its numbers
 pub data Command : Type 0 where
@@ -29,6 +30,7 @@ pub data Command : Type 0 where
   Trace : (map : MemMap) (steps : ℕ) (objects : List Text) → Command
   Check : (cert : Text) → Command
   Make : (prefix : Option Text) (number functions : ℕ) → Command
+  Gc : (prefix : Text) (objects : List Text) → Command
 
 -- ---- what clap reads
 
@@ -108,6 +110,11 @@ make_of (Words (prefix ∷ []) (number ∷ functions ∷ [])) =
     (number_up_to (2 ^ 64 - 1) number)
 make_of other = None
 
+-- `gc` of its objects
+abbrev pub gc_of : Spelled → Option Command
+gc_of (Words (Some prefix ∷ []) objects) = Some (Gc prefix objects)
+gc_of other = None
+
 -- a command's syntax, and which command it is with these words
 pub record Meaning : Type 0 where
   pub form : Syntax
@@ -117,7 +124,8 @@ abbrev pub meanings : List Meaning
 meanings =
     record { form = plain_syntax; command = plain_of } ∷ record { form = zc_syntax; command = zc_of }
     ∷ record { form = run_syntax; command = run_of } ∷ record { form = trace_syntax; command = trace_of }
-    ∷ record { form = check_syntax; command = check_of } ∷ record { form = make_syntax; command = make_of } ∷ []
+    ∷ record { form = check_syntax; command = check_of } ∷ record { form = make_syntax; command = make_of }
+    ∷ record { form = gc_syntax; command = gc_of } ∷ []
 
 -- the meaning of a command's name
 abbrev pub meaning_named : Text → Option Meaning
@@ -157,6 +165,10 @@ trace_meant args = Trace args.map args.steps (texts args.objects.items)
 abbrev pub make_meant : MakeArgs → Command
 make_meant args = Make (option_copied args.prefix) args.number args.functions
 
+-- the command that the words of `gc` mean
+abbrev pub gc_meant : GcArgs → Command
+gc_meant args = Gc args.prefix.now (texts args.objects.items)
+
 -- a command
 abbrev pub meant_command : CommandLine → Command
 meant_command (line.Plain args) = plain_meant args
@@ -165,6 +177,7 @@ meant_command (line.Run args) = run_meant args
 meant_command (line.Trace args) = trace_meant args
 meant_command (line.Check cert) = Check cert.now
 meant_command (line.Make args) = make_meant args
+meant_command (line.Gc args) = gc_meant args
 
 -- a command's map, if it has one, is one that a link may be made for
 abbrev pub HasMap : CommandLine → Type 0
@@ -174,3 +187,4 @@ HasMap (line.Run args) = IsMap args.map
 HasMap (line.Trace args) = IsMap args.map
 HasMap (line.Check cert) = ⊤
 HasMap (line.Make args) = ⊤
+HasMap (line.Gc args) = ⊤

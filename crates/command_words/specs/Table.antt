@@ -89,9 +89,13 @@ make_syntax = record {
   positionals = one (codes "NUMBER") ∷ one (codes "FUNCTIONS") ∷ [];
 }
 
+-- `gc --out PREFIX OBJ...`
+abbrev pub gc_syntax : Syntax
+gc_syntax = record { name = codes "gc"; options = required (codes "out") ∷ []; positionals = several (codes "OBJ") ∷ [] }
+
 -- all commands
 abbrev pub commands : List Syntax
-commands = plain_syntax ∷ zc_syntax ∷ run_syntax ∷ trace_syntax ∷ check_syntax ∷ make_syntax ∷ []
+commands = plain_syntax ∷ zc_syntax ∷ run_syntax ∷ trace_syntax ∷ check_syntax ∷ make_syntax ∷ gc_syntax ∷ []
 
 -- ---- the `clap` command
 

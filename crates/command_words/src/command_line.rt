@@ -56,6 +56,14 @@ pub struct MakeArgs<'a> {
     pub functions: u32,
 }
 
+/// What `gc` keeps of the objects, at least one, that the program needs. The names of the files that it puts begin with the
+/// prefix.
+#[derive(Drop)]
+pub struct GcArgs<'a> {
+    pub prefix: &'a str,
+    pub objects: Vec<String>,
+}
+
 /// A command, with the names of its files.
 #[derive(Drop)]
 pub enum CommandLine<'a> {
@@ -65,4 +73,5 @@ pub enum CommandLine<'a> {
     Trace(TraceArgs),
     Check { cert: &'a str },
     Make(MakeArgs<'a>),
+    Gc(GcArgs<'a>),
 }

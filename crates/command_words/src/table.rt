@@ -126,5 +126,12 @@ const MAKE: Syntax = Syntax {
     positionals: &[NUMBER, FUNCTIONS],
 };
 
+// `gc --out PREFIX OBJ...`
+const GC: Syntax = Syntax {
+    name: "gc",
+    options: &[OUT],
+    positionals: &[OBJECTS],
+};
+
 /// The commands.
-pub static COMMANDS: [Syntax; 6] = [PLAIN, ZC, RUN, TRACE, CHECK, MAKE];
+pub static COMMANDS: [Syntax; 7] = [PLAIN, ZC, RUN, TRACE, CHECK, MAKE, GC];

@@ -3,13 +3,14 @@ use Rattle.std.proofs.Common.{◌≡◌, ℕ, List, Option, Some, None, refl, sy
 use Rattle.std.proofs.lemmas.Option.{none-some}
 use Rattle.zc_outside.specs.World.{World}
 use Rattle.zc_outside.proofs.Wanted.{ReadsAll-front, ReadsAll-none}
-use Rattle.command_words.specs.Command.{Check, Command, Make, Plain, Run, Trace, Zc}
+use Rattle.command_words.specs.Command.{Check, Command, Gc, Make, Plain, Run, Trace, Zc}
 use Rattle.zcld.specs.declared.outcome.Outcome.{Outcome}
 use Rattle.zcld.specs.declared.outcome.Outcome.TheVariants.{OutOfMemory, Usage}
 use Rattle.zcld.specs.Call.{Answers, Calls, CarriesOut, CountsFaults, DoesWith, IfCommand, IsUsageOf, Reports, TellsAll, task_of, work_of}
 use Rattle.zcld.specs.ErrLine.{err_line}
 use Rattle.zcld.proofs.Answering.{Facts, performed_answers, performed_counts, performed_known}
 use Rattle.zcld.proofs.CheckFacts.{check_facts}
+use Rattle.zcld.proofs.GcFacts.{gc_facts}
 use Rattle.zcld.proofs.MakeFacts.{make_facts}
 use Rattle.zcld.proofs.PlainFacts.{plain_facts}
 use Rattle.zcld.proofs.RunFacts.{run_facts}
@@ -23,6 +24,7 @@ facts (Run map plan steps image) = run_facts map plan steps image
 facts (Trace map steps objects) = trace_facts map steps objects
 facts (Check cert) = check_facts cert
 facts (Make prefix number functions) = make_facts prefix number functions
+facts (Gc prefix objects) = gc_facts prefix objects
 
 -- memory may run out before anything is done, whatever the words spell
 pub out_of_memory : (command : Option Command) (files : List (List ℕ)) (before : World) → CarriesOut command files OutOfMemory before before

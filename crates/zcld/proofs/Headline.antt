@@ -1,7 +1,9 @@
 -- The headline from what a call does: of an outcome that is Done, only the case is left in which the command did its work.
-use Rattle.std.proofs.Common.{◌≡◌, ℕ, List, [], ◌∷◌, map, Option, Some, None, refl, sym, ap, subst, ◌∙◌, inl, inr}
+use Rattle.std.proofs.Common.{◌≡◌, ℕ, suc, List, [], ◌∷◌, length, map, Option, Some, None, refl, sym, ap, ap₂, subst, ◌∙◌, inl, inr}
 use Rattle.std.proofs.lemmas.Option.{same_Some, none-some}
 use Rattle.psabi_sym.specs.Inputs.{inputs_in}
+use Rattle.section_gc.specs.Collected.{Collection, IsCollection}
+use Rattle.zc_base.specs.MemMap.{standard_map}
 use Rattle.zc_base.specs.declared.mem_map.MemMap.{MemMap}
 use Rattle.elf32_read.specs.declared.fault.Fault.{Fault}
 use Rattle.block_cut.specs.Faults.{first_fault}
@@ -9,17 +11,20 @@ use Rattle.zc_link.specs.Preserves.{Preserves}
 use Rattle.zc_outside.specs.Files.{Files, KeepsFiles}
 use Rattle.zc_outside.specs.Wanted.{AreRead, each_within}
 use Rattle.zc_outside.specs.World.{World}
-use Rattle.command_words.specs.Command.{Command, Plain, Zc}
+use Rattle.command_words.specs.Command.{Command, Gc, Plain, Zc}
 use Rattle.zcld.specs.declared.outcome.Outcome.{Outcome}
-use Rattle.zcld.specs.declared.outcome.Outcome.TheVariants.{Done, OutOfMemory, Refused}
+use Rattle.zcld.specs.declared.outcome.Outcome.TheVariants.{Broken, Done, OutOfMemory, Refused}
 use Rattle.zcld.specs.Call.{Calls, task_of}
-use Rattle.zcld.specs.Headline.{HoldsImage, Links}
+use Rattle.zcld.specs.Gc.{GcWork}
+use Rattle.zcld.specs.Headline.{HoldsCollection, HoldsImage, Links}
+use Rattle.zcld.specs.ObjectNames.{named_from, names_from}
 use Rattle.zcld.specs.Objects.{objects_wanted, refused_for}
-use Rattle.zcld.specs.Puts.{PutsFiles}
+use Rattle.zcld.specs.Puts.{HasFiles, PutsFiles}
 use Rattle.zcld.specs.Plain.{PlainWork}
 use Rattle.zcld.specs.Task.{IsWorked, OnlyRead, Performs, Task}
 use Rattle.zcld.specs.Zc.{ZcWork}
 use Rattle.zcld.specs.declared.limits.TheConstants.{OBJECT_LIMIT}
+use Rattle.zcld.proofs.MovedImages.{collection_preserves}
 
 -- a refusal of objects isn't Done
 refused_undone : (found : Option (ℕ × Fault)) → refused_for found ≡ Some Done → ⊥
@@ -29,6 +34,10 @@ refused_undone (Some f) some = let same : Refused f.0 f.1 ≡ Done = same_Some (
 -- nor is want of memory
 done_not_memory : Done ≡ OutOfMemory → ⊥
 done_not_memory e = cc
+
+-- nor is a result with a fault
+done_not_broken : (i : ℕ) (fault : Fault) → Done ≡ Broken i fault → ⊥
+done_not_broken i fault e = cc
 
 -- the bytes that were read stood under the names
 stood : (f : Files) (limit : ℕ) (names files : List (List ℕ)) → AreRead (Some f) (each_within limit names) files → map f names ≡ map Some files
@@ -46,6 +55,17 @@ stands :
     PutsFiles a (Some g) ((out, image) ∷ others) → g out ≡ Some image
 stands f g None out image others kept puts = absurd kept
 stands f g (Some h) out image others kept puts = puts.0.0
+
+-- likewise all of those that were put under names with numbers
+all_stand : (g : Files) (prefix : List ℕ) (k : ℕ) (objects : List (List ℕ)) → HasFiles g (named_from prefix k objects) → map g (names_from prefix k (length objects)) ≡ map Some objects
+all_stand g prefix k [] held = refl
+all_stand g prefix k (object ∷ objects) held = ap₂ (λ x xs. x ∷ xs) held.0 (all_stand g prefix (suc k) objects held.1)
+
+results_stand :
+    (f g : Files) (a : Option Files) (prefix : List ℕ) (objects : List (List ℕ)) → KeepsFiles (Some f) a →
+    PutsFiles a (Some g) (named_from prefix 0 objects) → map g (names_from prefix 0 (length objects)) ≡ map Some objects
+results_stand f g None prefix objects kept puts = absurd kept
+results_stand f g (Some h) prefix objects kept puts = all_stand g prefix 0 objects puts.0
 
 -- a command that is Done did its work
 done_worked :
@@ -78,6 +98,25 @@ module _ (memory : MemMap) (before after : World) where
       )
 
 module _ (before after : World) where
+  -- objects were read, and what is put is what is left of them
+  holds_collection :
+      (prefix : List ℕ) (names : List (List ℕ)) (f g : Files) (files : List (List ℕ)) (c : Collection) (between left : World) →
+      before.shelf.files ≡ Some f → after.shelf.files ≡ Some g → after.shelf ≡ left.shelf →
+      OnlyRead (objects_wanted names) before between → AreRead before.shelf.files (objects_wanted names) files →
+      PutsFiles between.shelf.files left.shelf.files (named_from prefix 0 c.files) → IsCollection (inputs_in standard_map files) c →
+      HoldsCollection prefix names f g
+  holds_collection prefix names f g files c between left told tells same only read puts collected =
+      let kept : KeepsFiles (Some f) between.shelf.files = subst (λ a. KeepsFiles a between.shelf.files) told only.shelf.files in
+      let there : left.shelf.files ≡ Some g = sym (ap (λ s. s.files) same) ∙ tells in
+      let put : PutsFiles between.shelf.files (Some g) (named_from prefix 0 c.files) =
+      subst (λ b. PutsFiles between.shelf.files b (named_from prefix 0 c.files)) there puts in (
+        files,
+        c.files,
+        stood f OBJECT_LIMIT names files (subst (λ a. AreRead a (objects_wanted names) files) told read),
+        results_stand f g between.shelf.files prefix c.files kept put,
+        collection_preserves standard_map files c collected,
+      )
+
   by_cases :
       (command : Option Command) (outcome : Outcome) (a b : Option Files) → before.shelf.files ≡ a → after.shelf.files ≡ b →
       Calls command outcome before after → Links command outcome a b
@@ -96,6 +135,15 @@ module _ (before after : World) where
         | inl lack ↦ absurd (done_not_memory lack.0)
         | inr put ↦
             holds_image memory before after out names f g calls.files put.link.elf _ worked.between calls.left told tells calls.line.shelf worked.only worked.read put.done.files put.linked.image.preserves
+      ]
+  by_cases (Some (Gc prefix names)) Done (Some f) (Some g) told tells calls =
+      let undone = refused_undone (first_fault (inputs_in standard_map calls.files)) in
+      let worked = done_worked (task_of (Gc prefix names)) (GcWork prefix) calls.files before calls.left undone calls.does in
+      elim worked.work [
+        | inl lack ↦ absurd (done_not_memory lack.0)
+        | inr (inl breaks) ↦ absurd (done_not_broken breaks.index breaks.fault breaks.outcome_is)
+        | inr (inr put) ↦
+            holds_collection prefix names f g calls.files put.collection worked.between calls.left told tells calls.line.shelf worked.only worked.read put.done.files put.collected
       ]
   by_cases command outcome a b told tells calls = tt
 

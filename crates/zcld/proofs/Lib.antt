@@ -1,9 +1,11 @@
 pub mod Answering
 pub mod CheckFacts
 pub mod Commands
+pub mod GcFacts
 pub mod Headline
 pub mod MachineFacts
 pub mod MakeFacts
+pub mod MovedImages
 pub mod Names
 pub mod ObjectFiles
 pub mod OutputFacts

@@ -4,7 +4,7 @@ use Rattle.std.proofs.Common.{◌≡◌, ◌≢◌, ℕ, zero, suc, ◌+◌, ◌
 use Rattle.std.specs.Prelude.{codes, decimal}
 use Rattle.std.specs.Str.Parse.{digits_value}
 use Rattle.text_lines.proofs.NumberLaws.{value_decimal}
-use Rattle.zcld.specs.Make.{named_from, names_from, object_name}
+use Rattle.zcld.specs.ObjectNames.{named_from, names_from, object_name}
 use Rattle.zcld.specs.Puts.{IsOtherName}
 
 -- ---- objects

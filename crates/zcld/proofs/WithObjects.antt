@@ -68,19 +68,27 @@ module _ (command : Command) (map : MemMap) (names left : List (List ℕ)) (outc
         }
       ]
 
+  -- it did its work with files that aren't refused
+  pub with_read :
+      (between : World) (files : List (List ℕ)) → (task_of command).wanted ≡ objects_wanted names → (task_of command).refusal ≡ objects_refusal map
+      → OnlyRead (objects_wanted names) before between → AreRead before.shelf.files (objects_wanted names) files → first_fault (inputs_in map files) ≡ None
+      → err_line left outcome ≡ err_line files outcome → work_of command files outcome between after → DoesWith (Some command) left outcome before after
+  with_read between files wants refuses only read sound line work = record {
+    files = files;
+    line = line;
+    does = inr (inr (record {
+      between = between;
+      only = subst (λ w. OnlyRead w before between) (sym wants) only;
+      read = subst (λ w. AreRead before.shelf.files w files) (sym wants) read;
+      accepted = ap (λ refusal. refusal files) refuses ∙ ap refused_for sound;
+      work = work;
+    }));
+  }
+
   -- it did its work with objects that aren't refused
   pub with_objects :
       (between : World) (objects : Inputs) → (task_of command).wanted ≡ objects_wanted names → (task_of command).refusal ≡ objects_refusal map
       → OnlyRead (objects_wanted names) before between → (are : AreGathered map names objects before.shelf.files) → first_fault objects ≡ None
       → NamesNothing outcome → work_of command are.files outcome between after → DoesWith (Some command) left outcome before after
-  with_objects between objects wants refuses only are sound nothing work = record {
-    files = are.files;
-    line = names_in_none outcome left are.files nothing;
-    does = inr (inr (record {
-      between = between;
-      only = subst (λ w. OnlyRead w before between) (sym wants) only;
-      read = subst (λ w. AreRead before.shelf.files w are.files) (sym wants) are.read;
-      accepted = ap (λ refusal. refusal are.files) refuses ∙ ap refused_for (sym (ap first_fault are.inputs_are) ∙ sound);
-      work = work;
-    }));
-  }
+  with_objects between objects wants refuses only are sound nothing work =
+      with_read between are.files wants refuses only are.read (sym (ap first_fault are.inputs_are) ∙ sound) (names_in_none outcome left are.files nothing) work

@@ -18,16 +18,20 @@ use Rattle.zc_machine.specs.declared.reason.Reason.{Reason}
 use Rattle.zc_machine.specs.Reason.{reason_name, reason_number}
 use Rattle.zcld.specs.declared.outcome.FileFault.TheVariants.{Certificate, Image, Plan, Rejected}
 use Rattle.zcld.specs.declared.outcome.Outcome.{Outcome}
-use Rattle.zcld.specs.declared.outcome.Outcome.TheVariants.{Done, Exited, Usage, Refused, ReadFault, WriteFault, OutOfMemory, BadFile, Stopped, Stuck, Spent}
+use Rattle.zcld.specs.declared.outcome.Outcome.TheVariants.{Broken, Done, Exited, Usage, Refused, ReadFault, WriteFault, OutOfMemory, BadFile, Stopped, Stuck, Spent}
 
 -- a text with a line feed after it
 abbrev pub line : List ℕ → List ℕ
 line text = text ++ 10 ∷ []
 
--- a refusal names the object by its index, and the fault by its number and name
+-- a word, an object by its index, and a fault by its number and name
+abbrev pub fault_text : List ℕ → ℕ → Fault → List ℕ
+fault_text word i fault =
+    word ++ codes " " ++ decimal i ++ codes " " ++ decimal (fault_number fault) ++ codes " " ++ fault_name fault
+
+-- a refusal names the object and the fault
 abbrev pub refusal_text : ℕ → Fault → List ℕ
-refusal_text i fault =
-    codes "refused " ++ decimal i ++ codes " " ++ decimal (fault_number fault) ++ codes " " ++ fault_name fault
+refusal_text i fault = fault_text (codes "refused") i fault
 
 -- the name of a symbol of an object, by its index: none if the file can't be read, or has no such symbol
 abbrev pub name_in : ℕ → List ℕ → Option (List ℕ)
@@ -76,6 +80,7 @@ err_line files Done = []
 err_line files (Exited code) = line (codes "exited " ++ decimal code)
 err_line files Usage = line (codes "usage")
 err_line files (Refused i fault) = line (refusal_text i fault ++ after_space (fault_symbol_name files i fault))
+err_line files (Broken i fault) = line (fault_text (codes "broken") i fault)
 err_line files ReadFault = line (codes "read fault")
 err_line files WriteFault = line (codes "write fault")
 err_line files OutOfMemory = line (codes "out of memory")
@@ -95,6 +100,7 @@ NamesNothing outcome = (files : List (List ℕ)) → err_line files outcome ≡ 
 abbrev pub status_of : Outcome → ℕ
 status_of Done = 0
 status_of (Exited code) = if nat_lt code 118 then code else 118
+status_of (Broken i fault) = 119
 status_of Usage = 120
 status_of (Refused i fault) = 121
 status_of ReadFault = 122

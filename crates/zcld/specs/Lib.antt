@@ -11,7 +11,9 @@ pub mod Zc
 pub mod Run
 pub mod Trace
 pub mod Check
+pub mod ObjectNames
 pub mod Make
+pub mod Gc
 pub mod Call
 pub mod Headline
 pub mod Program

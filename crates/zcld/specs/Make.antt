@@ -1,6 +1,6 @@
 -- What `make` does: it makes objects, links, traces and runs them, puts the objects if they have names, and writes the
 -- summary.
-use Rattle.std.specs.Prelude.{◌≡◌, ℕ, zero, suc, ◌⊎◌, ◌++◌, List, [], ◌∷◌, length, codes, decimal, Option, Some, None}
+use Rattle.std.specs.Prelude.{◌≡◌, ℕ, ◌⊎◌, List, [], length, Option, Some, None}
 use Rattle.zc_outside.specs.Desk.{OnlyWrites}
 use Rattle.zc_outside.specs.Shelf.{OnlyPuts}
 use Rattle.zc_outside.specs.World.{World}
@@ -12,24 +12,11 @@ use Rattle.load_runner.specs.Summary.{summary_text}
 use Rattle.load_runner.specs.declared.load.Load.{Load}
 use Rattle.load_runner.specs.declared.load_end.LoadEnd.{LoadEnd}
 use Rattle.zcld.specs.declared.outcome.Outcome.{Outcome}
+use Rattle.zcld.specs.ObjectNames.{named_from}
 use Rattle.zcld.specs.Outcome.{load_outcome}
 use Rattle.zcld.specs.Puts.{PutsInTurn}
 
 -- ---- the files
-
--- the name of the object with this number
-abbrev pub object_name : List ℕ → ℕ → List ℕ
-object_name prefix i = prefix ++ decimal i ++ codes ".o"
-
--- the names of `count` objects, from number i on
-abbrev pub names_from : List ℕ → ℕ → ℕ → List (List ℕ)
-names_from prefix i zero = []
-names_from prefix i (suc count) = object_name prefix i ∷ names_from prefix (suc i) count
-
--- objects under their names, from a number on
-abbrev pub named_from : List ℕ → ℕ → List (List ℕ) → List (List ℕ × List ℕ)
-named_from prefix i [] = []
-named_from prefix i (object ∷ objects) = (object_name prefix i, object) ∷ named_from prefix (suc i) objects
 
 -- the objects' files; without a prefix they have no names, and aren't put
 abbrev pub object_files : Option (List ℕ) → List (List ℕ) → List (List ℕ × List ℕ)

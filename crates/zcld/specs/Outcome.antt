@@ -7,11 +7,13 @@ use Rattle.pick_check.specs.declared.fault.CertFault.{CertFault}
 use Rattle.pick_check.specs.declared.fault.CertFault.TheVariants as cert
 use Rattle.psabi_sym.specs.declared.link_fault.LinkFault.{LinkFault}
 use Rattle.psabi_sym.specs.declared.link_fault.LinkFault.TheVariants as link
+use Rattle.section_gc.specs.declared.gc_fault.GcFault.{GcFault}
+use Rattle.section_gc.specs.declared.gc_fault.GcFault.TheVariants as gc
 use Rattle.zc_outside.specs.declared.read_files.ReadFault as files
 use Rattle.zc_outside.specs.declared.read_files.ReadFault.TheVariants as read
 use Rattle.zcld.specs.declared.outcome.FileFault.TheVariants.{Certificate, Plan}
 use Rattle.zcld.specs.declared.outcome.Outcome.{Outcome}
-use Rattle.zcld.specs.declared.outcome.Outcome.TheVariants.{Refused, ReadFault, OutOfMemory, BadFile, Stuck, Spent}
+use Rattle.zcld.specs.declared.outcome.Outcome.TheVariants.{Broken, Refused, ReadFault, OutOfMemory, BadFile, Stuck, Spent}
 
 -- the outcome when files can't be had
 abbrev pub read_outcome : files.ReadFault → Outcome
@@ -22,6 +24,12 @@ read_outcome read.OutOfMemory = OutOfMemory
 abbrev pub link_outcome : LinkFault → Outcome
 link_outcome (link.Object i fault) = Refused i fault
 link_outcome link.OutOfMemory = OutOfMemory
+
+-- the outcome when there are no objects without what isn't needed
+abbrev pub gc_outcome : GcFault → Outcome
+gc_outcome (gc.Object i fault) = Refused i fault
+gc_outcome (gc.Broken i fault) = Broken i fault
+gc_outcome gc.OutOfMemory = OutOfMemory
 
 -- the outcome when a text is no plan
 abbrev pub plan_outcome : PlanFault → Outcome

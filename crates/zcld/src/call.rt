@@ -9,6 +9,7 @@ ghost use Rattle.zcld.specs.Headline.{Links};
 use crate::check::check;
 use crate::ending::Ending;
 use crate::err_line::write_line;
+use crate::gc::gc;
 use crate::make::make;
 use crate::outcome::Outcome;
 use crate::plain::plain;
@@ -61,5 +62,6 @@ fn perform<S: Store, C: Console>(
         CommandLine::Trace(args) => trace(alloc, &args, store, console),
         CommandLine::Check { cert } => Ending::alone(alloc, check(alloc, cert, store, console)),
         CommandLine::Make(args) => Ending::alone(alloc, make(alloc, args, store, console)),
+        CommandLine::Gc(args) => gc(alloc, &args, store, console),
     }
 }

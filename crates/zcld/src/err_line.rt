@@ -9,7 +9,7 @@ ghost use Rattle.text_lines.specs.Hex.{hex_at, hex_word};
 ghost use Rattle.zc_outside.specs.Desk.{OnlyWrites};
 ghost use Rattle.zc_outside.specs.Streams.{KeepsBytes};
 ghost use Rattle.zcld.specs.Call.{WritesLine};
-ghost use Rattle.zcld.specs.ErrLine.{certificate_fault_text, err_line, fault_symbol_name, line as with_line_feed, name_in, plan_fault_text, refusal_text, stop_text, stuck_text};
+ghost use Rattle.zcld.specs.ErrLine.{certificate_fault_text, err_line, fault_symbol_name, fault_text, line as with_line_feed, name_in, plan_fault_text, stop_text, stuck_text};
 ghost use Rattle.zcld.specs.declared.outcome.Outcome.TheVariants.{Refused};
 
 use crate::outcome::{FileFault, Outcome};
@@ -51,11 +51,11 @@ fn write_refusal<C: Console>(files: &[Vec<u8>], object: u32, fault: Fault, conso
 {
     match fault_symbol_name(files, object, fault) {
         Some(name) => {
-            let head = refusal(object, fault, " ");
+            let head = named_fault("refused", object, fault, " ");
             write_pieces(&[head.as_str().as_bytes(), name, b"\n"], console);
         }
         None => {
-            let line = refusal(object, fault, "\n");
+            let line = named_fault("refused", object, fault, "\n");
             write_pieces(&[line.as_str().as_bytes()], console);
         }
     }
@@ -115,7 +115,8 @@ pub fn line_of(outcome: &Outcome) -> ArrayString<ROOM>
         Outcome::Done => ArrayString::new(),
         Outcome::Exited(code) => numbered_line("exited ", u64::from(*code)),
         Outcome::Usage => line("usage"),
-        Outcome::Refused(object, fault) => refusal(*object, *fault, "\n"),
+        Outcome::Refused(object, fault) => named_fault("refused", *object, *fault, "\n"),
+        Outcome::Broken(object, fault) => named_fault("broken", *object, *fault, "\n"),
         Outcome::ReadFault => line("read fault"),
         Outcome::WriteFault => line("write fault"),
         Outcome::OutOfMemory => line("out of memory"),
@@ -142,14 +143,16 @@ fn line(text: &str) -> ArrayString<ROOM>
     line
 }
 
-// The text of a refusal, and its end: a line feed, or a space that a name follows.
-fn refusal(object: u32, fault: Fault, end: &str) -> ArrayString<ROOM>
-    requires { length end.now ≤ 1 }
-    ensures { result.bytes ≡ refusal_text object fault ++ end.now }
+// A word with an object and its fault, and an end: a line feed, or a space that a name follows.
+fn named_fault(word: &str, object: u32, fault: Fault, end: &str) -> ArrayString<ROOM>
+    requires word { length word.now ≤ 7 }
+    requires end { length end.now ≤ 1 }
+    ensures { result.bytes ≡ fault_text word.now object fault ++ end.now }
 {
     let mut digits = Buffer::new();
     let mut line = ArrayString::new();
-    line.push_str("refused ");
+    line.push_str(word);
+    line.push_str(" ");
     line.push_str(digits.format(object));
     line.push_str(" ");
     line.push_str(digits.format(fault.number()));

@@ -1,11 +1,12 @@
-//! Links RV32IM objects into an executable, as they are or made smaller with 16-bit instructions, and runs
-//! objects and executables.
+//! Links RV32IM objects into an executable, as they are or made smaller with 16-bit instructions, leaves out the code
+//! that they don't need, and runs objects and executables.
 #![tactic(auto)]
 
 pub mod call;
 pub mod check;
 pub mod ending;
 pub mod err_line;
+pub mod gc;
 pub mod input;
 pub mod limits;
 pub mod make;
@@ -15,6 +16,7 @@ pub mod plain;
 pub mod print;
 pub mod program;
 pub mod put;
+pub mod put_objects;
 pub mod run;
 pub mod trace;
 pub mod zc;

@@ -95,9 +95,9 @@ impl Reading {
     }
 }
 
-// The files of the objects under these names, or how the call ends without them. Each is read, and no more are kept
-// than a link takes, and one.
-fn read_objects<S: Store>(
+/// The files of the objects under these names, or how the call ends without them. Each is read, and no more are kept
+/// than a link takes, and one.
+pub fn read_objects<S: Store>(
     alloc: Global,
     names: &[String],
     store: &mut S,

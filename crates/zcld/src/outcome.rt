@@ -9,6 +9,7 @@ use interrupt_plan::fault::PlanFault;
 use load_runner::load_end::LoadEnd;
 use pick_check::fault::CertFault;
 use psabi_sym::link_fault::LinkFault;
+use section_gc::gc_fault::GcFault;
 use std::alloc::AllocError;
 use sym_machine::why::Why;
 use zc_base::place::Place;
@@ -26,13 +27,14 @@ pub enum FileFault {
 }
 
 /// How a call ends. A refusal names the object, by its index among those of the command line, and the first fault in
-/// it. A stop names the reason and the program counter, a program that is stuck the place and the reason.
+/// it; likewise if the objects have none, but would have one without the code that nothing reaches. A stop names the reason and the program counter, a program that is stuck the place and the reason.
 #[derive(Clone, Copy, PartialEq, Eq, Debug)]
 pub enum Outcome {
     Done,
     Exited(u8),
     Usage,
     Refused(u32, Fault),
+    Broken(u32, Fault),
     ReadFault,
     WriteFault,
     OutOfMemory,
@@ -77,6 +79,21 @@ impl From<LinkFault> for Outcome {
         match fault {
             LinkFault::Object { index, fault } => Outcome::Refused(index, fault),
             LinkFault::OutOfMemory => Outcome::OutOfMemory,
+        }
+    }
+}
+
+impl From<GcFault> for Outcome {
+    ghost use Rattle.std.specs.Prelude.{◌≡◌};
+    ghost use Rattle.zcld.specs.Outcome.{gc_outcome};
+
+    ghost from_gives = { λ fault outcome. outcome ≡ gc_outcome fault };
+
+    fn from(fault: GcFault) -> Outcome {
+        match fault {
+            GcFault::Object { index, fault } => Outcome::Refused(index, fault),
+            GcFault::Broken { index, fault } => Outcome::Broken(index, fault),
+            GcFault::OutOfMemory => Outcome::OutOfMemory,
         }
     }
 }
@@ -135,6 +152,7 @@ pub fn status(outcome: &Outcome) -> u8
     match outcome {
         Outcome::Done => 0,
         Outcome::Exited(code) => exit_status(*code),
+        Outcome::Broken(..) => 119,
         Outcome::Usage => 120,
         Outcome::Refused(..) => 121,
         Outcome::ReadFault => 122,

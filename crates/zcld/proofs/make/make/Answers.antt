@@ -6,7 +6,8 @@ use Rattle.zc_outside.proofs.Desk.{OnlyWrites-refl}
 use Rattle.zc_outside.proofs.Shelf.{OnlyPuts-refl}
 use Rattle.zc_outside.specs.World.{world}
 use Rattle.load_runner.specs.declared.load_end.LoadEnd.TheVariants.{OutOfMemory}
-use Rattle.zcld.specs.Make.{IsSummary, IsUnloaded, MakeWork, named_from, object_files}
+use Rattle.zcld.specs.Make.{IsSummary, IsUnloaded, MakeWork, object_files}
+use Rattle.zcld.specs.ObjectNames.{named_from}
 use Rattle.zc_outside.specs.Shelf.{OnlyPuts}
 use Rattle.zcld.specs.Puts.{PutsFiles, PutsInTurn, text_alone}
 use Rattle.zcld.proofs.MakeFacts.{does_work, load_put, no_load}

@@ -7,11 +7,11 @@ use Rattle.std.specs.String.{string_bytes}
 use Rattle.psabi_sym.specs.Objects.{contents_of}
 use Rattle.zc_outside.specs.Files.{PutsFile}
 use Rattle.zc_outside.proofs.Shelf.{OnlyPuts-refl, OnlyPuts-trans}
-use Rattle.zcld.specs.Make.{named_from, names_from, object_name}
+use Rattle.zcld.specs.ObjectNames.{named_from, names_from, object_name}
 use Rattle.zcld.specs.Puts.{PutsFiles}
 use Rattle.zcld.proofs.ObjectFiles.{name_at, named_count, named_more, other_names}
 use Rattle.zcld.proofs.PutLaws.{PutsFiles-more, PutsFiles-none, put_refused}
-use Rattle.zcld.proofs.make.put_all.Goals as goal
+use Rattle.zcld.proofs.put_objects.put_all.Goals as goal
 
 pub loop-i-init : goal.loop-i-init
 loop-i-init g c = record {

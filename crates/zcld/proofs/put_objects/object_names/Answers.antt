@@ -3,9 +3,9 @@ use Rattle.std.proofs.Common.{◌≡◌, ◌+◌, [], ◌∷◌, ◌++◌, sym, 
 use Rattle.std.proofs.lemmas.List.{map-append}
 use Rattle.std.specs.String.{string_bytes}
 use Rattle.command_words.specs.Command.{texts}
-use Rattle.zcld.specs.Make.{names_from, object_name}
+use Rattle.zcld.specs.ObjectNames.{names_from, object_name}
 use Rattle.zcld.proofs.ObjectFiles.{names_more}
-use Rattle.zcld.proofs.make.object_names.Goals as goal
+use Rattle.zcld.proofs.put_objects.object_names.Goals as goal
 
 pub loop-i-preserved : goal.loop-i-preserved
 loop-i-preserved c =

@@ -2,9 +2,9 @@ use Rattle.std.proofs.Common.{◌≡◌, ℕ, List, length, take}
 use Rattle.command_words.specs.Command.{texts}
 use Rattle.psabi_sym.specs.Objects.{contents_of}
 use Rattle.zc_outside.specs.Shelf.{OnlyPuts}
-use Rattle.zcld.specs.Make.{named_from, names_from}
+use Rattle.zcld.specs.ObjectNames.{named_from, names_from}
 use Rattle.zcld.specs.Puts.{PutsFiles}
-use Rattle.zcld.proofs.make.put_all.Given as goal
+use Rattle.zcld.proofs.put_objects.put_all.Given as goal
 
 -- the first objects, up to this one, were put, and nothing else was done
 abbrev pub invariant-loop-i : goal.invariant-loop-i

@@ -1,7 +1,7 @@
 use Rattle.std.proofs.Common.{◌≡◌}
 use Rattle.command_words.specs.Command.{texts}
-use Rattle.zcld.specs.Make.{names_from}
-use Rattle.zcld.proofs.make.object_names.Given as goal
+use Rattle.zcld.specs.ObjectNames.{names_from}
+use Rattle.zcld.proofs.put_objects.object_names.Given as goal
 
 -- the names so far
 abbrev pub invariant-loop-i : goal.invariant-loop-i

@@ -6,7 +6,7 @@ use Rattle.std.specs.String.{string_bytes}
 use Rattle.command_words.specs.Command.{texts}
 use Rattle.zcld.proofs.ObjectFiles.{names_count}
 use Rattle.zcld.proofs.MakeFacts.{if_err, on_ok}
-use Rattle.zcld.proofs.make.put_named.Goals as goal
+use Rattle.zcld.proofs.put_objects.put_named.Goals as goal
 
 pub returns-in_err-names-clause-err : goal.returns-in_err-names-clause-err
 returns-in_err-names-clause-err g c =

@@ -1,0 +1,63 @@
+-- The objects can't be had, or are refused, or their results have a fault, or what is put is what is left of them.
+use Rattle.std.proofs.Common.{◌≡◌, Some, refl, sym, ap, subst}
+use Rattle.command_words.specs.Command.{Gc, gc_meant, texts}
+use Rattle.psabi_sym.specs.Inputs.{inputs_in}
+use Rattle.psabi_sym.specs.Objects.{contents_of}
+use Rattle.section_gc.specs.Collected.{IsCollection, IsGcFault}
+use Rattle.zc_base.specs.MemMap.{standard_map}
+use Rattle.zc_outside.specs.World.{world}
+use Rattle.zcld.specs.Call.{DoesWith}
+use Rattle.zcld.specs.Objects.{objects_wanted}
+use Rattle.zcld.specs.Outcome.{gc_outcome}
+use Rattle.zcld.specs.declared.outcome.Outcome.{Outcome}
+use Rattle.zcld.proofs.GcFacts.{with_result, without_result}
+use Rattle.zcld.proofs.WithObjects.{without_objects}
+use Rattle.zcld.proofs.gc.gc.Goals as goal
+
+pub returns-in-Err : goal.returns-in-Err
+returns-in-Err g c =
+    let args = c.args.args.now in
+    let names = texts c.as_slice.result.now in
+    let wants : objects_wanted (texts args.objects.items) ≡ objects_wanted names = ap (λ all. objects_wanted (texts all)) (sym c.as_slice.ensures.value) in
+    let left = contents_of c.alone.result.files.items in
+    let before = world (g.S.Store.shown c.args.store.now) (g.C.Console.shown c.args.console.now) in
+    let after = world (g.S.Store.shown c.read_objects.new.store) (g.C.Console.shown c.args.console.now) in
+    subst (λ (outcome : Outcome). DoesWith (Some (gc_meant args)) left outcome before after) (sym c.alone.ensures.outcome)
+    (without_objects (gc_meant args) standard_map names left c.in-Err.outcome before after wants refl (record { shelf = c.read_objects.ensures.reads; desk = refl })
+    (c.in-Err.ensures.err standard_map left))
+
+pub returns-in-Ok-collect : goal.returns-in-Ok-collect
+returns-in-Ok-collect g c =
+    let args = c.args.args.now in
+    let names = texts c.as_slice.result.now in
+    let files = contents_of c.in-Ok.files.items in
+    let left = contents_of c.alone-in-Ok-collect.result.files.items in
+    let before = world (g.S.Store.shown c.args.store.now) (g.C.Console.shown c.args.console.now) in
+    let between = world (g.S.Store.shown c.read_objects.new.store) (g.C.Console.shown c.args.console.now) in
+    let after = world (g.S.Store.shown c.put_and_print-outcome.new.store) (g.C.Console.shown c.put_and_print-outcome.new.console) in
+    let outcome = c.put_and_print-outcome.result in
+    let given = ap contents_of c.as_slice-2.ensures.value in
+    let collected : IsCollection (inputs_in standard_map files) c.in-Ok-collect.cleaned =
+    subst (λ map. IsCollection (inputs_in map files) c.in-Ok-collect.cleaned) c.standard.ensures
+    (subst (λ all. IsCollection (inputs_in c.standard.result all) c.in-Ok-collect.cleaned) given c.in-Ok-collect.ensures.ok) in
+    subst (λ (said : Outcome). DoesWith (Some (gc_meant args)) left said before after) (sym c.alone-in-Ok-collect.ensures.outcome)
+    (subst (λ all. DoesWith (Some (Gc args.prefix.now (texts all))) left outcome before after) c.as_slice.ensures.value
+    (with_result args.prefix.now names files before between (record { shelf = c.read_objects.ensures.reads; desk = refl }) c.in-Ok.ensures.ok
+    left outcome c.in-Ok-collect.cleaned after collected c.put_and_print-outcome.ensures.done c.put_and_print-outcome.ensures.puts
+    c.put_and_print-outcome.ensures.writes c.put_and_print-outcome.ensures.line))
+
+pub returns-in-Err-collect : goal.returns-in-Err-collect
+returns-in-Err-collect g c =
+    let args = c.args.args.now in
+    let names = texts c.as_slice.result.now in
+    let files = contents_of c.in-Ok.files.items in
+    let before = world (g.S.Store.shown c.args.store.now) (g.C.Console.shown c.args.console.now) in
+    let between = world (g.S.Store.shown c.read_objects.new.store) (g.C.Console.shown c.args.console.now) in
+    let fault = c.in-Err-collect.fault in
+    let given = ap contents_of c.as_slice-2.ensures.value in
+    let is : IsGcFault (inputs_in standard_map files) fault =
+    subst (λ map. IsGcFault (inputs_in map files) fault) c.standard.ensures
+    (subst (λ all. IsGcFault (inputs_in c.standard.result all) fault) given c.in-Err-collect.ensures.err) in
+    subst (λ (said : Outcome). DoesWith (Some (gc_meant args)) files said before between) (sym c.from.ensures)
+    (subst (λ all. DoesWith (Some (Gc args.prefix.now (texts all))) files (gc_outcome fault) before between) c.as_slice.ensures.value
+    (without_result args.prefix.now names files before between (record { shelf = c.read_objects.ensures.reads; desk = refl }) c.in-Ok.ensures.ok fault is))
