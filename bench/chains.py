@@ -37,7 +37,7 @@ BEQ = 0
 
 
 def short_to(words):
-    """A branch that has a short form, over so many words."""
+    """A branch that has a short form, over this many words."""
     return branch(BEQ, A0, ZERO, 4 * words)
 
 
@@ -66,7 +66,7 @@ CHAINS = {'just so': just_so, 'forward': forward, 'backward': backward, 'from bo
 
 
 def counted(count):
-    """The rounds of each chain of so many words, by the model."""
+    """The rounds of each chain of this many words, by the model."""
     rows = []
     for name, chain in CHAINS.items():
         link = zc_link.Zc([Object(made_object(chain(count)))])

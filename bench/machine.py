@@ -73,7 +73,7 @@ CALLED = [addi(SP, SP, -16), store(2, RA, SP, 12), jal(RA, -16), load(2, RA, SP,
 
 
 def looped(body, each, commits, before=()):
-    """A program that makes the body so often that there are about so many commits, then exits with 0; and its entry."""
+    """A program that makes the body so often that there are about this many commits, then exits with 0; and its entry."""
     start = [addi(6, ZERO, 1), addi(7, ZERO, 2), addi(A0, ZERO), lui(BASE, DATA_AT >> 12),
              *constant(COUNT, commits // (each + 2))]
     loop = [*body(4 * (len(before) + len(start))), addi(COUNT, COUNT, -1)]

@@ -71,7 +71,7 @@ def with_data(content):
 
 
 def made_symbols(count):
-    """One object of so many global names."""
+    """One object of this many global names."""
     made, held = with_data(bytes(4096))
     for k in range(count - 1):
         made.symbol(b'name_%d' % k, home=held, value=k % 4096)
@@ -83,7 +83,7 @@ def letters(count):
 
 
 def made_endings(count):
-    """One object of so many global names, all but one of which are endings of one name of 2 MB."""
+    """One object of this many global names, all but one of which are endings of one name of 2 MB."""
     made, held = with_data(bytes(4096))
     length = 2000000
     made.symbol_names.add(b'_start')
@@ -94,7 +94,7 @@ def made_endings(count):
 
 
 def made_sections(count):
-    """One object of so many sections, with those of symbols and names: code and data in turn, of 8 bytes each."""
+    """One object of this many sections, with those of symbols and names: code and data in turn, of 8 bytes each."""
     made = Written()
     add_start(made, 12)
     for k in range(count - 5):
@@ -106,7 +106,7 @@ def made_sections(count):
 
 
 def made_section_endings(count):
-    """One object of code and so many sections of data, whose names are endings of one name of 3.8 MB."""
+    """One object of code and this many sections of data, whose names are endings of one name of 3.8 MB."""
     length = 3800000
     made = Written()
     start = made.section_names.add(letters(length))
@@ -117,7 +117,7 @@ def made_section_endings(count):
 
 
 def made_sections_in_each(count):
-    """256 objects of so many sections each, with those of symbols and names: of a zeroed byte each, and one of code in the
+    """256 objects of this many sections each, with those of symbols and names: of a zeroed byte each, and one of code in the
     first."""
     first, other = Written(), Written()
     add_start(first, 12)

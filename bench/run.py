@@ -49,7 +49,7 @@ def made_object(words):
 
 
 def with_zeroed_data(image, size):
-    """The image with so many zeroed bytes of data: the memory size of its second segment."""
+    """The image with this many zeroed bytes of data: the memory size of its second segment."""
     changed = bytearray(image)
     struct.pack_into('<I', changed, HEADER + PROGRAM_HEADER + 20, size)
     return bytes(changed)

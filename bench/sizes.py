@@ -7,11 +7,12 @@ The programs are those in examples/, and two larger ones in bench/sizes/: `libra
 which Debian has for RV32IM and for RV32IMAC (objects for Zcmp get that for RV32IMAC); and `pack`, over the sources of zlib in
 FOLDER, as `apt-get source zlib` gives them. Each is compiled with -Os by GCC and by Clang, with hints for relaxation and each
 function in a section of its own: for RV32IM, and with compressed code (C, Zcb, Zcmp) as far as the compiler has it. `zcld` and
-the others link the same objects of RV32IM, the same ones with C, and the same ones with C, Zcb and Zcmp. GNU ld and LLD relax,
-but where a column says otherwise. With `gc` they leave out the sections that nothing needs; for `zcld` GNU ld does that before, in a link that keeps
-relocations (`ld -r --gc-sections`). GNU ld and LLD put constants behind the text, and in the columns of far constants where
-`zcld` puts them. In those of GNU ld without gp nothing is called `__global_pointer$`, so that it doesn't reach data by gp, and
-all data, constants too, lie where `zcld` puts them.
+the others link the same objects of RV32IM, the same ones with C, and the same ones with C, Zcb and Zcmp. GNU ld and LLD
+relax, but where a column says otherwise. With `gc` they leave out the sections that nothing needs; for `zcld` GNU ld does
+that before, in a link that keeps relocations (`ld -r --gc-sections`), or `zcld gc` does where a column says so. GNU ld and
+LLD put constants after the text, and in the columns of far constants where `zcld` puts them. In those of GNU ld without gp
+nothing is called `__global_pointer$`, so that it doesn't reach data by gp, and all data, constants too, lie where `zcld` puts
+them.
 
 A figure is the bytes of all sections of code. What isn't installed is left out, and what a linker says of objects that it
 doesn't take is printed. Each image that `zcld` makes is run, and must do what its objects do. If both come to an instruction
@@ -173,6 +174,11 @@ class Links:
         merge(self.path('gathered.o'), '--gc-sections', *objects)
         return [self.path('gathered.o')]
 
+    def collected(self, objects):
+        """The objects without the sections of code that nothing reaches, in their order."""
+        told([self.zcld, 'gc', '--out', self.path('collected'), *objects])
+        return [self.path(f'collected{k}.o') for k in range(len(objects))]
+
     def by_zcld(self, link, paths):
         """The text that `plain` or `zc` makes of objects, whose image does what they do."""
         out = self.path(link)
@@ -195,12 +201,15 @@ class Links:
         if linker == WITHOUT_GP:
             return self.without_gp(objects, *words)
         if linker not in LINKERS:
-            return self.by_zcld(linker, self.gathered(objects) if words else objects)
+            for word in words:
+                objects = self.collected(objects) if word == OWN else self.gathered(objects)
+            return self.by_zcld(linker, objects)
         return self.other(linker, objects, *words)
 
 
-# The columns of the tables: the head, who links, the objects' target, and words. Those of `zc` are for the `ld -r` before it.
-GC, FAR = '--gc-sections', (f'--section-start=.rodata={DATA_AT:#x}', f'-Tdata={DATA_AT + 0x80000:#x}')
+# The columns of the tables: the head, who links, the objects' target, and words. Those of `zc` say what leaves out sections before
+# it: `ld -r` or `zcld gc`.
+GC, OWN, FAR = '--gc-sections', 'zcld gc', (f'--section-start=.rodata={DATA_AT:#x}', f'-Tdata={DATA_AT + 0x80000:#x}')
 SAME = (('`plain`', 'plain', PLAIN), ('`zc`', 'zc', PLAIN), ('GNU ld, no relaxation', 'ld', PLAIN, '--no-relax'),
         ('GNU ld', 'ld', PLAIN), ('LLD', 'LLD', PLAIN), ('gc, `zc`', 'zc', PLAIN, GC), ('gc, GNU ld', 'ld', PLAIN, GC),
         ('gc, LLD', 'LLD', PLAIN, GC))
@@ -218,7 +227,10 @@ FRAMES = (('`zc`, RV32IM', 'zc', PLAIN), ('`zc`, C', 'zc', COMPRESSED), ('`zc`, 
           ('LLD without gp, Zcmp', 'LLD', ZCMP, NO_GP), ('LLD with gp, Zcmp', 'LLD', ZCMP), ('gc, `zc`, RV32IM', 'zc', PLAIN, GC),
           ('gc, `zc`, C', 'zc', COMPRESSED, GC), ('gc, `zc`, Zcmp', 'zc', ZCMP, GC), ('gc, GNU ld, C', 'ld', COMPRESSED, GC),
           ('gc, LLD without gp, Zcmp', 'LLD', ZCMP, GC, NO_GP), ('gc, LLD with gp, Zcmp', 'LLD', ZCMP, GC))
-TABLES = SAME, SHORT, TODAY, FRAMES
+COLLECTED = (('`zc`', 'zc', PLAIN), ('`gc`, `zc`', 'zc', PLAIN, OWN), ('`ld -r`, `zc`', 'zc', PLAIN, GC),
+             ('`ld -r`, `gc`, `zc`', 'zc', PLAIN, GC, OWN), ('C: `zc`', 'zc', COMPRESSED), ('C: `gc`, `zc`', 'zc', COMPRESSED, OWN),
+             ('C: `ld -r`, `zc`', 'zc', COMPRESSED, GC))
+TABLES = SAME, SHORT, TODAY, COLLECTED, FRAMES
 
 
 def measured(zcld, zlib, room):

@@ -1,12 +1,12 @@
 #!/usr/bin/env python3
-"""Compares the plain link of `plain_link.py` with that of GNU ld, byte for byte.
+"""Compares the plain link of `plain_link.py` with GNU ld's, byte for byte.
 
     fuzz/against_ld.py FILE...
 
 Both link the files with the same order of sections, in the memory of docs/FORMATS.md, and GNU ld without relaxation. Compared
 are the entry, the code and the data. Names of sections must tell them apart in a file. GNU ld gets copies of the files: without
 flags to merge strings, and without relocations of branches, jumps and calls to weak names without definition, whose words the
-plain link copies. In paddings GNU ld has the `c.nop` behind the `nop`s, and so has what it is compared with. The status is 1 if
+plain link copies. In paddings GNU ld has the `c.nop` after the `nop`s, and so has what it is compared with. The status is 1 if
 they differ.
 
     fuzz/against_ld.py --seed S --count N

@@ -9,7 +9,7 @@ RISC-V, qemu-riscv32, and Clang for its flags. A case is fixed by the seed and i
 from their sum, and one of the lists of flags in turn, or of those that are given, as `gcc -O2` or `clang -Os -mrelax`. Each third
 list is for compressed code; with --zcmp all are for Zca, Zcb and Zcmp, which needs Clang 19. The program is joined with what it
 needs of libgcc by `ld -r`, and linked with the start of examples/firmware and with c_runtime/, which aren't compressed beside
-programs without compressed code and beside three of seven others. With R above 1 it is run so many times in one, each time with
+programs without compressed code and beside three of seven others. With R above 1 it is run this many times in one, each time with
 its data as at its start: most of csmith's programs make fewer than a hundred thousand steps. Checked are:
 
 - `plain`, `zc` and `trace` refuse the objects alike;
@@ -70,10 +70,10 @@ FLAGS_OF_ZCMP = tuple(f'clang {flags} {ZCMP}' for flags in (
 SHARED = {PLAIN: f'gcc -Os -fno-tree-loop-distribute-patterns {PLAIN}',
           COMPRESSED: f'gcc -Os -fno-tree-loop-distribute-patterns {COMPRESSED}', ZCMP: f'clang -Os {ZCMP}'}
 STEPS = 50_000_000
-# From so many steps on a program counts as a long one.
+# From this many steps on a program counts as a long one.
 MANY_STEPS = 1_000_000
 QEMU = 'qemu-riscv32'
-# The seconds of the processor that csmith or a compiler may take, those of qemu-riscv32, and those by the clock.
+# The seconds of the processor that csmith or a compiler may take, those of qemu-riscv32, and those of elapsed time.
 MOST, MOST_OF_QEMU, BY_CLOCK = 10, 2, 120
 
 

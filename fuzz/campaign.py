@@ -13,7 +13,7 @@ N cases are compared with the models: `plain` and `zc` with plain_link.py, zc_li
 that of `trace` with object_items.py, all in the memory map that the words give (memory_maps.py), `trace` with
 symbolic_machine.py, `run` of an image that wasn't mutated with zc_machine.py, faults of a plan with `plan_fault` below, `check`
 with certificates.py, words with `is_command` below, and `make` with made_load.py; a file that is too long is a read fault. Of N
-more cases only this is looked at: the call ends by itself within the limit of seconds by the clock, and its status has its line
+more cases only this is looked at: the call ends by itself within the limit of seconds of elapsed time, and its status has its line
 at the end of standard error (docs/FORMATS.md, "Messages on standard error, and the status").
 
 Half of T seconds at most goes to cases that are compared, if both are asked for. N processes share the cases, one if none is
@@ -74,7 +74,7 @@ LINES = ((0, r'', ('plain', 'zc', 'check', 'make')), (120, r'usage\n', None),
 
 
 def plan_fault(text):
-    """What is said of a plan's text: nothing, or its first fault."""
+    """The result for a plan's text: nothing, or its first fault."""
     *lines, rest = text.split(b'\n')
     before = 0
     for number, line in enumerate(lines, 1):

@@ -27,7 +27,7 @@ from zcld_tools.instructions import (A2, A3, A4, A5, OPCODE_IMMEDIATE, OPCODE_LU
 from zcld_tools.objects import Reloc, Section
 
 SHORT = {BRANCH: RVC_BRANCH, JAL: RVC_JUMP}
-# All jumps of 2 bytes reach in code of so many bytes. In sections longer than these nothing is slipped in, so that no
+# All jumps of 2 bytes reach in code of this many bytes. In sections longer than these nothing is slipped in, so that no
 # branch leads too far because of it.
 NEAR, MOST_WITH_SLIPS = 1800, 2048
 # In longer code no push, pop or move is looked for.
@@ -83,7 +83,7 @@ def unread_halves():
 class Piece:
     """An item of code: where it stood, its bytes, and its relocation if it has one. And how it is written: whether as a
     branch or jump of 2 bytes, what is slipped in before it, and whether that is a padding. Or a group of items, of which the
-    bytes are those of the push, the pop or the move that stands for it."""
+    bytes are those of the push, the pop or the move that is written for it."""
 
     def __init__(self, at, content, entry):
         self.at, self.content, self.entry = at, content, entry
@@ -101,7 +101,7 @@ class Piece:
         return is_it and (self.entry is None or self.entry.kind in SHORT)
 
     def is_last(self):
-        """Whether no run goes on from it to what stands behind it."""
+        """Whether no run goes on from it to what follows it."""
         is_read = self.entry is None or self.entry.kind in (JAL, LO12_I, PCREL_LO12_I)
         return (is_read and len(self.content) == 4 and (is_jal(self.word()) or is_jalr(self.word()))
                 and self.word() >> 7 & 31 == ZERO)
@@ -138,7 +138,7 @@ class Code:
     # what becomes of the pieces
 
     def join(self, groups, share):
-        """Makes one piece of each of a share of these groups, which are given by where their first items stand."""
+        """Makes one piece of each of a share of these groups, which are given by the places of their first items."""
         joined, left = [], 0
         for piece in self.pieces:
             if left:
@@ -197,7 +197,7 @@ class Code:
             piece.content = halves_of(usual if is_usual else self.rng.choice(halves))
 
     def slip(self):
-        """Slips something in before some pieces. No padding comes to stand under a branch or jump without a relocation, or
+        """Slips something in before some pieces. No padding comes under a branch or jump without a relocation, or
         with an addend, since other linkers don't change these where the padding takes less room."""
         spans = [sorted((piece.at, piece.to)) for piece in self.pieces
                  if piece.to is not None and (piece.entry is None or piece.entry.addend)]
@@ -239,7 +239,7 @@ class Code:
     # what is written
 
     def moved(self, offset):
-        """Where what stood at an offset stands now."""
+        """The new offset of what was at an offset."""
         if offset in self.ends or not self.starts:
             return self.places.get(offset, offset)
         piece = self.pieces[bisect.bisect(self.starts, offset) - 1]
@@ -303,7 +303,7 @@ def move_symbols(objects, codes):
 
 
 def groups_in(objects):
-    """The groups of objects without a fault, by their sections and then by where their first items stand."""
+    """The groups of objects without a fault, by their sections and then by the places of their first items."""
     files, found = [read.bytes() for read in objects], {}
     if first_fault(files) is None:
         for (i, k, offset), group in groups_of(object_items.Code([Object(data) for data in files])).items():

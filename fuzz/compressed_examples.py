@@ -1,4 +1,4 @@
-"""Small lists of objects whose code is compressed, alone and beside others, and what the links make of them or refuse (RISC-V
+"""Small lists of objects whose code is compressed, alone and together with others, and what the links make of them or refuse (RISC-V
 unprivileged manual, "C Extension for Compressed Instructions"; RISC-V ELF psABI, "Relocations")."""
 import itertools
 from typing import NamedTuple
@@ -60,7 +60,7 @@ def sections():
 
 
 def aligned(addend):
-    """An object with a padding between instructions, and the text that both links make of it. What stands in the padding is no
+    """An object with a padding between instructions, and the text that both links make of it. What is in the padding is no
     instruction."""
     before = nops(addend // 2 % 4)
     made, text = compressed_with(before)
@@ -98,7 +98,7 @@ def labelled(made, text, at):
 
 
 def over(reach, count):
-    """A branch or jump over so many halfwords, under its relocation; and where it stands."""
+    """A branch or jump over this many halfwords, under its relocation; and where it is."""
     made, text = compressed_with(reach.before)
     target = labelled(made, text, len(reach.before) + 2 + 2 * count)
     at = text.reloc(reach.kind, target, 0, halves=(short_form(reach.word),))
@@ -107,7 +107,7 @@ def over(reach, count):
 
 
 def back_over(reach, count):
-    """The same back over so many halfwords, of which the first are the exit. The program begins behind them."""
+    """The same back over this many halfwords, of which the first are the exit. The program begins after them."""
     code = EXIT + nops(count - len(EXIT + reach.before) // 2)
     made, text = compressed_with(code + reach.before)
     made.symbols[0].value = len(code)
@@ -115,7 +115,7 @@ def back_over(reach, count):
 
 
 def over_padding(reach, first, count):
-    """The same without a relocation, over so many halfwords and a padding of 4 bytes that takes 6, behind so many halfwords."""
+    """The same without a relocation, over this many halfwords and a padding of 4 bytes that takes 6, after this many halfwords."""
     made, text = compressed_with(nops(first) + reach.before)
     text.content += short_code(with_distance(reach.word, 2 + 2 * count + 4)) + nops(count)
     text.reloc(ALIGN, None, 4, halves=[SHORT_NOP] * 2)
@@ -124,7 +124,7 @@ def over_padding(reach, first, count):
 
 
 def over_hints(reach, count):
-    """The same over so many halfwords that `zc` writes as words."""
+    """The same over this many halfwords that `zc` writes as words."""
     made, text = compressed_with(reach.before + short_code(with_distance(reach.word, 2 + 2 * count)))
     text.halves(*[HINT] * count)
     text.content += EXIT
@@ -132,7 +132,7 @@ def over_hints(reach, count):
 
 
 def to_another(count):
-    """A jump to a function of another object, over so many halfwords."""
+    """A jump to a function of another object, over this many halfwords."""
     first, text = compressed_with()
     text.reloc(RVC_JUMP, first.symbol(b'function'), 0, halves=(C_J,))
     text.content += nops(count)

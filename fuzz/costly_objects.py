@@ -37,7 +37,7 @@ def start():
 
 
 def file_of(parts, content, offsets):
-    """An object of parts that stand in content at these offsets; its sections have no names."""
+    """An object of parts at these offsets of its content; its sections have no names."""
     content += bytes(-len(content) % 4)
     made = file_header(RELOCATABLE, HEADER + len(content), len(parts) + 1, len(parts)) + content + section_headers(parts, offsets)
     assert len(made) <= LIMIT, len(made)
@@ -45,7 +45,7 @@ def file_of(parts, content, offsets):
 
 
 def object_of(*parts):
-    """An object of parts that stand one after another."""
+    """An object of parts that follow one another."""
     parts = [*parts, Part(0, STRTAB, 0, b'\0', None, 1)]
     return file_of(parts, *laid(parts, HEADER))
 

@@ -12,7 +12,7 @@ from zcld_tools.objects import Written
 
 # `xor a1,a1,a0` and `sub a0,a0,a1`.
 OPERATIONS = of_format_r(0, 4, A1, A1, A0), of_format_r(0x20, 0, A0, A0, A1)
-# Words that one instruction stands for, or two: two moves, and a push and a pop.
+# Words that one instruction can replace, or two: two moves, and a push and a pop.
 FUSED = (addi(S0, A0), addi(S1, A1)), (addi(SP, SP, -16), sw(RA, SP, 12), lw(RA, SP, 12), addi(SP, SP, 16))
 # How many items back or forth a branch or jump leads: near, at the ends of what the forms reach, and beyond.
 STEPS = (1, 3, 30, 62, 63, 64, 126, 127, 128, 129, 500, 510, 511, 512, 513, 600, 680, 750)

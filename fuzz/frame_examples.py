@@ -17,7 +17,7 @@ def pushed(number, size):
 
 
 def popped(number, size, *behind):
-    """The words of a pop, and what stands behind it."""
+    """The words of a pop, and what follows it."""
     return [*slots(POP, number, size), addi(SP, SP, size), *behind]
 
 

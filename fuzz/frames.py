@@ -1,7 +1,7 @@
 #!/usr/bin/env python3
 """Prints what every push and pop leaves, interrupted after each of its accesses and then committed, as the two numbers that a test
 of the machine expects (crates/machine_tests/src/images/frames.rt): over each list at each adjustment, and over some lists at the
-ends of the stack. It knows nothing of that machine: it follows the model in zc_machine.py.
+ends of the stack. It is independent of that machine: it follows the model in zc_machine.py.
 """
 import os
 import sys

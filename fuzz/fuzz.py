@@ -390,7 +390,7 @@ MUTATIONS = (flip, file_field, section_field, section_field, section_field, entr
 
 
 class Ended:
-    """How a call ended: its outcome, with the line, and what stands on standard output and, before the line, on
+    """How a call ended: its outcome, with the line, and what is on standard output and, before the line, on
     standard error."""
 
     def __init__(self, command, status, out, err):

@@ -16,7 +16,7 @@ def sizes(number):
 
 
 class Saved:
-    """Registers and where each is saved in a frame of so many bytes."""
+    """Registers and where each is saved in a frame of this many bytes."""
 
     def __init__(self, number, size):
         registers = Frame(PUSH, number, 0).registers

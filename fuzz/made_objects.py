@@ -1,7 +1,7 @@
 """Makes lists of objects by chance whose code and data have relocations of all kinds.
 
 Most lists are programs that run to their end: functions call later ones in each way that compilers do, and work on data in each
-way. They save registers and restore them, and move some, in ways that one instruction may stand for (made_frames.py), or that
+way. They save registers and restore them, and move some, in ways that one instruction may replace (made_frames.py), or that
 only look so. None, some or all objects of a list are compressed then (compressed_code.py). An odd list has something in it that is
 no fault of the objects' form, but most likely one of their relocations or layout.
 """
@@ -351,7 +351,7 @@ class Function:
     # frames and moves
 
     def add_words(self, words):
-        """Adds words that belong together, of which most do. Otherwise another word stands among them, one has a relocation, or
+        """Adds words that belong together, of which most do. Otherwise another word is among them, one has a relocation, or
         a basic block begins there."""
         rng, which = self.rng, self.rng.randrange(10)
         begins = under = None

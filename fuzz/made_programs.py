@@ -29,7 +29,7 @@ from zcld_tools.programs import Failed
 
 # The lines of a summary that the report of `zc` has too.
 SIZES = ('plain text', 'zc text', 'net')
-# Each case of so many is compared with the models, if it has at most so many functions.
+# Each case in this many is compared with the models, if it has at most this many functions.
 MODELLED, MOST_MODELLED = 10, 400
 
 

@@ -48,7 +48,7 @@ def jump_table():
 
 
 def linker_names():
-    """Words of data that the linker's names stand for are written; and those words, worked out by hand.
+    """Words of data that hold the linker's names are written; and those words, worked out by hand.
 
     The data of both objects: 3 and 14 bytes that are read only, from 0x100000 on; the five words, from 0x100020 on; 5 bytes of
     small data and 1 more, from 0x100040 on; 6 bytes of small zeroed data, from 0x100050 on, and 20 more, from 0x100060 on; 7
@@ -149,7 +149,7 @@ BEQ = branch(0, A0, A1)
 
 
 def far(count, is_back=False):
-    """A branch over so many words."""
+    """A branch over this many words."""
     words = (*[NOP] * count, BEQ) if is_back else (BEQ, *[NOP] * count, NOP)
     return with_relocs(words, (4 * count, BRANCH, 0, 0) if is_back else (0, BRANCH, 4 * count + 4, 0))
 

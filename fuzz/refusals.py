@@ -1,11 +1,11 @@
 #!/usr/bin/env python3
-"""Refuses each allocation and each system call of some calls of the program, one after another, and checks what then stands.
+"""Refuses each allocation and each system call of some calls of the program, one after another, and checks the files that then exist.
 
     fuzz/refusals.py [--only CALL..] [--most N] [--without allocations|calls] [PROGRAM]
 
 PROGRAM is build/zcld if none is given. The calls are those of each command over a program of three instructions, over one of two
 objects that writes a line, over a push that a plan interrupts, and over what `make` generates; CALL is a name in the table that is
-printed. Each call is made again and again. Once an allocation of it is refused: `malloc`, `calloc` or `realloc` answers that there
+printed. Each call is made again and again. Once an allocation of it is refused: `malloc`, `calloc` or `realloc` returns that there
 is no memory (zcld_tools/allocations.py, which needs Linux on x86-64). And once a system call of it ends with an error, by strace:
 EIO, ENOMEM or EINTR. Checked are:
 
@@ -89,6 +89,8 @@ def cases():
     yield Case('hello, zc', (*LINK, 'x0.o', 'x1.o'), objects(two), puts)
     yield Case('hello, trace', ('trace', 'x0.o', 'x1.o'), objects(two), is_run=True)
     yield Case('hello, run', ('run', 'image'), image, is_run=True)
+    yield Case('three, gc', ('gc', '--out', 'p', 'x0.o'), objects([THREE]), ('p0.o',))
+    yield Case('hello, gc', ('gc', '--out', 'p', 'x0.o', 'x1.o'), objects(two), ('p0.o', 'p1.o'))
     yield Case('push, run', ('run', '--plan', 'plan', 'image'), {'image': PUSH_IMAGE, 'plan': PUSH_PLAN}, is_run=True)
     yield Case('savings, check', ('check', 'cert'), {'cert': SAVINGS})
     yield Case('made, make', ('make', '5', '0'), {})
@@ -128,7 +130,7 @@ class Call:
     # what a refusal may leave
 
     def check_puts(self, count=None):
-        """The first few files were put, and are whole: so many, if that is said."""
+        """The first few files were put, and are complete: this many, if the number is given."""
         found = self.left()
         if any(data != self.put[name] for name, data in found.items()) or count not in (None, len(found)):
             raise Failed(f'{len(found)} files were put, and not {count}, or not whole')
@@ -143,7 +145,7 @@ class Call:
             raise Failed(f'{ended}, and not {line}')
 
     def check_memory(self, ended):
-        """It ended as it does otherwise, or for want of memory. Says which."""
+        """It ended as it does otherwise, or ran out of memory. Returns which."""
         if ended == self.ended:
             self.check_puts(len(self.case.puts))
             return 'same'
@@ -154,7 +156,7 @@ class Call:
     # refusals
 
     def refuse_allocations(self, most):
-        """Refuses each allocation in turn, or so many at most, with equal steps between."""
+        """Refuses each allocation in turn, or at most this many, with equal steps between."""
         words = [self.program, *self.case.words]
         self.fresh()
         count = allocations.run_without(0, words, self.room)[1]
@@ -189,7 +191,7 @@ class Call:
                     raise Failed(f'{self.case.name}, {error} at {call}: {why}') from None
 
     def check_call(self, call, error, ended, is_read, count):
-        """How a call ended, one of whose system calls has ended with an error, after so many files were put. Says that."""
+        """How a call ended, one of whose system calls has ended with an error, after this many files were put. Says that."""
         if call.name in MEMORY:
             return self.check_memory(ended)
         stream = call.words.split(',')[0] if call.name in ('read', 'write') else ''

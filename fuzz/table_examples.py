@@ -16,7 +16,7 @@ FAR = [XORI] * 600
 
 
 class Program:
-    """An object of calls and jumps, and behind it one of the functions to which they lead."""
+    """An object of calls and jumps, and after it one of the functions to which they lead."""
 
     def __init__(self, functions, frames=(), align=4):
         self.first, self.text = object_with(addi(A0, ZERO, 0))
@@ -32,14 +32,14 @@ class Program:
             text.words(*body, RET)
 
     def label(self, more=0):
-        """A symbol so many bytes behind the code so far."""
+        """A symbol this many bytes after the code so far."""
         return self.first.symbol(b'', home=self.text, value=len(self.text.content) + more, bind=LOCAL)
 
     def call(self, function):
         self.text.reloc(CALL, self.names[function], 0, CALL_WORDS)
 
     def jump(self, function, link=ZERO):
-        """A jump to a function, which returns behind it. What it puts in a link register isn't used."""
+        """A jump to a function, which returns after it. What it puts in a link register isn't used."""
         back = self.label(12)
         self.text.reloc(HI20, back, 0, (lui(RA),))
         self.text.reloc(LO12_I, back, 0, (addi(RA, RA),))
@@ -65,7 +65,7 @@ def with_sites(jumps, calls, **how):
 
 
 def branch_over(count):
-    """A branch over so many jumps, which is never taken."""
+    """A branch over this many jumps, which is never taken."""
     made = Program(1)
     made.text.reloc(BRANCH, made.label(4 + 12 * count), 0, (branch(1, A0, ZERO),))
     for _ in range(count):
@@ -74,7 +74,7 @@ def branch_over(count):
 
 
 def nearer(count):
-    """A loop whose end reaches its start by two bytes only once jumps between them go through the table, with so many jumps
+    """A loop whose end reaches its start by two bytes only once jumps between them go through the table, with this many jumps
     back: a single one has no slot, and more have one and go through it though they would reach."""
     made = Program(1)
     begin, end = made.label(), made.label(4 + 172 * 12 + 4 * count)

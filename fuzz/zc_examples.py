@@ -10,7 +10,7 @@ XORI = immediate(4, A0, A0, 93)
 
 
 def over(word, count):
-    """A branch or jump over so many `addi x0,x0,0`, and where it leads an `ecall`."""
+    """A branch or jump over this many `addi x0,x0,0`, and where it leads an `ecall`."""
     made, _ = object_with(word, *[NOP] * count, ECALL)
     return made
 

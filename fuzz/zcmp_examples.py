@@ -323,7 +323,7 @@ def led_by_relocation(text, kind, instruction, over):
 
 
 def last_in_object():
-    """A function that ends its object with a popret, and one of another object behind it."""
+    """A function that ends its object with a popret, and one of another object after it."""
     made, text = compressed_with()
     second, _ = compressed_with(code_of(PUSH_BOTH, addi(A0, ZERO, STATUS), POPRET_BOTH), b'function')
     third, _ = compressed_with(code_of(addi(A0, ZERO, 1), *EXIT_WORDS), b'behind')

@@ -4,7 +4,7 @@ its prices, and whether a checker may say yes.
 
     models/certificates.py FILE...
 
-says of each file `net N`, `rejected`, or which line of it is bad. It knows nothing of the program, so that both can be
+says of each file `net N`, `rejected`, or which line of it is bad. It is independent of the program, so that both can be
 compared.
 """
 import collections
@@ -210,7 +210,7 @@ def made_text(rng, most=40):
 
 
 def answer(text):
-    """What is said of a text."""
+    """What the checker prints for a text."""
     try:
         savings, certificate = read_certificate(text)
     except Bad as bad:

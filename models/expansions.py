@@ -1,9 +1,9 @@
-"""The words that halfwords of Zca and Zcb stand for, one of each, and those that halfwords of Zcmp stand for, one after another
+"""The words that halfwords of Zca and Zcb expand to, one of each, and those that halfwords of Zcmp expand to, one after another
 (RISC-V unprivileged manual, "RVC Instruction Set Listings"; RISC-V Zc specification 1.0, "Zcb", "Zcmp").
 
     models/expansions.py HALFWORD...
 
-says the words of each halfword. The way back is in halfwords.py. It knows nothing of the program, so that both can be
+says the words of each halfword. The way back is in halfwords.py. It is independent of the program, so that both can be
 compared.
 """
 import functools
@@ -23,7 +23,7 @@ def bits(value, high, low=None):
 
 
 def joined(value, *pieces):
-    """The number whose pieces stand in a value: each piece is its lowest place in the number, and its places in the value."""
+    """The number whose pieces are in a value: each piece is its lowest place in the number, and its places in the value."""
     return sum(bits(value, *places) << at for at, *places in pieces)
 
 
@@ -110,7 +110,7 @@ MOVED = dict(zip(range(4, 16), (*[16] * 4, *[32] * 4, *[48] * 3, 64)))
 
 @functools.cache
 def expansion(half):
-    """The words that a push, a pop or two moves stand for, in their order; none, if it is another halfword."""
+    """The words that a push, a pop or two moves expand to, in their order; none, if it is another halfword."""
     if half & 3 != 2 or half >> 13 != 5:
         return ()
     form, number = bits(half, 12, 8), bits(half, 7, 4)

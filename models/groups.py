@@ -1,12 +1,12 @@
-"""Groups: items of code that one instruction of Zcmp stands for, or two (RISC-V Zc specification 1.0, "Zcmp").
+"""Groups: items of code that one instruction of Zcmp can replace, or two instructions (RISC-V Zc specification 1.0, "Zcmp").
 
     models/groups.py FILE...
 
-lists the groups of the files, or says their first fault. It knows nothing of the program, so that both can be compared.
+lists the groups of the files, or says their first fault. It is independent of the program, so that both can be compared.
 
 A group is a push, a pop, a pop that returns, one that sets a0 to 0 too, or two moves between a0 and a1 and two of s0 to s7. No
 item of it has a relocation, and no basic block begins at one but the first. Groups are taken from the left in each section, and
-of those that start at one item that with the most items. An item of 2 bytes has the word that its halfword stands for, in its
+of those that start at one item that with the most items. An item of 2 bytes has the word that its halfword expands to, in its
 normal form, so `c.mv` is a move, as `addi` is, and `add` isn't.
 """
 import os
@@ -31,7 +31,7 @@ TO_SAVED, FROM_SAVED = 'cm.mvsa01', 'cm.mva01s'
 # The registers that moves name, by their codes.
 MOVED = S0, S1, *range(18, 24)
 
-# What stands before the stores or loads of each form, and behind them.
+# What comes before the stores or loads of each form, and after them.
 MOVE_SP, CLEAR = 'addi sp,sp', addi(A0, ZERO)
 SHAPES = ((PUSH, (MOVE_SP,), ()), (POP, (), (MOVE_SP,)), (POPRET, (), (MOVE_SP, RET)), (POPRETZ, (CLEAR,), (MOVE_SP, RET)),
           (POPRETZ, (), (CLEAR, MOVE_SP, RET)), (POPRETZ, (), (MOVE_SP, CLEAR, RET)))
@@ -39,7 +39,7 @@ MOST_ITEMS = 3 + len(SAVED)
 
 
 class Group(NamedTuple):
-    """A group: its form, how many items it has, and the bytes that stand for them."""
+    """A group: its form, how many items it has, and the bytes that are written for them."""
 
     form: str
     items: int
@@ -63,7 +63,7 @@ def move_half(form, first, second):
 
 
 def frame_code(form, number, size):
-    """The bytes that stand for the push or pop of a list with a frame of so many bytes: a halfword, and behind a push or before a
+    """The bytes that are written for the push or pop of a list with a frame of this many bytes: a halfword, and after a push or before a
     pop an instruction that moves sp by what is left."""
     own = Frame(form, number, 0).size
     more = min(MORE[-1], (size - own) // 16)
@@ -78,7 +78,7 @@ def frame_code(form, number, size):
 
 
 def slots(form, number, size):
-    """The stores or loads of a list in a frame of so many bytes."""
+    """The stores or loads of a list in a frame of this many bytes."""
     access = sw if form == PUSH else lw
     return [access(register, SP, size - 4 * (j + 1)) for j, register in enumerate(Frame(form, number, 0).registers)]
 

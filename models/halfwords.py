@@ -3,7 +3,7 @@ Compressed Instructions"; RISC-V Zc specification 1.0, "Zcb").
 
     models/halfwords.py WORD...
 
-says the short form of each word. It knows nothing of the program, so that both can be compared. The way back is in
+says the short form of each word. It is independent of the program, so that both can be compared. The way back is in
 expansions.py.
 """
 import os

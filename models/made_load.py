@@ -3,7 +3,7 @@
 
     models/made_load.py [--out PREFIX] NUMBER FUNCTIONS
 
-prints the summary that `make` prints, and with PREFIX writes the objects as `make` does. It knows nothing of the program, so that
+prints the summary that `make` prints, and with PREFIX writes the objects as `make` does. It is independent of the program, so that
 both can be compared: the objects are made by the rule, the links are those of plain_link.py and zc_link.py, and they run on
 symbolic_machine.py and zc_machine.py.
 """
@@ -132,7 +132,7 @@ def object_of(functions, first):
 
 
 def made_objects(number, count):
-    """The objects of so many functions, from a number."""
+    """The objects of this many functions, from a number."""
     draws = Draws(number)
     functions = [made_function(draws, k) for k in range(count)]
     return [start_object(number, count), *(object_of(functions[first:first + IN_AN_OBJECT], first)

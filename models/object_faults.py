@@ -1,6 +1,6 @@
 """The faults of objects, and those between objects before their code is looked at, by the System V gABI.
 
-`object_items.py` has the faults of code. Both know nothing of the program, so that they can be compared with it.
+`object_items.py` has the faults of code. Both are independent of the program, so that they can be compared with it.
 """
 import struct
 from typing import NamedTuple

@@ -2,7 +2,7 @@
 
     models/object_items.py FILE...
 
-lists the items of the files, or says their first fault. It knows nothing of the program, so that both can be compared.
+lists the items of the files, or says their first fault. It is independent of the program, so that both can be compared.
 """
 import functools
 import os
@@ -66,7 +66,7 @@ def is_short_jump(half):
 
 @functools.cache
 def word_of(half):
-    """The normal form of the word that a halfword stands for, or none."""
+    """The normal form of the word that a halfword expands to, or none."""
     word = expanded(half)
     return None if word is None else Instruction(word).normal_form()
 
@@ -126,7 +126,7 @@ class Part:
             self.mark_strays()
 
     def number(self, at, size):
-        """What so many bytes are, or 0 if they aren't all there."""
+        """What this many bytes are, or 0 if they aren't all there."""
         content = self.section.content
         return int.from_bytes(content[at:at + size], 'little') if at + size <= len(content) else 0
 
@@ -184,13 +184,13 @@ class Part:
         return 4 if is_long or not self.is_compressed else 2
 
     def mark_strays(self):
-        """Marks each entry that stands at no item's start, though nothing else is wrong with its place."""
+        """Marks each entry that isn't at an item's start, though nothing else is wrong with its place."""
         for at in self.at.keys() - self.starts.keys():
             self.at.pop(at).mark(PLACE_FAULT, 'no instruction starts there')
 
     def spelled(self, at):
-        """The words of an item, and its halfword if it has 2 bytes. The word is then the normal form of what this stands for, if
-        it stands for one."""
+        """The words of an item, and its halfword if it has 2 bytes. The word is then the normal form of what this expands to, if
+        it expands to one."""
         size = self.starts[at]
         if size != 2:
             return [self.word(it) for it in range(at, at + size, 4)], None
@@ -202,8 +202,8 @@ class Part:
 
 
 class Item:
-    """What stands at a place of code: its kind, its words as they are, what it names, and its halfword if it has 2 bytes: then its
-    word is the normal form of what this stands for."""
+    """What is at a place of code: its kind, its words as they are, what it names, and its halfword if it has 2 bytes: then its
+    word is the normal form of what this expands to."""
 
     def __init__(self, kind, words, target=None, half=None):
         self.kind, self.words, self.target, self.half = kind, words, target, half
@@ -294,7 +294,7 @@ class Code:
     # data
 
     def addresses_in_data(self):
-        """Each word of data that names something: where it stands from the start of data on, and what it names."""
+        """Each word of data that names something: its offset from the start of data, and what it names."""
         for (i, k), part in self.parts.items():
             if not part.is_code and part.section.kind != NOBITS:
                 start = self.symbols.data.sections[i, k] - self.memory.data

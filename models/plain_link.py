@@ -2,7 +2,7 @@
 
     models/plain_link.py OUT FILE...
 
-writes the image of the files under OUT, or says their first fault. It knows nothing of the program, so that both can be
+writes the image of the files under OUT, or says their first fault. It is independent of the program, so that both can be
 compared.
 """
 import os
@@ -57,7 +57,7 @@ class Plain:
                 'Jump': lambda: with_jump(word, self.distance(place, item.target))}[item.kind]()
 
     def padding(self, place, item):
-        """What stands under ALIGN."""
+        """The padding of an ALIGN."""
         size = -self.addresses[place] % item.target
         return halves_of(SHORT_NOP) * (size % 4 // 2) + words_of(NOP) * (size // 4)
 
@@ -80,7 +80,7 @@ class Plain:
         return self.code.places()
 
     def front(self):
-        """The bytes in front of all code."""
+        """The bytes before all code."""
         return b''
 
     def text(self):

@@ -3,9 +3,9 @@
 
     models/section_gc.py PREFIX FILE...
 
-writes the objects of the files under PREFIX0.o and so on, or says their first fault. A program needs the section that it starts
-in, all data, and the code that relocations of these lead to, and so on. It knows nothing of the program, so that both can be
-compared.
+writes the objects of the files under PREFIX0.o and so on, and prints how much of their code is kept, or prints their first fault.
+A program needs the section that it starts in, all data, and the code that relocations of these lead to, and so on. The model is
+independent of the program, so that both can be compared.
 """
 import os
 import struct
@@ -51,7 +51,8 @@ class Cleaned:
 
     def __init__(self, data, i, wanted):
         self.read, self.flags = Object(data), flags_of(data)
-        self.empty = {k for k in range(self.read.count) if self.read.is_code(k) and (i, k) not in wanted}
+        self.code = [k for k in range(self.read.count) if self.read.is_code(k)]
+        self.empty = {k for k in self.code if (i, k) not in wanted}
         kept = [k for k in range(self.read.count) if self.read.kept[k]]
         self.numbers = {k: number for number, k in enumerate(kept, 1)}
         self.sections = [self.section(k) for k in kept]
@@ -101,7 +102,7 @@ class Cleaned:
 
 
 def table_of(names):
-    """A table of names, each of which stands there by itself, and where each stands."""
+    """A table of names, each of which is there by itself, and the offset of each."""
     table, at = bytearray(b'\0'), []
     for name in names:
         at.append(len(table) if name else 0)
@@ -115,10 +116,19 @@ def collected(files):
     return [Cleaned(data, i, wanted) for i, data in enumerate(files)]
 
 
+def lines(left):
+    """The lines that say how many sections of code are kept, and how many bytes, of all."""
+    sizes = [(it.read.sections[k].size, k not in it.empty) for it in left for k in it.code]
+    kept = [size for size, is_kept in sizes if is_kept]
+    return b'sections %d of %d\ncode %d of %d\n' % (len(kept), len(sizes), sum(kept), sum(size for size, _ in sizes))
+
+
 def main():
     prefix, *paths = sys.argv[1:]
-    for i, left in enumerate(collected(without_fault(paths))):
-        write(f'{prefix}{i}.o', left.bytes())
+    left = collected(without_fault(paths))
+    for i, it in enumerate(left):
+        write(f'{prefix}{i}.o', it.bytes())
+    sys.stdout.buffer.write(lines(left))
 
 
 if __name__ == '__main__':

@@ -3,7 +3,7 @@
 
     models/size_report.py FILE...
 
-prints the report of the files, or says their first fault. It knows nothing of the program, so that both can be compared: the
+prints the report of the files, or says their first fault. It is independent of the program, so that both can be compared: the
 counts are those of the layout in zc_link.py, and the savings, the slots and the net those of its table.
 """
 import os

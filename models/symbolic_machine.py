@@ -2,7 +2,7 @@
 
     models/symbolic_machine.py [--steps N] FILE...
 
-takes standard input, writes what the program writes, and ends like `trace`. It knows nothing of the program, so that both can
+takes standard input, writes what the program writes, and ends like `trace`. It is independent of the program, so that both can
 be compared. A byte is a number, a part of an address of code, or undefined; a word is a number, an address of code (or an upper
 part of one), or four bytes.
 """
@@ -371,7 +371,7 @@ class Machine:
 
 
 def run(machine, steps):
-    """The line that a run of so many steps at most ends with."""
+    """The line that a run of this many steps at most ends with."""
     while machine.steps < steps:
         try:
             status = machine.step()

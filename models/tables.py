@@ -1,5 +1,5 @@
 """The jump table of an image, as far as its layout doesn't matter: which jumps and calls one could serve, how many lead to
-each target, which targets it has, and what stands in front of all code (RISC-V Zc specification 1.0, "Zcmt").
+each target, which targets it has, and what comes before all code (RISC-V Zc specification 1.0, "Zcmt").
 
 A table is a list of slots, each a target or None. A jump goes through the first slot below 32 that has its target, a
 call through the first one from 32 on, and takes 2 bytes then. The table and a stub of 12 bytes stand in front of all
@@ -58,7 +58,7 @@ class Table:
         return next((slot for slot in part if slot < len(self.targets) and self.targets[slot] == target), None)
 
     def stub_at(self, text):
-        """Where the stub stands in a text: a run begins there if there is a table."""
+        """Where the stub is in a text: a run begins there if there is a table."""
         return text + 4 * len(self.targets)
 
     def code(self, text, addresses, start):

@@ -2,8 +2,8 @@
 
     models/zc_link.py OUT FILE...
 
-writes the image of the files under OUT, and prints the certificate of its jump table; or it says their first fault. It knows
-nothing of the program, so that both can be compared. A group (groups.py) is a piece of a fixed size, and what stands inside
+writes the image of the files under OUT, and prints the certificate of its jump table; or it says their first fault. It is independent
+of the program, so that both can be compared. A group (groups.py) is a piece of a fixed size, and what is inside
 one has no address. The table (tables.py) is the best one (certificates.py) for the layout without one, and then all sizes are
 settled anew. What is printed of the sizes is in size_report.py.
 """

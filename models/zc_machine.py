@@ -2,7 +2,7 @@
 
     models/zc_machine.py [--plan PLAN] [--steps N] IMAGE
 
-takes standard input, writes what the program writes, and ends like `run`. It knows nothing of the program, so that both can be
+takes standard input, writes what the program writes, and ends like `run`. It is independent of the program, so that both can be
 compared: it follows the RISC-V unprivileged manual ("RV32I", "M", "RVC Instruction Set Listings") and the RISC-V Zc specification
 1.0 ("Zcb", "Zcmp", "Zcmt"). It looks at an image and at a plan only as far as they have no fault.
 """

@@ -23,7 +23,7 @@ def certificate(savings, slots, prices, net):
 
 
 def calls_to(*numbers):
-    """Targets that so many calls lead to."""
+    """Targets that this many calls lead to."""
     return [Saving(0, 1, 4 * k, 0, number) for k, number in enumerate(numbers)]
 
 
@@ -73,7 +73,7 @@ REJECTED = (
     TITLE + ONE + END.replace(b'net 0', b'net 1'),
 )
 
-# Lines behind the title, of which the first isn't what may stand there, with the end of a certificate behind it. In this order:
+# Lines after the title, of which the first isn't valid there, with the end of a certificate after it. In this order:
 # the word; how many numbers; their form; their size; spaces and other bytes than those of words.
 BAD_LINES = r'''
 frob

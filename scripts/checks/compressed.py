@@ -1,4 +1,4 @@
-"""Objects whose code is compressed: what both links make of them, alone and beside others, and which are refused (RISC-V
+"""Objects whose code is compressed: what both links make of them, alone and together with others, and which are refused (RISC-V
 unprivileged manual, "C Extension for Compressed Instructions"; RISC-V ELF psABI, "File Header" and "Relocations")."""
 import random
 
@@ -17,7 +17,7 @@ from checks.by_chance import random_code
 from checks.harness import runs_of
 from checks.made_files import EXIT, OLD, THREE, THREE_LEFT, image_of_items, long_code, object_of
 
-# Where e_flags stand in a file, of objects and of images; those of objects that are linked, and some of those that are refused.
+# Where e_flags are in a file, of objects and of images; those of objects that are linked, and some of those that are refused.
 FLAGS_AT = 36
 ALIKE = 0, RVC, TSO, RVC | TSO
 REFUSED = (*(1 << bit for bit in range(32) if 1 << bit not in ALIKE), 3, 5, 7, 9, 0x12, 0x21, 0xFFFFFFFF)
@@ -91,7 +91,7 @@ def check_flags(group):
 
 
 def check_sizes(group):
-    """As much compressed code as there may be, which counts twice, and a halfword more, alone and beside words."""
+    """As much compressed code as there may be, which counts twice, and a halfword more, alone and together with words."""
     rows = ((1 << 17) - 2, (), None), (1 << 17, (), 0), ((1 << 16) - 2, (1 << 17) - 4, None), (1 << 16, (1 << 17) - 4, 1)
     for size, words, at in rows:
         files = [compressed_with(examples.nops((size - len(THREE_CODE)) // 2) + THREE_CODE)[0].bytes()]

@@ -20,9 +20,9 @@ from checks.made_files import call_of_stack, image_of_items, object_of, report_o
 QUADRANTS = [range(quadrant, 1 << 16, 4) for quadrant in range(3)]
 # Groups of quadrant 1, bits 15 to 13: a jump that links, one that doesn't, and both branches; and how far they lead.
 JUMPS, REACHES = (1, 5, 6, 7), {1: 2048, 5: 2048, 6: 256, 7: 256}
-# One halfword of so many is traced, and so many of each name are executed.
+# One halfword in this many is traced, and this many of each name are executed.
 TRACED, EXECUTED = 37, 48
-# Hints that no other halfword stands for: `c.addi`, `c.li` and `c.lui` of x0, shifts by 0 or of x0, and copies and sums to x0.
+# Hints whose expansion no other halfword has: `c.addi`, `c.li` and `c.lui` of x0, shifts by 0 or of x0, and copies and sums to x0.
 WORDS_OF_HINTS = 63 + 63 + 63 + 8 + 8 + 63 + 31 + 31
 AFTER = words_of(*EXIT_WORDS)
 C_LI_3 = 0x450D
@@ -71,7 +71,7 @@ def all_halfwords(group):
 
 # ---- the symbolic machine
 
-# How a jump in front of an exit ends, by how far it leads: to itself, to `c.li a0,3`, `li a7,93` and `ecall`, and to the end.
+# How a jump before an exit ends, by how far it leads: to itself, to `c.li a0,3`, `li a7,93` and `ecall`, and to the end.
 LED = {0: 'spent', 2: 'exited 3', 4: 'stuck 0 1 8 4 ArgumentUnknown', 8: 'stuck 0 1 8 4 ArgumentUnknown',
        12: 'stuck 0 1 12 8 NoInstruction'}
 STATUSES = {'spent': 127, 'exited 3': 3}
@@ -96,7 +96,7 @@ def reason(word):
 
 
 def end_of(half):
-    """The line with which `trace` ends of a halfword in front of an exit."""
+    """The line with which `trace` ends of a halfword before an exit."""
     word, words = expanded(half), expansion(half)
     if words:
         # a pop, at the stack's top, or else a push or two moves
@@ -113,7 +113,7 @@ def end_of(half):
 
 
 def traced_halfwords(group):
-    """one halfword of so many, in front of an exit: how `trace` ends"""
+    """one halfword in this many, before an exit: how `trace` ends"""
     folder = group.folder()
     for half in [half for quadrant in QUADRANTS for half in quadrant][::TRACED]:
         folder.write('object', compressed_with(halves_of(half, C_LI_3) + AFTER)[0].bytes())
@@ -123,7 +123,7 @@ def traced_halfwords(group):
 
 # ---- what halfwords do
 
-# What lies below sp in a program: words that are loaded and stored, and behind them the results.
+# What lies below sp in a program: words that are loaded and stored, and after them the results.
 FRAME, WORDS = 2032, 64
 
 
@@ -186,7 +186,7 @@ def program(rng, halves, code_of):
 
 
 def executed_halfwords(group):
-    """halfwords of each name in programs: `trace` and both images do what the words do for which they stand"""
+    """halfwords of each name in programs: `trace` and both images do what the words that they expand to do"""
     halves, most = executed(random.Random('halfwords')), FRAME // 4 - WORDS - 2
     for start in range(0, len(halves), most):
         some, what = halves[start:start + most], f'halfwords from {start} on'

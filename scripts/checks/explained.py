@@ -330,7 +330,7 @@ LEFT_OUT = b'explain: left out 1 symbol at no listed place\n'
 
 
 def parts_of(text):
-    """The sections, the pieces and the symbols of a map: the address and size of each, what stands before these, and behind."""
+    """The sections, the pieces and the symbols of a map: the address and size of each, what comes before these, and after."""
     shown, _, _ = text.partition('\n\n')
     rows = [re.fullmatch(r'( *)(\S*) +0x(\w+) +0x(\w+)(?: (.*))?', line) for line in shown.splitlines()]
     parts = {0: [], 1: [], 25: []}

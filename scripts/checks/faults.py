@@ -37,6 +37,8 @@ Run image
 object run
 Check plan
 plain object
+gc object
+gc --cert out object
 plain --cert out object
 zc object
 zc --out out object
@@ -68,11 +70,15 @@ run --plan
 zc --out out --cert out object
 run -image
 zc --out out --cert cert -object
+gc --out left -object
+gc --out -left object
 zc --out out --cert cert object -object
 trace object object -object
 check -plan
 check --plan
 plain --out out
+gc --out left
+gc
 trace
 trace --steps 3
 zc --out out --cert cert

@@ -1,4 +1,4 @@
-"""Runs the program in folders of its own, and counts what was checked of how it ended and of what then stands there."""
+"""Runs the program in folders of its own, and counts what was checked of how it ended and of the files that are then there."""
 import contextlib
 import os
 import resource
@@ -101,7 +101,7 @@ class Folder:
         return programs.run([*before, self.program, *words], given, first, cwd=self.place, **how)
 
     def run_with_limit(self, words, size, **how):
-        """As `run`, with files of at most so many bytes: a longer write is refused, and no signal comes."""
+        """As `run`, with files of at most this many bytes: a longer write is refused, and no signal comes."""
         def first():
             signal.signal(signal.SIGXFSZ, signal.SIG_IGN)
             limit(resource.RLIMIT_FSIZE, size)
@@ -166,7 +166,7 @@ class Group:
         self.same(what, ended, (0, report, b''))
 
     def done(self, what, ended, folder, out='out', cert='cert', left=THREE_LEFT):
-        """The same, and what then stands under OUT and CERT."""
+        """The same, and the files that are then under OUT and CERT."""
         self.reports(what, ended, left.report)
         self.same(f'{what}: OUT', folder.read(out), left.image)
         self.same(f'{what}: CERT', folder.read(cert), left.certificate)
@@ -178,14 +178,14 @@ class Group:
         self.same(f'{what}: OUT', folder.read(out), image)
 
     def refused(self, what, ended, folder, status=123, line='write fault', out=OLD, cert=OLD):
-        """A refusal, and what then stands under OUT and CERT."""
+        """A refusal, and the files that are then under OUT and CERT."""
         self.ends(what, ended, status, line)
         self.same(f'{what}: OUT', folder.read('out'), out)
         self.same(f'{what}: CERT', folder.read('cert'), cert)
         self.alone(what, folder)
 
     def refused_by_all(self, what, folder, names, status, line):
-        """What both links and `trace` say of these files, in a folder where OUT and CERT stand."""
+        """What both links and `trace` say of these files, in a folder where OUT and CERT exist."""
         for command, ended in (('plain', folder.plain(*names)), ('zc', folder.link(*names)),
                                ('trace', folder.run(('trace', *names)))):
             self.refused(f'{what}: {command}', ended, folder, status, line)

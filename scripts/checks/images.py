@@ -59,7 +59,7 @@ def plain_images(group):
 
 
 def linker_names(group):
-    """what the linker's names stand for"""
+    """the values of the linker's names"""
     files, words = plain_examples.linker_names()
     out = words_of(*words)
     plainly, names = group.linked_plainly('plain', files)

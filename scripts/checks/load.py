@@ -1,4 +1,4 @@
-"""The command `make`: programs that are generated, their summary, and what stands under PREFIX (docs/FORMATS.md, "Generated
+"""The command `make`: programs that are generated, their summary, and the files under PREFIX (docs/FORMATS.md, "Generated
 objects")."""
 import os
 
@@ -28,7 +28,7 @@ cuts 05000000 0
 # A number and how many functions, of programs whose summary is compared with the model's. That of the last has a jump table.
 MODELLED = (0, 0), (MOST, 0), (0, 1), (2047, 8), (2048, 9), (0, 17), (MOST, 40), (7, 300), (1, 500)
 
-# Words with a PREFIX, and what stands before the objects' numbers in their names.
+# Words with a PREFIX, and what comes before the objects' numbers in their names.
 PREFIXES = (
     (('--out', 'p', '5', '3'), 'p'), (('--out=p', '5', '3'), 'p'), (('5', '3', '--out', 'p'), 'p'), (('5', '--out', 'p', '3'), 'p'),
     (('--out', 'p', '--', '5', '3'), 'p'), (('--out', './d/p', '5', '3'), 'd/p'), (('--out', 'd/', '5', '3'), 'd/'),
@@ -105,7 +105,7 @@ def generated_load(group):
 
 
 def check_refused(group, what, folder, ended, kept, status=123, line='write fault'):
-    """A call that is refused prints nothing, and these files stand then."""
+    """A call that is refused prints nothing, and these files exist then."""
     group.ends(what, ended, status, line)
     found = files_in(folder.place)
     group.same(f'{what}: the files', set(found), {'object', *kept})
@@ -130,7 +130,7 @@ def check_names(group):
     for prefix in ('none/p', 'object/p', 'n' * 300):
         folder = group.folder()
         check_refused(group, f'PREFIX {prefix[:20]}', folder, make(folder, 5, 3, '--out', prefix), {})
-    # the second of five can't be put: the first stands
+    # the second of five can't be put: the first is there
     objects, folder = made_objects(7, 32), group.folder(**{'p2.o': OLD})
     os.mkdir(folder.path('p1.o'))
     group.ends('a folder in the way', make(folder, 7, 32, '--out', 'p'), 123, 'write fault')

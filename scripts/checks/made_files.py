@@ -23,7 +23,7 @@ def image_of(text, sizes=None):
 
 
 def image_of_several(texts, sizes, entry):
-    """The same of section 1 of each of several objects; the entry is so many bytes into the text."""
+    """The same of section 1 of each of several objects; the entry is this many bytes into the text."""
     at, places = TEXT_AT, {}
     for i, sizes_of_one in enumerate(sizes):
         for k, size in enumerate((*sizes_of_one, 0)):
@@ -55,7 +55,7 @@ def left_of_several(texts, sizes, entry):
 
 
 def report_of(plain, small, items, short):
-    """The report of texts of these lengths, with so many items, each of which is written by itself and none as a far jump, and
+    """The report of texts of these lengths, with this many items, each of which is written by itself and none as a far jump, and
     so many of them in two bytes."""
     rows = {'plain text': plain, 'zc text': small, 'items': items, 'short': short,
             **dict.fromkeys(('long', 'push', 'pop', 'move', 'table', 'slots', 'net'), 0)}
@@ -94,7 +94,7 @@ LARGE, LARGE_LEFT = object_of(long_code(16384)), left_of(long_code(16384))
 
 
 def call_of_stack(number, descriptor, size, offset=0):
-    """A call for so many bytes of the stack, from an offset of sp on."""
+    """A call for this many bytes of the stack, from an offset of sp on."""
     return addi(A0, ZERO, descriptor), addi(A1, SP, offset), addi(A2, ZERO, size), addi(A7, ZERO, number), ECALL
 
 

@@ -33,7 +33,7 @@ ENDS = (map_at(0x1000, 0xF1000, 0x5F1000), map_at(LAST_TEXT, LAST_STACK - ROOM, 
         map_at(0x1000, LAST_STACK - ROOM, LAST_STACK), map_at(0x80000000, 0x800F0000, 0x805F0000),
         map_at(0x7FF10000, 0x80000000, 0x80500000), map_at(0x7FF0F000, 0x7FFFF000, 0x804FF000),
         map_at(0x7FFFF000, 0x800EF000, 0x805EF000))
-# How far behind the start of data the address is that `addresses` writes.
+# How far after the start of data the address is that `addresses` writes.
 BEHIND = 0x800
 # The map of a board with flash and RAM, as a word for each option.
 ELSEWHERE = ('--text', '08000000', '--data', '20000000', '--stack', '20600000')

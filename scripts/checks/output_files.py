@@ -1,4 +1,4 @@
-"""What stands under OUT and CERT, and what their names, links, permissions and folders do to that."""
+"""The files under OUT and CERT, and what their names, links, permissions and folders do to that."""
 import os
 import resource
 import signal

@@ -18,7 +18,7 @@ PLANS = (
     'cut 0' + ''.join(f' a{number}' for number in range(256)), 'cut 7 dffffffff:ff d01234567:89 dabcdef00:0a', 'cut 0 a0 d10000000:ee', 'cut 10 a9 a10 a99 a100 a199 a249 d0ff00000:01',
 )
 
-# Lines after the first one, of which the first isn't what may stand there. In this order: the word; its number; the number of an
+# Lines after the first one, of which the first isn't valid there. In this order: the word; its number; the number of an
 # access; the address and the byte; the order of both; spaces, and other bytes than those of words.
 BAD_LINES = r'''
 frob

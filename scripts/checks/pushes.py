@@ -59,7 +59,7 @@ def interrupted_frames(group):
 
 
 def plan_of_every_commit(rng, commits):
-    """A plan that interrupts before each of so many commits. Bytes are written where frames lie, as far as these are below
+    """A plan that interrupts before each of this many commits. Bytes are written where frames lie, as far as these are below
     sp."""
     return plan_of((commit, rng.sample(range(13), rng.randrange(6)),
                     [(STACK_HIGH - 1 - rng.randrange(512), rng.randrange(256)) for _ in range(2)]) for commit in range(commits))

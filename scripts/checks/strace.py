@@ -37,7 +37,7 @@ class Call:
         self.name, self.number, self.words = name, number, words
 
     def fault(self, what):
-        # The kernel answers a refused brk with a break below the one that was asked for, and no error's number.
+        # For a refused brk the kernel returns a break below the one that was asked for, and no error's number.
         return fault(self.name, self.number, 'retval=0' if self.name == 'brk' and what.startswith('error=') else what)
 
     def __str__(self):

@@ -126,7 +126,7 @@ def moved(row, memory):
 
 
 def check_inside_push(group):
-    """A local symbol in the middle of what becomes a push, and one behind it."""
+    """A local symbol in the middle of what becomes a push, and one after it."""
     made, text = object_with(addi(SP, SP, -16), sw(RA, SP, 12), *EXIT_WORDS)
     for name, value in ((b'inside', 4), (b'behind', 8)):
         made.symbol(name, home=text, value=value, bind=LOCAL)
@@ -176,7 +176,7 @@ class Source:
         return struct.unpack_from('<H', self.section.content, self.value)[0]
 
     def first_word(self):
-        """The word of the first instruction, or the one that its halfword stands for, or none."""
+        """The word of the first instruction, or the one that its halfword expands to, or None."""
         return self.word() if self.first_half() & 3 == 3 else word_of(self.first_half())
 
 

@@ -7,7 +7,7 @@ from checks import strace
 from checks.harness import LINK
 from checks.made_files import OLD, THREE_IMAGE, THREE_LEFT
 
-# Calls for memory, which are refused for want of it alone, and calls that a signal may interrupt.
+# Calls for memory, which are refused only for lack of it, and calls that a signal may interrupt.
 MEMORY = ('mmap', 'munmap', 'brk', 'mremap', 'madvise', 'mprotect')
 INTERRUPTED = ('read', 'write', 'openat', 'fsync', 'fchmod')
 
@@ -38,7 +38,7 @@ def system_calls(group):
 
 
 def faults_of_puts(group, run):
-    """Faults at each system call of a run that puts files, and what then stands under their names."""
+    """Faults at each system call of a run that puts files, and the files that are then under their names."""
     what, first = run.words[0], next(iter(run.files))
     calls = strace.calls_of(run.words, group.folder(**dict.fromkeys(run.files, OLD)), *run.begins)
     renames = [i for i, call in enumerate(calls) if call.name == 'rename']
@@ -55,7 +55,7 @@ def faults_of_puts(group, run):
 
 
 def check_fault(group, run, call, fault, refused, kept):
-    """Gives this fault to a call of a run that puts files, and checks how it ends, and what then stands under their names."""
+    """Gives this fault to a call of a run that puts files, and checks how it ends, and the files that are then under their names."""
     if call.name in MEMORY and fault != 'error=ENOMEM' or fault == 'error=EINTR' and call.name not in INTERRUPTED:
         return
     folder = group.folder(**dict.fromkeys(run.files, OLD))

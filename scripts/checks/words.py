@@ -4,13 +4,13 @@ from zcld_tools.programs import CERTIFICATE
 
 from checks.made_files import OTHER, THREE, THREE_IMAGE
 
-# What stands under the names in the lists. Objects whose list has two have two names, so that they can be linked.
+# The files under the names in the lists. Objects whose list has two have two names, so that they can be linked.
 FILES = {'x.o': THREE, 'y.o': OTHER, 'zc': THREE, 'help': THREE, '-': THREE, '-x.o': THREE, '--out': THREE, 'b': OTHER,
          '--': OTHER, 'i': THREE_IMAGE, 'j': THREE_IMAGE, 'p': b'zcld plan 1\n', 'c': CERTIFICATE, 'd': CERTIFICATE}
 
 # Lists that spell no command. A line has a space between words, so two spaces are an empty word. In this order: no command, or
 # none of this name, and words that ask for help or a version; options before the command; an option or a file is missing; a value
-# that begins with `-`; an option twice, or not of this name; help behind a command's name; the two files that are written are one;
+# that begins with `-`; an option twice, or not of this name; help after a command's name; the two files that are written are one;
 # no number, or one too large or too long; positional words too many or too few; and addresses of no form, or that give no map,
 # and a command that takes none.
 NO_COMMANDS = '''\
@@ -87,7 +87,7 @@ NO_OUT, NO_OBJECT = (123, 'write fault', b'', {}), (122, 'read fault', b'', {})
 LINKED, ONE_FILE = (0, '', None, {'a': THREE_IMAGE, 'c': CERTIFICATE}), (123, 'write fault', b'', {'a': THREE_IMAGE})
 
 # Lists that spell a command, with the status, the line, the output if it is always the same, and the files. In this order: a value
-# in the option's own word; values and files that are `-`, or nothing, or have a `=`; words behind `--`; options between and behind
+# in the option's own word; values and files that are `-`, or nothing, or have a `=`; words after `--`; options between and after
 # files; names of commands as files; and numbers.
 COMMANDS = (
     ('plain --out a x.o', plain('a', 'x.o')), ('plain --out=a x.o', plain('a', 'x.o')), ('plain --out= x.o', NO_OUT),
@@ -126,5 +126,5 @@ def odd_words(group):
 
 
 def changed(folder, files):
-    """The names under which other bytes stand than these, or any where there should be none."""
+    """The names that have other bytes than these, or any where there should be none."""
     return [name for name, data in files.items() if folder.read(name) != data]

@@ -5,7 +5,7 @@ images and reads the segments of executables. `instructions` puts instructions t
 writes files, `programs` runs programs and says how they ended, `allocations` refuses them memory, and `measured` measures how
 long they take. `lines` is what the tools for users read and say.
 
-Nothing here comes from the program that is checked, so the models in models/ stand on it too; and on the models stands `linked`,
+Nothing here comes from the program that is checked, so the models in models/ use it too; and `linked` uses the models,
 which finds sections and symbols in images.
 """
 import os

@@ -1,7 +1,7 @@
 """Runs a program one of whose allocations is refused, on Linux and x86-64.
 
 The program is stopped at each call of `malloc`, `calloc` and `realloc` of the C library, by ptrace. The one of a given number
-answers that there is no memory, and from then on the program runs alone.
+returns that there is no memory, and from then on the program runs by itself.
 """
 import ctypes
 import os
@@ -125,7 +125,7 @@ class Traced:
             self.break_at(address)
 
     def leave(self, registers):
-        """Answers a call whose first instruction is at a breakpoint with 0, and lets the process run alone to its end."""
+        """Makes a call whose first instruction is at a breakpoint return 0, and lets the process run by itself to its end."""
         for address in [*self.kept]:
             self.clear(address)
         registers[RIP] = self.word(registers[RSP])

@@ -16,7 +16,7 @@ NULL, PROGBITS, SYMTAB, STRTAB, RELA, NOBITS, REL, INIT_ARRAY, GROUP, SYMTAB_SHN
 WRITE, ALLOC, EXECINSTR, MERGE, STRINGS, INFO_LINK, TLS, COMPRESSED = 1, 2, 4, 0x10, 0x20, 0x40, 0x400, 0x800
 CODE_FLAGS, DATA_FLAGS, CONSTANT_FLAGS = ALLOC | EXECINSTR, ALLOC | WRITE, ALLOC
 
-# Of symbols: bindings, types, and what stands in the place of a section's index.
+# Of symbols: bindings, types, and the special values of a section's index.
 LOCAL, GLOBAL, WEAK = range(3)
 NO_TYPE, DATA_TYPE, FUNCTION_TYPE, SECTION_TYPE, FILE_TYPE = range(5)
 UNDEF, ABS, COMMON = 0, 0xFFF1, 0xFFF2
@@ -56,7 +56,7 @@ def relocation_entry(offset, symbol, kind, addend):
 
 
 class Part(NamedTuple):
-    """A section as it stands in a file. Its name is a place in the table of names, and its size that of the content if none is
+    """A section as it is in a file. Its name is a place in the table of names, and its size that of the content if none is
     given."""
 
     name: int = 0
@@ -79,7 +79,7 @@ class Part(NamedTuple):
 
 
 def laid(parts, start, step=4):
-    """The bytes of parts that stand one after another in a file, from an offset on, and the offset of each. An offset and the
+    """The bytes of parts that follow one another in a file, from an offset on, and the offset of each. An offset and the
     part's address leave the same rest by the step, as loaders ask for it."""
     content, offsets = bytearray(), []
     for part in parts:

@@ -25,18 +25,18 @@ PAGE = 4096
 
 
 def name_at(name):
-    """Where the name of an image's section stands."""
+    """Where the name of an image's section is."""
     return NAMES.index(b'\0' + name + b'\0') + 1
 
 
 def load_header(part, at, zero, flags, align):
-    """The header of a segment that has the content of a part, and so many zeros after it."""
+    """The header of a segment that has the content of a part, and this many zeros after it."""
     size = len(part.content)
     return struct.pack('<8I', LOAD, at, part.address, part.address, size, size + zero, flags, align)
 
 
 def executable(parts, zero, entry, flags=0, *, names=None, step=4):
-    """A file whose first two parts are its text and its data, with so many zeros after the data. The parts are its sections
+    """A file whose first two parts are its text and its data, with this many zeros after the data. The parts are its sections
     too, if there is one of names, by its index."""
     start = HEADER + 2 * PROGRAM_HEADER
     content, offsets = laid(parts, start, step)
@@ -49,7 +49,7 @@ def executable(parts, zero, entry, flags=0, *, names=None, step=4):
 
 
 def image_bytes(text, places, data, zero, start, flags, memory=STANDARD):
-    """The image of these bytes and places, and of so many zeros after the data."""
+    """The image of these bytes and places, and of this many zeros after the data."""
     listed = b''.join(struct.pack('<HHII', *place, address) for place, address in sorted(places.items()))
     parts = [Part(name_at(b'.text'), PROGBITS, CODE_FLAGS, text, align=4, address=memory.text),
              Part(name_at(b'.data'), PROGBITS, DATA_FLAGS, data, align=4, address=memory.data),
@@ -59,7 +59,7 @@ def image_bytes(text, places, data, zero, start, flags, memory=STANDARD):
 
 
 def image_in_pages(text, zero, start):
-    """An executable of a text and so many zeroed bytes of data, without sections, which other machines map by pages."""
+    """An executable of a text and this many zeroed bytes of data, without sections, which other machines map by pages."""
     return executable([Part(content=text, address=TEXT_AT), Part(address=DATA_AT)], zero, start, step=PAGE)
 
 

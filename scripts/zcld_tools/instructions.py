@@ -13,7 +13,7 @@ READ_CALL, WRITE_CALL, EXIT_CALL = 63, 64, 93
 
 
 def signed(value, bits):
-    """The number that so many bits are, with a sign."""
+    """The number that this many bits are, with a sign."""
     return value - (1 << bits) if value >> bits - 1 & 1 else value
 
 

@@ -1,6 +1,6 @@
 """Where sections and symbols of objects lie in an image that zcld linked, by its list of places (docs/FORMATS.md, "The image").
 
-It stands on the models, which must be among the folders that Python looks in."""
+It uses the models, which must be among the folders that Python looks in."""
 import bisect
 import re
 import struct
@@ -66,7 +66,7 @@ class Image:
             raise Bad(f'{self.path}: not an image of these objects in this order')
 
     def length(self, i, k, start, end):
-        """How many bytes of text stand for those of a section of code from one offset to another, or to the first place behind
+        """How many bytes of text correspond to a section of code from one offset to another, or to the first place after
         that which is listed. The first is listed."""
         offsets = self.offsets[i, k]
         behind = offsets[min(bisect.bisect_left(offsets, end), len(offsets) - 1)]

@@ -30,11 +30,11 @@ class Section:
         return self.size if self.kind == NOBITS else len(self.content)
 
     def words(self, *words):
-        """Adds words, and gives where the first stands."""
+        """Adds words, and returns where the first is."""
         return self.add(words_of(*words))
 
     def halves(self, *halves):
-        """Adds halfwords, and gives where the first stands."""
+        """Adds halfwords, and returns where the first is."""
         return self.add(halves_of(*halves))
 
     def add(self, content):
@@ -44,20 +44,20 @@ class Section:
         return at
 
     def reloc(self, kind, symbol, addend=0, words=(), halves=()):
-        """Adds words, or halfwords, with a relocation at the first, and gives where they stand."""
+        """Adds words, or halfwords, with a relocation at the first, and returns where they are."""
         at = self.halves(*halves) if halves else self.words(*words)
         self.relocs.append(Reloc(at, kind, symbol, addend))
         return at
 
 
 class Strings:
-    """A table of strings, in which each stands once."""
+    """A table of strings, in which each occurs once."""
 
     def __init__(self):
         self.bytes, self.at = bytearray(b'\0'), {b'': 0}
 
     def add(self, name):
-        """The place of a string, which is added if it isn't there. A place stands for itself."""
+        """The place of a string, which is added if it isn't there. A place is returned as it is."""
         if isinstance(name, int):
             return name
         if name not in self.at:
@@ -94,7 +94,7 @@ class Written:
         return header + content + section_headers(parts, offsets)
 
     def parts(self, symbols):
-        """The sections as they stand in the file: those of the object, and those of relocations, symbols and names."""
+        """The sections as they are in the file: those of the object, and those of relocations, symbols and names."""
         relas = [(k, it) for k, it in enumerate(self.sections, 1) if it.relocs][::-1 if self.is_reversed else 1]
         at_symbols = 1 + len(self.sections) + len(relas)
         numbers = {id(symbol): k for k, symbol in enumerate(symbols, 1)}
