@@ -519,7 +519,7 @@ fn object_marks(alloc: Global, call: &str, store: &MemStore) -> Result<(char, ch
     ))
 }
 
-// What `p0.o` and `p1.o` should be in a call of `gc`, which leaves the two objects as they are.
+// What `p0.o` and `p1.o` should be in a call of `gc`, which leaves `start` and `main` as they are.
 fn left_wanted(call: &str) -> (&str, &str) {
     if call.contains(" unnamed") {
         (UNNAMED_LEFT, "")

@@ -12,7 +12,7 @@ gc --out p start main => ++ 0 5 "sections 2 of 2\ncode 64 of 64\n" """#;
 }
 
 // The first calls of the store read the objects, and its next calls put the results. The console's call 0 writes how much
-// code is kept, or else a line.
+// code is kept, or else the outcome's line.
 #[test]
 fn the_results_are_put_in_turn_and_then_the_lines_are_written(rt: HostRuntime) -> Result<(), Fail> {
     let lines = r#"gc --out p unnamed with s2 c2 => +- 0 5 "sections 1 of 2\ncode 12 of 20\n" ""

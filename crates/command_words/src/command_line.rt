@@ -56,8 +56,8 @@ pub struct MakeArgs<'a> {
     pub functions: u32,
 }
 
-/// What `gc` keeps of the objects, at least one, that the program needs. The names of the files that it puts begin with the
-/// prefix.
+/// What `gc` leaves the code out of that nothing reaches: the objects, at least one. The names of the files that it puts
+/// begin with the prefix.
 #[derive(Drop)]
 pub struct GcArgs<'a> {
     pub prefix: &'a str,

@@ -25,7 +25,7 @@ fn find(walk: &mut Walk, node: u32) -> Result<(), AllocError>
     Ok(())
 }
 
-// Marks nodes, one after another, as `find` does.
+// Marks nodes, one after another; those that weren't marked before are still to be followed.
 fn find_all(walk: &mut Walk, nodes: &[u32]) -> Result<(), AllocError>
     requires { All (λ n. n < length walk.old.marks.items) nodes.now }
     ensures { IfOk result (λ _. Found (is_among nodes.now) walk.old walk.new) }

@@ -1,5 +1,5 @@
 -- The parts of cleaned objects, section after section and symbol after symbol.
-use Rattle.std.proofs.Common.{◌≡◌, ℕ, zero, suc, ◌+◌, ◌-◌, ◌<◌, ◌≤◌, List, [], ◌∷◌, ◌++◌, length, map, filter, take, drop, get_or, refl, sym, ap, ◌∙◌, append-nil, eq-eqb, subst, arith, length-drop, Bool, true, false, cond, Option, Some, None, slice_get}
+use Rattle.std.proofs.Common.{◌≡◌, ℕ, zero, suc, ◌+◌, ◌-◌, ◌<◌, ◌≤◌, List, [], ◌∷◌, ◌++◌, length, map, filter, take, drop, get_or, refl, sym, ap, ◌∙◌, append-nil, subst, arith, length-drop, Bool, true, false, cond, Option, Some, None, slice_get}
 use Rattle.std.specs.List.{enumerate_from}
 use Rattle.std.specs.Option.{option_and_then, option_map, option_map_or}
 use Rattle.std.proofs.lemmas.Bool.{ne_eqb}
@@ -20,7 +20,7 @@ use Rattle.section_gc.specs.Written.{without_mark}
 use Rattle.section_gc.specs.declared.remains.Remains.{Remains}
 use Rattle.section_gc.specs.declared.remains.Remains.TheVariants.{Nothing, Empty, Whole}
 use Rattle.section_gc.proofs.OrderlyLaws.{second}
-use Rattle.section_gc.proofs.RemainsLaws.{entry-at, in_remains, made-more, picked-more, remains-at, something-kept, symbol-by, symbol-undefined, whole-section}
+use Rattle.section_gc.proofs.RemainsLaws.{entry-at, in_remains, made-more, picked-more, remains-at, something-kept, symbol-by, whole-section}
 
 -- ---- sections of files
 
@@ -70,7 +70,7 @@ section-turn needed object i n s old at some before =
     ∙ ap (λ b. old ++ cond b (without_mark (cleaned_section (needed i) s) ∷ []) []) (sym kept)
     ∙ picked-more (λ e. without_mark (cleaned_section (needed e.0) e.1)) (λ e. is_kept_section e.1) (enumerate_from 0 object.sections) i (i, s) old (entry-at object.sections i s at) before
 
--- the same with one that is dropped
+-- a section that is dropped adds none to those that are written
 pub section-passed : (needed : ℕ → Bool) (object : ObjectParts) (i n : ℕ) (s : SectionParts) (old : List SectionParts) → slice_get object.sections i ≡ Some s → is_something (remains_of (needed i) n s) ≡ false
     → old ≡ map (λ e. without_mark (cleaned_section (needed e.0) e.1)) (filter (λ e. is_kept_section e.1) (take i (enumerate_from 0 object.sections)))
     → old ≡ map (λ e. without_mark (cleaned_section (needed e.0) e.1)) (filter (λ e. is_kept_section e.1) (take (i + 1) (enumerate_from 0 object.sections)))
@@ -80,7 +80,7 @@ section-passed needed object i n s old at none before =
     ∙ ap (λ b. old ++ cond b (without_mark (cleaned_section (needed i) s) ∷ []) []) (sym dropped)
     ∙ picked-more (λ e. without_mark (cleaned_section (needed e.0) e.1)) (λ e. is_kept_section e.1) (enumerate_from 0 object.sections) i (i, s) old (entry-at object.sections i s at) before
 
--- all of them
+-- the parts of all sections
 pub sections-all : (needed : ℕ → Bool) (object : ObjectParts) (n : ℕ) (all : List SectionParts) → length object.sections ≤ n
     → all ≡ map (λ e. without_mark (cleaned_section (needed e.0) e.1)) (filter (λ e. is_kept_section e.1) (take n (enumerate_from 0 object.sections)))
     → all ≡ map without_mark (cleaned_sections needed object)
@@ -102,7 +102,7 @@ symbol-turn needed object (suc k) s old some at before =
     made-more (cleaned_symbol needed object) (drop 1 object.symbols) k s old (sym (second object.symbols k) ∙ at) (before ∙ ap (λ n. map (cleaned_symbol needed object) (take n (drop 1 object.symbols))) same)
     ∙ ap (λ n. map (cleaned_symbol needed object) (take n (drop 1 object.symbols))) (sym next)
 
--- all of them
+-- the parts of all symbols
 pub symbols-all : (needed : ℕ → Bool) (object : ObjectParts) (n : ℕ) (all : List SymbolParts) → length object.symbols ≤ n
     → all ≡ map (cleaned_symbol needed object) (take (n - 1) (drop 1 object.symbols)) → all ≡ map (cleaned_symbol needed object) (drop 1 object.symbols)
 symbols-all needed object n all many is =
@@ -123,12 +123,7 @@ lent-found : (symbol : Symbol) (s : SymbolParts) (found : Option Remains) → Is
 lent-found symbol s None is = is
 lent-found symbol s (Some r) is = lent-in symbol s r is
 
--- a symbol that is undefined stays
-pub lent-undefined : (needed : ℕ → Bool) (object : ObjectParts) (symbol : Symbol) (s : SymbolParts) → symbol.home ≡ 0 → IsSymbol symbol s → IsSymbol symbol (cleaned_symbol needed object s)
-lent-undefined needed object symbol s none is =
-    subst (λ t. IsSymbol symbol t) (sym (symbol-undefined needed object s (eq-eqb s.home 0 (sym is.home ∙ none)))) is
-
--- any other goes by what the table has
+-- a symbol with a home goes by what the table has
 pub lent-cleaned : (needed : ℕ → Bool) (object : ObjectParts) (table : List Remains) (symbol : Symbol) (s : SymbolParts) (found : Option Remains) → (symbol.home ≡ 0 → ⊥) → slice_get table symbol.home ≡ found → table ≡ remains_in needed object
     → IsSymbol symbol s → IsSymbol (option_map_or (lent_in symbol) found symbol) (cleaned_symbol needed object s)
 lent-cleaned needed object table symbol s found some got made is =

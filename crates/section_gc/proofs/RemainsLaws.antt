@@ -171,11 +171,7 @@ in-cleaned b n s home = by (is_kept_section home) (is_code_section home && not b
     by true true = refl
     by true false = refl
 
--- an undefined symbol stays
-pub symbol-undefined : (needed : ℕ → Bool) (object : ObjectParts) (s : SymbolParts) → eqb s.home 0 ≡ true → cleaned_symbol needed object s ≡ s
-symbol-undefined needed object s is = ap (λ b. option_map_or (cleaned_in (needed s.home) (new_number object.sections s.home) s) (cond b None (slice_get object.sections s.home)) s) is
-
--- any other goes by the table
+-- a symbol with a home goes by the table
 pub symbol-by : (needed : ℕ → Bool) (object : ObjectParts) (s : SymbolParts) (found : Option Remains) → eqb s.home 0 ≡ false → slice_get (remains_in needed object) s.home ≡ found → cleaned_symbol needed object s ≡ option_map_or (in_remains s) found s
 symbol-by needed object s found other at =
     ap (λ b. option_map_or (cleaned_in (needed s.home) (new_number object.sections s.home) s) (cond b None (slice_get object.sections s.home)) s) other

@@ -44,7 +44,7 @@ clean-is n g s h other at =
     ap (λ b. option_map_or (cleaned_in (n s.home) (new_number g.sections s.home) s) (cond b None (slice_get g.sections s.home)) s) other
     ∙ ap (λ f. option_map_or (cleaned_in (n s.home) (new_number g.sections s.home) s) f s) at
 
--- of a section that stays as it is it gets the new number
+-- a symbol in a section that isn't emptied keeps all but its home, which is the section's new number
 stays : (b : Bool) (m : ℕ) (s : SymbolParts) (h : SectionParts) → is_kept_section h ≡ true → (is_code_section h && not b) ≡ false → cleaned_in b m s h ≡ record s { home = m }
 stays b m s h kept full =
     ap (λ k. cond (not k) (record s { value = 0; home = 0xFFF1 }) (cond (is_code_section h && not b) (record s { value = 0; size = 0; home = m }) (record s { home = m }))) kept

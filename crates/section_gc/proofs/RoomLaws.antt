@@ -177,7 +177,7 @@ module _ (files : List (List ℕ)) (needed : ℕ → ℕ → Bool) (o : ℕ) (pa
     names-are : symbols_room parts.symbols ≡ symbols_room (drop 1 (object_parts file).symbols)
     names-are = ap (λ (p : ObjectParts). symbols_room p.symbols) same ∙ names-stay (needed o) (object_parts file) (drop 1 (object_parts file).symbols)
 
-    -- its symbols' names alone have
+    -- the names of its symbols alone have too many bytes
     pub names-large : 0x40_0000 < symbols_room (drop 1 (object_parts file).symbols) → is_small_object parts ≡ false
     names-large many = large-size parts (let few = names-within parts in omega (arith, few, names-are, many))
 

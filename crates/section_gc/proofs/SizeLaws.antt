@@ -9,12 +9,11 @@ use Rattle.std.proofs.lemmas.List.Concat.{length-flat_map}
 use Rattle.std.proofs.lemmas.List.Elements.{filter-append}
 use Rattle.std.proofs.lemmas.List.Sums.{sum_by-append, sum_by-cons}
 use Rattle.std.proofs.lemmas.Option.{get_or_from_slice_get, slice_get_within}
-use Rattle.elf32_read.specs.Parts.{ObjectParts, SectionParts, SymbolParts, is_kept_section, section_parts, symbol_parts}
+use Rattle.elf32_read.specs.Parts.{ObjectParts, SectionParts, SymbolParts, is_kept_section, section_parts}
 use Rattle.elf32_read.specs.Header.{content_of, header_of, name_section}
 use Rattle.elf32_read.specs.Names.{lacks_strings, name_at, section_names, strings_of}
 use Rattle.elf32_read.specs.Object.{object_fault}
-use Rattle.elf32_read.specs.Symbols.{symbol_entry_of, symbol_names}
-use Rattle.elf32_read.proofs.Faultless.{content_short, few_names, no_fault}
+use Rattle.elf32_read.proofs.Faultless.{content_short, no_fault}
 use Rattle.psabi_sym.specs.Data.{class_of, role_of}
 use Rattle.psabi_sym.specs.declared.section_row.SectionRole.{SectionRole}
 use Rattle.psabi_sym.specs.declared.section_row.SectionRole.TheVariants.{Code, InClass, Dropped}
@@ -181,7 +180,7 @@ size-is parts =
 pub room-within : (parts : ObjectParts) → (parts_room parts.sections).content + (parts_room parts.sections).names ≤ object_size parts
 room-within parts = let size = size-is parts in omega (arith, size)
 
--- nor than its symbols' names
+-- a file has no fewer bytes than the names of its symbols
 pub names-within : (parts : ObjectParts) → symbols_room parts.symbols ≤ object_size parts
 names-within parts = let size = size-is parts in omega (arith, size)
 
@@ -261,9 +260,6 @@ with-none a =
 abbrev pub IsRoomBefore : (ℕ → Bool) → ObjectParts → ℕ → SectionRoom → Type 0
 IsRoomBefore needed object i room = with_room room (parts_room (left_from needed i (drop i object.sections))) ≡ parts_room (cleaned_sections needed object)
 
-pub room-start : (needed : ℕ → Bool) (object : ObjectParts) → IsRoomBefore needed object 0 (parts_room [])
-room-start needed object = none-with (parts_room (cleaned_sections needed object))
-
 pub room-next : (needed : ℕ → Bool) (object : ObjectParts) (i : ℕ) (s : SectionParts) (room more : SectionRoom) → slice_get object.sections i ≡ Some s → more ≡ room_at needed i s
     → IsRoomBefore needed object i room → IsRoomBefore needed object (i + 1) (with_room room more)
 room-next needed object i s room more at is so_far =
@@ -309,9 +305,6 @@ module _ (file : List ℕ) (fine : object_fault file ≡ None) where
   pub section-bytes-short : (i : ℕ) → length (section_parts file i).bytes ≤ 0x40_0000
   section-bytes-short i = omega (arith, short, content_short file (header_of file i))
 
-  pub symbol-name-short : (i : ℕ) → length (symbol_parts file (symbol_entry_of file i)).name ≤ 0x40_0000
-  symbol-name-short i = omega (arith, few_names file fine, name-short (symbol_names file) (symbol_entry_of file i).name)
-
 -- ---- the search
 
 -- no object before this one is too large by itself, the sum is theirs, and the first with which the sum is too large is known
@@ -320,11 +313,6 @@ pub record IsSearchedBefore (objects : List ObjectParts) (i sum : ℕ) (passing 
   pub sum_is : sum ≡ sum_by object_size (take i objects)
   pub most : sum ≤ 0x40_0000 * i
   pub found : find (passes_sum objects) (range_with_len 0 (length objects)) ≡ option_or passing (find (passes_sum objects) (range_with_len i (length objects - i)))
-
-pub search-start : (objects : List ObjectParts) → IsSearchedBefore objects 0 0 None
-search-start objects =
-    let whole : length objects ≡ length objects - 0 = omega arith in
-    record { none = refl; sum_is = refl; most = omega arith; found = ap (λ n. find (passes_sum objects) (range_with_len 0 n)) whole }
 
 pub small-size : (parts : ObjectParts) → is_small_object parts ≡ true → object_size parts ≤ 0x40_0000
 small-size parts small = leb-true (object_size parts) 0x40_0000 (and_parts (leb (section_total parts) 4096) (leb (object_size parts) 0x40_0000) small).1

@@ -202,7 +202,7 @@ module _ (file : List ℕ) (fine : object_fault file ≡ None) where
           let low = reloc_symbol file fine i k (get_or (relocs_of file i) k d) lt (slice_get-get_or (relocs_of file i) k d inside) in
           omega (arith, low, rest, length-symbols file))
 
-  -- all of an object's
+  -- all sections of what is left of an object are sound
   all-sound : (n : ℕ) (needed : ℕ → Bool) (j : ℕ) (ss : List SectionParts) → ((k : ℕ) (s : SectionParts) → slice_get ss k ≡ Some s → is_kept_section s ≡ true → (b : Bool) → IsSoundSection (file_flags file) n (cleaned_section b s)) → All (IsSoundSection (file_flags file) n) (passed_from (λ i s. cleaned_section (needed i) s) j ss)
   all-sound n needed j [] each = All-nil (IsSoundSection (file_flags file) n)
   all-sound n needed j (s ∷ ss) each = by (all-sound n needed (j + 1) ss (λ k t at kept b. each (suc k) t at kept b)) (is_kept_section s) refl

@@ -97,7 +97,7 @@ clean-of needed number n given file order numbers is =
       symbols = is.symbols;
     }
 
--- all of them, from an index on
+-- what is left of objects that have no fault is read so, from an index on
 clean-from : (needed : ℕ → ℕ → Bool) (number : ℕ → ℕ → ℕ) (n : ℕ) (given files : List (List ℕ)) → ((k : ℕ) (file : List ℕ) → slice_get given k ≡ Some file → object_fault file ≡ None)
     → ((k i : ℕ) → number (n + k) i ≡ option_map_or (λ (object : ObjectParts). new_number object.sections i) (slice_get (map object_parts given) k) 0)
     → AllZip IsObjectOf (map without_marks (map (λ e. cleaned_object (needed e.0) e.1) (enumerate_from n (map object_parts given)))) files
@@ -159,7 +159,7 @@ one-needed inputs a b are also = λ k. λ o. λ i. by o i (a o i) refl (b o i) r
     by o i true e false f = absurd (let h = also.all o i (are.only o i e) in cc)
     by o i false e true f = absurd (let h = are.all o i (also.only o i f) in cc)
 
--- so has what is given
+-- two collections of the same objects are the same
 pub one-result : (inputs : Inputs) (c d : Collection) → IsCollection inputs c → IsCollection inputs d → c ≡ d
 one-result inputs c d x y =
     let same = one-needed inputs x.needed y.needed x.collected.are_needed y.collected.are_needed in

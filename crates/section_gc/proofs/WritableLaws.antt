@@ -33,8 +33,6 @@ use Rattle.block_cut.proofs.FaultLaws.{faultless}
 use Rattle.moved_runs.specs.Passes.{passed_from}
 use Rattle.section_gc.specs.Cleaned.{cleaned, cleaned_object, cleaned_section}
 use Rattle.section_gc.specs.Sizes.{first_large, first_oversized, is_small_object, passes_sum}
-use Rattle.section_gc.specs.Written.{without_marks}
-use Rattle.section_gc.proofs.MarkLaws.{without_marks-writable}
 use Rattle.section_gc.proofs.SoundLaws.{sound-parts}
 
 -- ---- numbers of a file
@@ -170,11 +168,6 @@ pub writable : (inputs : Inputs) (needed : ℕ → Bool) (o : ℕ) (file : List 
     → is_small_object (cleaned_object needed (object_parts file)) ≡ true → IsWritable (cleaned_object needed (object_parts file))
 writable inputs needed o file none at small = can-be inputs needed o file none at small
 
--- the parts that the code makes of it can be written
-pub writable-parts : (inputs : Inputs) (needed : ℕ → Bool) (o : ℕ) (file : List ℕ) → first_fault inputs ≡ None → slice_get inputs.files o ≡ Some file
-    → is_small_object (cleaned_object needed (object_parts file)) ≡ true → IsWritable (without_marks (cleaned_object needed (object_parts file)))
-writable-parts inputs needed o file none at small = without_marks-writable (cleaned_object needed (object_parts file)) (writable inputs needed o file none at small)
-
 -- ---- all objects
 
 -- none is too large by itself
@@ -216,7 +209,3 @@ all-writable inputs needed none small o p at =
     let found = cleaned-from needed 0 inputs.files o p at in
     let file = found.0 in
     subst IsWritable (sym found.2) (writable inputs (needed (0 + o)) o file none found.1 (ap is_small_object (sym found.2) ∙ fits))
-
-pub all-writable-parts : (inputs : Inputs) (needed : ℕ → ℕ → Bool) → first_fault inputs ≡ None → first_oversized (cleaned needed (parsed inputs).objects) ≡ None
-    → (o : ℕ) (p : ObjectParts) → slice_get (cleaned needed (parsed inputs).objects) o ≡ Some p → IsWritable (without_marks p)
-all-writable-parts inputs needed none small o p at = without_marks-writable p (all-writable inputs needed none small o p at)

@@ -55,7 +55,7 @@ abbrev pub kept_room : (ℕ → ℕ → Bool) → IndexedSection → SectionRoom
 kept_room needed l =
     if is_kept_section l.section then part_room (cleaned_section (needed l.object l.index) l.section) else parts_room []
 
--- the room of both
+-- two rooms together
 abbrev pub with_room : SectionRoom → SectionRoom → SectionRoom
 with_room a b = record { headers = a.headers + b.headers; content = a.content + b.content; names = a.names + b.names }
 

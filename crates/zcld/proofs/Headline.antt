@@ -1,7 +1,12 @@
 -- The headline from what a call does: of an outcome that is Done, only the case is left in which the command did its work.
 use Rattle.std.proofs.Common.{◌≡◌, ℕ, suc, List, [], ◌∷◌, length, map, Option, Some, None, refl, sym, ap, ap₂, subst, ◌∙◌, inl, inr}
 use Rattle.std.proofs.lemmas.Option.{same_Some, none-some}
-use Rattle.psabi_sym.specs.Inputs.{inputs_in}
+use Rattle.std.proofs.lemmas.List.{length-map}
+use Rattle.elf32_read.specs.Parts.{object_parts}
+use Rattle.elf32_write.specs.ObjectFile.{object_bytes}
+use Rattle.psabi_sym.specs.Inputs.{Inputs, inputs_in, parsed}
+use Rattle.section_gc.specs.Cleaned.{cleaned}
+use Rattle.section_gc.proofs.RoomLaws.{length-cleaned}
 use Rattle.section_gc.specs.Collected.{Collection, IsCollection}
 use Rattle.zc_base.specs.MemMap.{standard_map}
 use Rattle.zc_base.specs.declared.mem_map.MemMap.{MemMap}
@@ -97,6 +102,12 @@ module _ (memory : MemMap) (before after : World) where
         preserves,
       )
 
+-- there are as many results as objects
+as_many : (inputs : Inputs) (c : Collection) → IsCollection inputs c → length c.files ≡ length inputs.files
+as_many inputs c is =
+    ap length is.collected.files_are ∙ length-map (cleaned is.needed (parsed inputs).objects) object_bytes
+    ∙ length-cleaned is.needed 0 (parsed inputs).objects ∙ length-map inputs.files object_parts
+
 module _ (before after : World) where
   -- objects were read, and what is put is what is left of them
   holds_collection :
@@ -113,6 +124,7 @@ module _ (before after : World) where
         files,
         c.files,
         stood f OBJECT_LIMIT names files (subst (λ a. AreRead a (objects_wanted names) files) told read),
+        as_many (inputs_in standard_map files) c collected,
         results_stand f g between.shelf.files prefix c.files kept put,
         collection_preserves standard_map files c collected,
       )

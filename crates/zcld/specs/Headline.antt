@@ -29,11 +29,11 @@ pub record PreservesMoved (moved : Place → Place) (inputs : Inputs) (elf : Lis
   pub read : image_in elf inputs.map ≡ Some image
   pub follows : FollowsAlways (program_of (parsed inputs)) (record image { address = λ q. image.address (moved q) })
 
--- objects stood under the names, and results stand under PREFIX0.o and so on; whatever image does what the results' program does, does
+-- objects stood under the names, and as many results stand under PREFIX0.o and so on; whatever image does what the results' program does, does
 -- what the objects' program does, with sections under their new numbers
 abbrev pub HoldsCollection : List ℕ → List (List ℕ) → Files → Files → Type 0
 HoldsCollection prefix names before after =
-    (objects results : List (List ℕ)) × (map before names ≡ map Some objects)
+    (objects results : List (List ℕ)) × (map before names ≡ map Some objects) × (length results ≡ length objects)
     × (map after (names_from prefix 0 (length results)) ≡ map Some results)
     × ((elf : List ℕ) → Preserves (inputs_in standard_map results) elf →
     PreservesMoved (collected_place (inputs_in standard_map objects)) (inputs_in standard_map objects) elf)

@@ -1,4 +1,4 @@
--- The objects that a command links or traces, and why they are refused.
+-- The objects that a command reads, and why they are refused.
 use Rattle.std.specs.Prelude.{◌≡◌, ℕ, ◌⊎◌, List, Option, Some, None}
 use Rattle.std.specs.Option.{option_map}
 use Rattle.zc_outside.specs.Files.{Files}

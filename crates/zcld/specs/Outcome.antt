@@ -25,7 +25,7 @@ abbrev pub link_outcome : LinkFault → Outcome
 link_outcome (link.Object i fault) = Refused i fault
 link_outcome link.OutOfMemory = OutOfMemory
 
--- the outcome when there are no objects without what isn't needed
+-- the outcome when `gc` has no results
 abbrev pub gc_outcome : GcFault → Outcome
 gc_outcome (gc.Object i fault) = Refused i fault
 gc_outcome (gc.Broken i fault) = Broken i fault

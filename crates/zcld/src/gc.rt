@@ -28,8 +28,8 @@ use zc_base::mem_map::MemMap;
 use zc_outside::console::Console;
 use zc_outside::store::Store;
 
-/// Leaves the code that nothing reaches out of the objects, and writes how much is kept. The files are kept for the line of a
-/// refusal.
+/// Leaves the code that nothing reaches out of the objects, and writes how much is kept. The files are kept for the
+/// line of a refusal.
 pub fn gc<S: Store, C: Console>(
     alloc: Global,
     args: &GcArgs,

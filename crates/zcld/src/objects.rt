@@ -1,4 +1,4 @@
-// The files of the objects that a command links or traces.
+// The files of the objects that a command reads.
 
 ghost use Rattle.std.specs.Prelude.{◌≡◌, ◌<◌, ◌+◌, ◌++◌, ◌∷◌, ◌^◌, [], false, List, ℕ, IfErr, IfOk, IfSome, None, length, nat_lt};
 ghost use Rattle.std.specs.Option.{option_map, option_or};

@@ -27,7 +27,9 @@ pub enum FileFault {
 }
 
 /// How a call ends. A refusal names the object, by its index among those of the command line, and the first fault in
-/// it; likewise if the objects have none, but would have one without the code that nothing reaches. A stop names the reason and the program counter, a program that is stuck the place and the reason.
+/// it. `Broken` names an object and its first fault in the same way, of objects that have no fault but would have one
+/// without the code that nothing reaches. A stop names the reason and the program counter, a program that is stuck the
+/// place and the reason.
 #[derive(Clone, Copy, PartialEq, Eq, Debug)]
 pub enum Outcome {
     Done,
