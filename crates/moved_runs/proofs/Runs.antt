@@ -259,3 +259,21 @@ module _ (K V : Place → Type 0) (M : Place → Place) (p p' : Program) (shared
       let first : PlainState = record { core = first_plain p input; events = [] } in
       all-turns n first r (record { core = first_plain p' input; events = [] }) (first-fit K V M p p' shared.moves input) (first-quiet p shared.starts input)
       (record { core = first-moved K V M p p' shared.moves input ∙ ap (λ q. moved_at M q (first_plain p input)) (sym shared.moves.entry); place = λ _. shared.moves.entry; events = refl }) h
+
+  fits-on : (n : ℕ) (r r' : PlainState) → Fit K V r.core → Quiet p.map r.core → iterate (plain_turn p) n r ≡ Ok r' → Fit K V r'.core
+  fits-on zero r r' fit quiet h = let same : r ≡ r' = cc in subst (λ x. Fit K V x.core) same fit
+  fits-on (suc n) r r' fit quiet h = by-exit r.core.exit refl (λ r1 fit1 quiet1 rest. fits-on n r1 r' fit1 quiet1 rest)
+    where
+      by-exit : (o : Option ℕ) → r.core.exit ≡ o → ((r1 : PlainState) → Fit K V r1.core → Quiet p.map r1.core → iterate (plain_turn p) n r1 ≡ Ok r' → Fit K V r'.core) → Fit K V r'.core
+      by-exit (Some status) exited again = let same = stays p (suc n) r r' status exited h in subst (Fit K V) (sym same.0) fit
+      by-exit None running again =
+          let first = bind_ok (plain_turn p r) (iterate (plain_turn p) n) r' h in
+          let one = one-turn r first.0 fit quiet running first.1 in
+          again first.0 one.fit one.quiet first.2
+
+  -- the places in the state that a run comes to are named
+  pub sharing-named : (input : List ℕ) (n : ℕ) (r : PlainState) → program_after p input n ≡ Ok r → NamedCore K r.core
+  unfolding program_after
+  sharing-named input n r h =
+      let fit = fits-on n (record { core = first_plain p input; events = [] }) r (first-fit K V M p p' shared.moves input) (first-quiet p shared.starts input) h in
+      fit.named

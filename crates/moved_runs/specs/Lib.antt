@@ -1,4 +1,5 @@
 pub mod Moved
 pub mod Named
+pub mod Leads
 pub mod Moves
 pub mod Passes

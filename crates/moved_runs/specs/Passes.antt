@@ -1,10 +1,11 @@
 -- Passes that write objects: what the result keeps of the given objects. The kept sections stay in their order and in their roles,
 -- all data stay as they are, and symbols stay under their numbers, with their names and bindings. What becomes of code, of
 -- relocations and of a symbol's place is the pass's own.
-use Rattle.std.specs.Prelude.{◌≡◌, ◌≤◌, ◌<◌, ◌⊎◌, ◌+◌, ℕ, true, false, ◌&&◌, ◌==◌, List, [], ◌∷◌, ◌++◌, length, take, drop, filter, map, All}
+use Rattle.std.specs.Prelude.{◌≡◌, ◌≤◌, ◌<◌, ◌⊎◌, ◌+◌, ℕ, true, false, ◌&&◌, ◌==◌, if◌then◌else◌, List, [], ◌∷◌, ◌++◌, length, take, drop, filter, map, slice_get, All, Option, None}
 use Rattle.std.specs.List.{enumerate_from, list_any}
+use Rattle.std.specs.Option.{option_map_or}
 use Rattle.elf32_read.specs.Parts.{ObjectParts, SectionParts, SymbolParts, is_code_section, is_kept_section}
-use Rattle.psabi_sym.specs.Inputs.{ParsedInputs}
+use Rattle.psabi_sym.specs.Inputs.{Inputs, ParsedInputs}
 
 -- ---- what stays of sections and symbols
 
@@ -25,7 +26,15 @@ pub record KeepsSymbol (s t : SymbolParts) : Type 0 where
   pub undefined : (t.home == 0) ≡ (s.home == 0)
   pub whole : (s.home == 0xFFF2) ≡ true → t ≡ s
 
+-- the section that a symbol is in, if it is in one
+abbrev pub home_of : ObjectParts → SymbolParts → Option SectionParts
+home_of object s = if s.home == 0 then None else slice_get object.sections s.home
+
 -- ---- the given objects
+
+-- the inputs with other files
+abbrev pub with_files : Inputs → List (List ℕ) → Inputs
+with_files inputs files = record { files = files; map = inputs.map }
 
 -- a symbol is in a section of its object, a number by itself (ABS, 0xFFF1), or common; a local one isn't undefined
 pub record IsHomed (object : ObjectParts) (s : SymbolParts) : Type 0 where
@@ -53,9 +62,25 @@ pub record Pass : Type 0 where
 abbrev pub new_number : List SectionParts → ℕ → ℕ
 new_number sections i = 1 + length (filter is_kept_section (take i sections))
 
+-- the new number of a section, by its object's index and its own
+abbrev pub renumbered : List ObjectParts → ℕ → ℕ → ℕ
+renumbered objects o i = option_map_or (λ object. new_number object.sections i) (slice_get objects o) 0
+
 -- what becomes of the kept ones of these sections, the first of which has this index
 abbrev pub passed_from : (ℕ → SectionParts → SectionParts) → ℕ → List SectionParts → List SectionParts
 passed_from section i sections = map (λ e. section e.0 e.1) (filter (λ e. is_kept_section e.1) (enumerate_from i sections))
+
+-- what is written of an object, with the same e_flags: its kept sections in order, and its symbols but symbol 0, which is no part
+abbrev pub passed_object : Pass → ℕ → ObjectParts → ObjectParts
+passed_object pass o object = record {
+  flags = object.flags;
+  sections = passed_from (pass.section o) 0 object.sections;
+  symbols = map (pass.symbol o object) (drop 1 object.symbols);
+}
+
+-- the same of all objects
+abbrev pub passed_objects : Pass → List ObjectParts → List ObjectParts
+passed_objects pass objects = map (λ e. passed_object pass e.0 e.1) (enumerate_from 0 objects)
 
 -- an object of the result, of the given object with this index. Before the kept sections stands a section 0, behind them may stand
 -- others: all these are dropped

@@ -19,7 +19,7 @@ use Rattle.sym_machine.specs.AddressParts.{high_word, low_sum, pc_low_sum, pc_ta
 use Rattle.sym_machine.specs.Program.{Program}
 use Rattle.sym_machine.specs.Words.{code_from, code_of, code_word, is_part, is_value, number_word, same_value, undef_word, value_word}
 use Rattle.zc_link.specs.Image.{Image}
-use Rattle.zc_link.specs.Invariants.Leads.{NamesTarget}
+use Rattle.moved_runs.specs.Named.{IsNamedTarget}
 use Rattle.zc_link.specs.Invariants.Room.{Room}
 use Rattle.zc_link.specs.Sound.{NamesWord}
 use Rattle.zc_link.specs.Stands.{ByteStands, WordStands}
@@ -196,7 +196,7 @@ module _ (Named : Place → Type 0) where
   pub code_names : (q : Place) → Named q → NamesWord Named (code_word q)
   code_names q named = (named, named, named, named)
 
-  pub target_names : (t : Target) → NamesTarget Named t → NamesWord Named (target_word t)
+  pub target_names : (t : Target) → IsNamedTarget Named t → NamesWord Named (target_word t)
   target_names (target.Code q) named = code_names q named
   target_names (target.Number n) named = number_names Named n
   target_names (target.Absent n) named = number_names Named n
@@ -213,12 +213,12 @@ module _ (Named : Place → Type 0) where
   if_names true w names = names
   if_names false w names = undef_names Named
 
-  pub low_names : (t : Target) (base : SymWord) → NamesTarget Named t → NamesWord Named base → NamesWord Named (low_sum t base)
+  pub low_names : (t : Target) (base : SymWord) → IsNamedTarget Named t → NamesWord Named base → NamesWord Named (low_sum t base)
   low_names (target.Code q) base named names = if_names (is_value (AbsHi q) base) (code_word q) (code_names q named)
   low_names (target.Number n) base named names = sum_names Named base (lo12_of n) names
   low_names (target.Absent n) base named names = sum_names Named base (lo12_of n) names
   low_names target.Nowhere base named names = undef_names Named
 
-  pub pc_low_names : (q : Place) (o : Option Target) (base : SymWord) → ((t : Target) → o ≡ Some t → NamesTarget Named t) → NamesWord Named (pc_low_sum q o base)
+  pub pc_low_names : (q : Place) (o : Option Target) (base : SymWord) → ((t : Target) → o ≡ Some t → IsNamedTarget Named t) → NamesWord Named (pc_low_sum q o base)
   pc_low_names q None base named = if_names (is_value (PcHi q) base) undef_word (undef_names Named)
   pc_low_names q (Some t) base named = if_names (is_value (PcHi q) base) (target_word t) (target_names t (named t refl))

@@ -32,14 +32,16 @@ use Rattle.sym_machine.specs.declared.word.SymByte.TheVariants.{Num, Undef}
 use Rattle.sym_machine.specs.declared.word.Value.{Value}
 use Rattle.sym_machine.specs.declared.word.Value.TheVariants as value
 use Rattle.zc_link.specs.LaidOut.{ListsLeaders}
-use Rattle.zc_link.specs.Invariants.Leads.{NamesTarget}
+use Rattle.moved_runs.specs.Named.{IsNamedTarget}
 use Rattle.zc_link.specs.ImageParts.{data_value, image_data, with_data_word}
 use Rattle.zc_link.specs.Standing.{HasValue}
-use Rattle.zc_link.specs.Sound.{IsNamed, NamesByte}
+use Rattle.moved_runs.specs.Leads.{IsNamed}
+use Rattle.zc_link.specs.Sound.{NamesByte}
 use Rattle.zc_link.specs.Stands.{ByteStands}
 use Rattle.zc_link.specs.Values.{target_value}
-use Rattle.zc_link.proofs.Faultless.{reloc_value, target_good}
-use Rattle.zc_link.proofs.Led.{AsksIn, leader_named, reloc_leader}
+use Rattle.moved_runs.proofs.Faultless.{target_good}
+use Rattle.zc_link.proofs.Faultless.{reloc_value}
+use Rattle.moved_runs.proofs.Led.{AsksIn, leader_named, reloc_leader}
 use Rattle.zc_link.proofs.Within.{IsWithin, all_words, content_within, word_field, words_within}
 
 -- ---- one list over another
@@ -153,7 +155,7 @@ module _ (p : ParsedInputs) (A : Place → Option ℕ) (Named : Place → Type 0
       byte (suc (suc (suc zero))) lt = ((x, place q ∙ at, omega arith), named)
       byte (suc (suc (suc (suc k)))) lt = absurd (omega arith)
 
-  target_fine : (t : Target) → HasValue A t → NamesTarget Named t → AreFine (bytes_of (target_word t)) (word_bytes (unwrap_or (target_value A t) 0))
+  target_fine : (t : Target) → HasValue A t → IsNamedTarget Named t → AreFine (bytes_of (target_word t)) (word_bytes (unwrap_or (target_value A t) 0))
   target_fine (target.Code q) has named = code_fine (unwrap_or (A q) 0) q (has.1 ∙ ap Some (sym (ap (λ o. unwrap_or o 0) has.1))) named
   target_fine (target.Number n) has named = number_fine n n refl
   target_fine (target.Absent n) has named = number_fine n n refl
@@ -195,7 +197,7 @@ module _ (p : ParsedInputs) (A : Place → Option ℕ) (Named : Place → Type 0
   pub record IsFineWord (w : DataWord) : Type 0 where
     pub within : IsWithin p w
     pub has : HasValue A w.target
-    pub named : NamesTarget Named w.target
+    pub named : IsNamedTarget Named w.target
 
   filled_fine : (ws : List DataWord) (ss : List SymByte) (bs : List ℕ) → All IsFineWord ws → data_file_end p - p.map.data_low ≤ length bs → AreFine ss bs
       → AreFine (fold (with_target_word p) ss ws) (fold (with_data_word p A) bs ws)
@@ -215,7 +217,7 @@ module _ (inputs : Inputs) (none : first_fault inputs ≡ None) where
   abbrev p0 : ParsedInputs
   p0 = parsed inputs
 
-  target_named : (t : Target) → ((to : Place) → t ≡ target.Code to → IsNamed p0 to) → NamesTarget (IsNamed p0) t
+  target_named : (t : Target) → ((to : Place) → t ≡ target.Code to → IsNamed p0 to) → IsNamedTarget (IsNamed p0) t
   target_named (target.Code to) each = each to refl
   target_named (target.Number n) each = tt
   target_named (target.Absent n) each = tt

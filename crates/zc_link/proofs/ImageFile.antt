@@ -41,7 +41,8 @@ use Rattle.zc_link.specs.Pace.{pace_of}
 use Rattle.zc_link.specs.Places.{listed_address}
 use Rattle.zc_link.specs.Preserves.{Preserves}
 use Rattle.zc_link.specs.Invariants.Room.{Room}
-use Rattle.zc_link.specs.Sound.{IsNamed, NamesByte}
+use Rattle.moved_runs.specs.Leads.{IsNamed}
+use Rattle.zc_link.specs.Sound.{NamesByte}
 use Rattle.zc_link.specs.Standing.{IsReady}
 use Rattle.zc_link.specs.Stands.{ByteStands}
 use Rattle.zc_link.specs.TextLayout.{TextLayout, behind, stretch_in}
@@ -50,7 +51,7 @@ use Rattle.zc_link.specs.Written.{HoldsPlace, HoldsUnit, IsTextOf, IsWritten}
 use Rattle.zc_link.proofs.ImageMemory.{AreLaidOut, image_of}
 use Rattle.zc_link.proofs.Adds.{AreBytes}
 use Rattle.zc_link.proofs.ImageData.{AreFine, data_fine, length-image_data}
-use Rattle.zc_link.proofs.Faultless.{all_none}
+use Rattle.moved_runs.proofs.Faultless.{all_none}
 use Rattle.zc_link.proofs.FrontLaws.{front_within, size_some, starts_at_stub, starts_there}
 use Rattle.zc_link.proofs.LaidLaws.{unit_there}
 use Rattle.zc_link.proofs.StretchesLaid.{ShowsLayout, distinct, each, even}
@@ -58,7 +59,7 @@ use Rattle.zc_link.proofs.SizedPieces.{few, some}
 use Rattle.zc_link.proofs.TablesLaid.{stub_laid}
 use Rattle.zc_link.proofs.Lookup.{found_holds, listed_placed, lookup}
 use Rattle.zc_link.proofs.ListedPlaces.{are_inside, ascends, entries, places_few}
-use Rattle.zc_link.proofs.ProgramLeads.{leads_faultless}
+use Rattle.moved_runs.proofs.ProgramLeads.{leads_faultless}
 use Rattle.zc_link.proofs.Simulation.{laid_preserves, simulates}
 use Rattle.std.specs.Option.{is_some}
 use Rattle.sym_machine.specs.declared.word.Value.TheVariants as value

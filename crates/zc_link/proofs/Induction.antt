@@ -19,10 +19,11 @@ use Rattle.sym_machine.proofs.RunLaws.{all_stay}
 use Rattle.zc_machine.specs.Run.{first_state, machine_after, zc_turns}
 use Rattle.zc_machine.proofs.TurnLaws.{zc_turns-add}
 use Rattle.zc_link.specs.Image.{Image, image_in, loaded_core}
-use Rattle.zc_link.specs.Preserves.{Follows, FollowsAlways, Preserves}
+use Rattle.zc_link.specs.Preserves.{Follows, FollowsWithin, Preserves}
 use Rattle.zc_link.specs.Pace.{lead_from, lead_of, Pace, pace_of}
 use Rattle.zc_link.specs.IsSimulation.{IsSimulation}
-use Rattle.zc_link.specs.Sound.{IsNamed, Sound, Together}
+use Rattle.moved_runs.specs.Leads.{IsNamed}
+use Rattle.zc_link.specs.Sound.{Sound, Together}
 use Rattle.zc_link.specs.Stands.{Stands}
 use Rattle.zc_link.specs.TextLayout.{TextLayout, stretch_in}
 
@@ -137,7 +138,7 @@ module _ (p : Program) (Named : Place → Type 0) (e : Image) (pace : Pace) (law
   all_steps zero (suc n) r r' within h = absurd (omega (arith, within))
   all_steps (suc fuel) (suc n) r r' within h = some_steps (suc n) r r' (omega arith) h (λ k r1 lt g. all_steps fuel k r1 r' (omega (arith, lt, within)) g)
 
-  pub follows : FollowsAlways p e
+  pub follows : FollowsWithin 64 p e
   unfolding program_after machine_after
   follows input n s bytes h =
       let lead = lead_of p e in

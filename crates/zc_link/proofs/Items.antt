@@ -22,7 +22,8 @@ use Rattle.sym_machine.specs.Program.{Program}
 use Rattle.sym_machine.specs.State.{PlainState, reg_of}
 use Rattle.sym_machine.specs.Words.{sum_word}
 use Rattle.zc_link.specs.Image.{Image}
-use Rattle.zc_link.specs.Invariants.Leads.{Leads, NamesTarget}
+use Rattle.moved_runs.specs.Leads.{Leads}
+use Rattle.moved_runs.specs.Named.{IsNamedTarget}
 use Rattle.zc_link.specs.Invariants.Stretches.{AloneLaid, ItemLaid, OneLaid}
 use Rattle.zc_link.specs.Invariants.Room.{Room}
 use Rattle.zc_link.specs.IsSimulation.{Comes}
@@ -39,15 +40,15 @@ use Rattle.zc_link.proofs.Singles.{FromSound, single_comes}
 use Rattle.zc_link.proofs.Words.{sum_stands}
 
 -- what the `auipc` at a place leads to is named
-pc_named : {p : Program} {Named : Place → Type 0} → Leads p Named → (q : Place) (t : Target) → pc_target (p.item q) ≡ Some t → NamesTarget Named t
+pc_named : {p : Program} {Named : Place → Type 0} → Leads p Named → (q : Place) (t : Target) → pc_target (p.item q) ≡ Some t → IsNamedTarget Named t
 pc_named {p} {Named} leads q t h = by (p.item q) refl h
   where
-    by : (o : Option Item) → p.item q ≡ o → pc_target o ≡ Some t → NamesTarget Named t
+    by : (o : Option Item) → p.item q ≡ o → pc_target o ≡ Some t → IsNamedTarget Named t
     by None is g = absurd cc
     by (Some (Op i)) is g = absurd cc
     by (Some (Hi i u)) is g = absurd cc
     by (Some (Lo i u)) is g = absurd cc
-    by (Some (PcHi i t1)) is g = let same : t1 ≡ t = cc in subst (NamesTarget Named) same (leads.item q (PcHi i t1) is)
+    by (Some (PcHi i t1)) is g = let same : t1 ≡ t = cc in subst (IsNamedTarget Named) same (leads.item q (PcHi i t1) is)
     by (Some (PcLo i from)) is g = absurd cc
     by (Some (Branch op first second to)) is g = absurd cc
     by (Some (Jump rd to)) is g = absurd cc

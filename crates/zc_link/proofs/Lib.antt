@@ -55,10 +55,6 @@ pub mod Stub
 pub mod Start
 pub mod Induction
 pub mod Simulation
-pub mod Elements
-pub mod Led
-pub mod StartLed
-pub mod ProgramLeads
 pub mod ListedLaws
 pub mod WayLaws
 pub mod MeantLaws

@@ -19,7 +19,7 @@ use Rattle.shrink_layout.proofs.PlaceLaws.{same_place-refl, same_place-true}
 use Rattle.zc_link.specs.Places.{listed_address}
 use Rattle.zc_link.specs.ImageParts.{listed_places, with_address}
 use Rattle.zc_link.specs.TextLayout.{TextLayout}
-use Rattle.zc_link.proofs.Elements.{any_flat, any_offset}
+use Rattle.moved_runs.proofs.Elements.{any_flat, any_offset}
 
 -- what holds of all entries of a list holds of the one that is found
 pub found_holds : (P : Place × ℕ → Type 0) (es : List (Place × ℕ)) (q : Place) (a : ℕ) → All P es → listed_address es q ≡ Some a → P (q, a)

@@ -35,12 +35,15 @@ use Rattle.zc_link.specs.Pace.{bytes_between}
 use Rattle.zc_link.specs.Standing.{HasOwnSize, IsReady}
 use Rattle.zc_link.specs.TextLayout.{TextLayout, behind, plain_layout, size_in}
 use Rattle.zc_link.specs.Values.{way}
-use Rattle.zc_link.proofs.Faultless.{all_none, start_listed}
+use Rattle.moved_runs.proofs.Faultless.{all_none}
+use Rattle.zc_link.proofs.Faultless.{start_listed}
 use Rattle.zc_link.proofs.ItemUnits.{item_behind, item_unit, item_written, no_group, no_site, single_inside}
 use Rattle.zc_link.proofs.SizedPieces.{size_is}
 use Rattle.zc_link.proofs.PlainEnds as ends
 use Rattle.zc_link.proofs.PlainEnds.{code_found}
-use Rattle.zc_link.proofs.HalfNormals.{IsHalfNormal, link_short, normal_there, zero_short}
+use Rattle.zca_zcb_pass.proofs.HalfNormals.{IsHalfNormal}
+use Rattle.zca_zcb_pass.proofs.ShortDistances.{link_short, zero_short}
+use Rattle.zc_link.proofs.HalfNormals.{normal_there}
 use Rattle.zc_link.proofs.PlainReach.{branch_near, branch_reaches, jump_near}
 use Rattle.zc_link.proofs.ShortWays.{way_distance, way_jumps}
 use Rattle.zc_link.proofs.Standing.{item_own, item_stands}
@@ -119,7 +122,7 @@ module _ (inputs : Inputs) (ready : IsReady inputs) where
       short_branches two =
           let here = item_here inputs none q (Branch op first second to) is in
           let stands = (item_stands inputs none ready A leaders q here.section here.code (Branch op first second to) is).0 in
-          zero_short op first second (as_signed (way a b)) (spelled_there (Branch op first second to) is (instr.Branch op first second) stands.distance two stands.spells)
+          zero_short op first second (as_signed (way a b)) (spelled_there (Branch op first second to) is (instr.Branch op first second) stands.distance two stands.spells).0
           (ap short_branch_reach way_is ∙ branch_near inputs ready.faultless q to a b from there op first second is two)
 
     module _ (rd : ℕ) (is : item_at p q ≡ Some (Jump rd to)) where
@@ -127,7 +130,7 @@ module _ (inputs : Inputs) (ready : IsReady inputs) where
       short_jumps two =
           let here = item_here inputs none q (Jump rd to) is in
           let stands = (item_stands inputs none ready A leaders q here.section here.code (Jump rd to) is).0 in
-          link_short rd (as_signed (way a b)) (spelled_there (Jump rd to) is (instr.Jal rd) stands.distance two stands.spells)
+          link_short rd (as_signed (way a b)) (spelled_there (Jump rd to) is (instr.Jal rd) stands.distance two stands.spells).0
           (ap short_jump_reach way_is ∙ jump_near inputs ready.faultless q to a b from there rd is two)
 
   -- the place behind what is written is the one after the item

@@ -18,7 +18,7 @@ use Rattle.block_cut.proofs.ItemLaws.{item_found}
 use Rattle.block_cut.proofs.ListedLaws.{cut_at, listed}
 use Rattle.block_cut.proofs.WholeLaws.{code_is_section}
 use Rattle.shrink_layout.proofs.TargetLaws.{mapped_none}
-use Rattle.zc_link.proofs.Faultless.{AreFaultless, all_none, find_among, find_flat}
+use Rattle.moved_runs.proofs.Faultless.{AreFaultless, all_none, find_among, find_flat}
 
 module _ (inputs : Inputs) (none : first_fault inputs ≡ None) where
   abbrev p : ParsedInputs

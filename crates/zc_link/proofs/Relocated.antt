@@ -24,7 +24,7 @@ use Rattle.sym_machine.specs.Program.{Program}
 use Rattle.sym_machine.specs.State.{PlainCore, reg_of}
 use Rattle.sym_machine.specs.Words.{value_word}
 use Rattle.zc_link.specs.Image.{Image}
-use Rattle.zc_link.specs.Invariants.Leads.{NamesTarget}
+use Rattle.moved_runs.specs.Named.{IsNamedTarget}
 use Rattle.zc_link.specs.Invariants.Room.{Room}
 use Rattle.zc_link.specs.Sound.{NamesWord, Ready}
 use Rattle.zc_link.specs.Stands.{WordStands}
@@ -130,7 +130,7 @@ module _ {p : Program} {Named : Place → Type 0} {e : Image} {s : PlainCore} {z
 
     -- an instruction with the lower part of an address
     pub lo_moves :
-        (i : Instr) (t : Target) (x : ℕ) → target_value e.address t ≡ Some x → NamesTarget Named t → HasRegisters (with_imm i (lo12_of x))
+        (i : Instr) (t : Target) (x : ℕ) → target_value e.address t ≡ Some x → IsNamedTarget Named t → HasRegisters (with_imm i (lo12_of x))
         → (is_jalr i ≡ true → Named next) → by_sum i (low_sum t (reg_of s (base_register i))) s next ≡ Goes c → Moves p Named e (with_imm i (lo12_of x)) size c s z
     lo_moves i t x is names registers named h =
         let base = base_register i in
@@ -141,7 +141,7 @@ module _ {p : Program} {Named : Place → Type 0} {e : Image} {s : PlainCore} {z
 
     -- an instruction with the lower part of the distance from an `auipc`
     pub pc_lo_moves :
-        (i : Instr) (from : Place) (t : Target) (a x : ℕ) → pc_target (p.item from) ≡ Some t → ((u : Target) → pc_target (p.item from) ≡ Some u → NamesTarget Named u)
+        (i : Instr) (from : Place) (t : Target) (a x : ℕ) → pc_target (p.item from) ≡ Some t → ((u : Target) → pc_target (p.item from) ≡ Some u → IsNamedTarget Named u)
         → e.address from ≡ Some a → target_value e.address t ≡ Some x → HasRegisters (with_imm i (lo12_of (way a x)))
         → (is_jalr i ≡ true → Named next) → by_sum i (pc_low_sum from (pc_target (p.item from)) (reg_of s (base_register i))) s next ≡ Goes c
         → Moves p Named e (with_imm i (lo12_of (way a x))) size c s z

@@ -35,7 +35,7 @@ use Rattle.shrink_layout.proofs.PremiseLaws.{all_aligned, all_even, room_few}
 use Rattle.zc_link.specs.LaidOut.{code_end_after, laid_section_end, text_end}
 use Rattle.zc_link.specs.TextLayout.{TextLayout, front_end, zc_layout}
 use Rattle.zc_link.proofs.EachSection.{before_each, of_all}
-use Rattle.zc_link.proofs.Led.{first_leader}
+use Rattle.moved_runs.proofs.Led.{first_leader}
 use Rattle.zc_link.proofs.PlainEnds.{code_found}
 
 -- ---- targets

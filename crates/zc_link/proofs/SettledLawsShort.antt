@@ -1,39 +1,18 @@
 -- Short branches and jumps: one that has a short form at some distance has one at each distance that this reaches.
-use Rattle.std.proofs.Common.{◌≡◌, ℕ, suc, ◌-◌, ◌%◌, ◌^◌, ℤ, pos, negsuc, Bool, true, false, cond, None, refl, sym, ap, ◌∙◌, arith, eqb, ltb}
+use Rattle.std.proofs.Common.{◌≡◌, ℕ, ℤ, Bool, true, false, cond, None, refl, sym, ap, ◌∙◌, eqb, ltb}
 use Rattle.std.specs.Prelude.{◌&&◌, is_some}
-use Rattle.std.proofs.Math.Nat.{mod-mod_of_dvd}
-use Rattle.std.proofs.lemmas.Bool.{and_from, and_parts, eq-eqb, eqb-true}
-use Rattle.std.proofs.lemmas.Nat.Gcd.{dvd_of_mod-eq-zero}
-use Rattle.psabi_reloc.specs.Reaches.{is_even_of, short_branch_reach, short_jump_reach}
+use Rattle.std.proofs.lemmas.Bool.{and_from}
+use Rattle.psabi_reloc.specs.Reaches.{short_branch_reach, short_jump_reach}
 use Rattle.rv_decode.specs.declared.instr.BranchOp.{BranchOp}
 use Rattle.rv_decode.specs.declared.instr.BranchOp.TheVariants.{Beq, Bne, Blt, Bge, Bltu, Bgeu}
 use Rattle.rv_decode.specs.declared.instr.Instr.TheVariants as instr
 use Rattle.rv_decode.specs.Normal.{greater_branch, normal_branch}
 use Rattle.shrink_layout.specs.Pieces.{is_short}
-use Rattle.zc_encode.specs.Halves.{beqz_half, half_for, has_bits, is_popular, is_signed, jump_half, low_bits, when}
+use Rattle.zc_encode.specs.Halves.{beqz_half, half_for, is_popular, is_signed, jump_half}
 use Rattle.zc_encode.proofs.NumberLaws.{and_three}
-
--- ---- distances
-
--- an even distance of `bits` bits is a signed number that a halfword holds
-pub signed_two : (bits : ℕ) → 2 ^ bits % 2 ≡ 0 → (z : ℤ) → is_even_of bits z ≡ true → is_signed bits 2 z ≡ true
-signed_two bits whole (pos n) h =
-    let two = and_parts (ltb n (2 ^ (bits - 1))) (eqb (n % 2) 0) h in
-    let even : n % 2 ≡ 0 = eqb-true (n % 2) 0 two.1 in
-    let low : low_bits bits (pos n) % 2 ≡ n % 2 ^ 32 % 2 = mod-mod_of_dvd 2 (n % 2 ^ 32) (dvd_of_mod-eq-zero 2 whole) in
-    and_from (has_bits bits (pos n)) (eqb (low_bits bits (pos n) % 2) 0) two.0 (eq-eqb (low_bits bits (pos n) % 2) 0 (low ∙ omega (arith, even)))
-signed_two bits whole (negsuc n) h =
-    let two = and_parts (ltb n (2 ^ (bits - 1))) (eqb (n % 2) 1) h in
-    let odd : n % 2 ≡ 1 = eqb-true (n % 2) 1 two.1 in
-    let low : low_bits bits (negsuc n) % 2 ≡ (2 ^ 32 - suc n) % 2 ^ 32 % 2 = mod-mod_of_dvd 2 ((2 ^ 32 - suc n) % 2 ^ 32) (dvd_of_mod-eq-zero 2 whole) in
-    and_from (has_bits bits (negsuc n)) (eqb (low_bits bits (negsuc n) % 2) 0) two.0 (eq-eqb (low_bits bits (negsuc n) % 2) 0 (low ∙ omega (arith, odd)))
+use Rattle.zca_zcb_pass.proofs.ShortDistances.{signed_two, when_is}
 
 -- ---- branches
-
--- there is a halfword exactly if its test passes
-pub when_is : (t : Bool) (half : ℕ) → is_some (when t half) ≡ t
-when_is true half = refl
-when_is false half = refl
 
 zero_short :
     (group first second : ℕ) (old d : ℤ) → short_branch_reach d ≡ true → is_some (beqz_half group first second old) ≡ true

@@ -13,7 +13,7 @@ use Rattle.sym_machine.specs.State.{PlainState}
 use Rattle.zc_link.specs.Image.{Image, image_in}
 use Rattle.zc_link.specs.Invariants.Laid.{Laid}
 use Rattle.zc_link.specs.Pace.{Stretch, pace_of, span_of}
-use Rattle.zc_link.specs.Preserves.{FollowsAlways, Preserves}
+use Rattle.zc_link.specs.Preserves.{FollowsWithin, Preserves}
 use Rattle.zc_link.specs.IsSimulation.{IsSimulation, IsInside}
 use Rattle.zc_link.proofs.Apart.{commits_apart, cuts_apart, lead_commits_apart, lead_cuts_apart}
 use Rattle.zc_link.proofs.Induction as induction
@@ -42,7 +42,7 @@ module _ (p : Program) (Named : Place → Type 0) (e : Image) (stretch : Place �
       inside k r r' some lt running h (Some a) is listed = stretch_inside p e a r r' (stretch r.core.place) k (laid.each r.core.place a is) some lt running h
       inside k r r' some lt running h None is listed = absurd (false≢true listed)
 
-  pub follows : FollowsAlways p e
+  pub follows : FollowsWithin 64 p e
   follows = induction.follows p Named e (pace_of p stretch) simulates
 
 -- ---- files

@@ -33,8 +33,9 @@ use Rattle.shrink_layout.proofs.PlaceLaws.{same_place-refl}
 use Rattle.shrink_layout.proofs.TargetLaws.{away_target}
 use Rattle.zc_link.specs.LaidOut.{ListsLeaders}
 use Rattle.zc_link.specs.Standing.{HasOwnSize, HasValue, HasWay, IsInstrSize, IsReady, ItemStands, SpellsKind, SpellsWay, is_lower}
-use Rattle.zc_link.proofs.Faultless.{all_none, leader_listed, reloc_good, reloc_value}
-use Rattle.zc_link.proofs.Led.{asks_at, item_leader, reloc_leader}
+use Rattle.moved_runs.proofs.Faultless.{all_none, reloc_good}
+use Rattle.zc_link.proofs.Faultless.{leader_listed, reloc_value}
+use Rattle.moved_runs.proofs.Led.{asks_at, item_leader, reloc_leader}
 use Rattle.zc_link.proofs.Pairs.{goes_with}
 
 -- an instruction without relocation has two bytes or four

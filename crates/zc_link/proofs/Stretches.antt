@@ -11,7 +11,7 @@ use Rattle.sym_machine.specs.Run.{plain_turn}
 use Rattle.sym_machine.specs.Expansions.{item_expansion}
 use Rattle.sym_machine.specs.State.{PlainState}
 use Rattle.zc_link.specs.Image.{Image}
-use Rattle.zc_link.specs.Invariants.Leads.{Leads}
+use Rattle.moved_runs.specs.Leads.{Leads}
 use Rattle.zc_link.specs.Pace.{AlignOf, Alone, CallOf, GroupOf, LongOf, Stretch, TableOf, commits_of, span_of}
 use Rattle.zc_link.specs.Invariants.Stretches.{ByCall, ByJump, GoesTo, ItemLaid, StretchLaid}
 use Rattle.zc_link.specs.Invariants.Room.{Room}

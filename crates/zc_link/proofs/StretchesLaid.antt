@@ -53,7 +53,7 @@ use Rattle.zc_link.proofs.ImageMemory.{AreLaidOut, image_of}
 use Rattle.zc_link.proofs.ItemRegisters.{item_registers, meant_registers}
 use Rattle.zc_link.proofs.LaidLaws.{address_small}
 use Rattle.zc_link.proofs.Lookup.{found_holds}
-use Rattle.zc_link.proofs.HalfNormals.{IsHalfNormal, half_normal}
+use Rattle.zca_zcb_pass.proofs.HalfNormals.{IsHalfNormal, half_normal}
 use Rattle.zc_link.proofs.PartLaws.{call_reaches}
 use Rattle.zc_link.proofs.CopiedHalves.{copied_half}
 use Rattle.zc_link.proofs.SizedPieces.{behind_item, size_is}

@@ -20,7 +20,7 @@ use Rattle.zc_decode.specs.declared.short.Short.TheVariants.{TableJump}
 use Rattle.zc_machine.proofs.FetchLaws.{SameText}
 use Rattle.zc_link.specs.Image.{Image, loaded_core}
 use Rattle.zc_link.specs.IsSimulation.{Comes}
-use Rattle.zc_link.specs.Invariants.Leads.{Leads}
+use Rattle.moved_runs.specs.Leads.{Leads}
 use Rattle.zc_link.specs.Invariants.Room.{Room}
 use Rattle.zc_link.specs.Sound.{Alike, Ready}
 use Rattle.zc_link.specs.Invariants.Stretches.{ByCall, ByJump, GoesTo, TableLaid, slot_address}

@@ -36,7 +36,7 @@ use Rattle.zc_link.specs.Pace.{bytes_between}
 use Rattle.zc_link.proofs.Grows.{so_far_end, so_far_inside, so_far_unit}
 use Rattle.zc_link.proofs.LaidLaws.{address_small, unit_some}
 use Rattle.zc_link.proofs.Faultless.{leader_listed}
-use Rattle.zc_link.proofs.Led.{first_leader}
+use Rattle.moved_runs.proofs.Led.{first_leader}
 use Rattle.zc_link.proofs.Standing.{item_own, item_stands}
 
 -- where an item starts, or the section ends

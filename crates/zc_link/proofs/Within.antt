@@ -31,7 +31,7 @@ use Rattle.block_cut.specs.declared.data_word.DataWord.{DataWord}
 use Rattle.block_cut.proofs.DataLaws.{in_class}
 use Rattle.block_cut.proofs.ListedLaws.{listed}
 use Rattle.zc_link.proofs.ListedLaws.{all_listed}
-use Rattle.zc_link.proofs.Faultless.{IsGood, good, section_none}
+use Rattle.moved_runs.proofs.Faultless.{IsGood, good, section_none}
 
 none_some : {X : Type 0} {x : X} → None ≡ Some x → ⊥
 none_some h = cc

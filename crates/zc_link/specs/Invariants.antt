@@ -2,7 +2,6 @@
 -- does.
 pub mod Room
 pub mod Groups
-pub mod Leads
 pub mod Stretches
 pub mod Laid
 pub mod Counted

@@ -24,7 +24,7 @@ use Rattle.zc_link.specs.Pace.{pace_of}
 use Rattle.zc_link.specs.Places.{listed_address}
 use Rattle.zc_link.specs.Preserves.{Preserves}
 use Rattle.zc_link.specs.IsSimulation.{IsSimulation}
-use Rattle.zc_link.specs.Sound.{IsNamed}
+use Rattle.moved_runs.specs.Leads.{IsNamed}
 use Rattle.zc_link.specs.TextLayout.{TextLayout, plain_layout, stretch_in, zc_layout}
 use Rattle.zc_link.specs.Written.{GapsAreZero, HoldsFront, HoldsPlace}
 

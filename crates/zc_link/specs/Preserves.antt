@@ -18,11 +18,11 @@ pub record Follows (p : Program) (e : Image) (s : PlainState) (z : ZcState) : Ty
   pub stands : IsSome (e.address s.core.place) ⊎ IsSome s.core.exit → Stands p e.address s.core z
 
 -- for each input, and for each number n of steps that the program makes without getting stuck, there is a number of
--- commits, the same for all plans, after which the image follows the program
-abbrev pub FollowsAlways : Program → Image → Type 0
-FollowsAlways p e =
+-- commits, at most `most` for each step and 3, the same for all plans, after which the image follows the program
+abbrev pub FollowsWithin : ℕ → Program → Image → Type 0
+FollowsWithin most p e =
     (input : List ℕ) (n : ℕ) (s : PlainState) → All (λ b. b < 256) input → program_after p input n ≡ Ok s →
-    (m : ℕ) × (m ≤ 64 * n + 3)
+    (m : ℕ) × (m ≤ most * n + 3)
     × ((plan : List Entry) → IsPlan plan → (z : ZcState) × (machine_after (loaded_core e) input (interrupts_by plan) m ≡ Ok z) × Follows p e s z)
 
 -- ---- files
@@ -31,4 +31,4 @@ FollowsAlways p e =
 pub record Preserves (inputs : Inputs) (elf : List ℕ) : Type 0 where
   pub image : Image
   pub read : image_in elf inputs.map ≡ Some image
-  pub follows : FollowsAlways (program_of (parsed inputs)) image
+  pub follows : FollowsWithin 64 (program_of (parsed inputs)) image

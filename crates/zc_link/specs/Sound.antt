@@ -1,12 +1,9 @@
 -- States of the two machines that correspond: Ready and Alike whatever the place, Sound at a listed place, Over after the exit.
 -- Which places a program may name is a parameter.
-use Rattle.std.specs.Prelude.{◌≡◌, ℕ, ◌<◌, ◌≤◌, ◌⊎◌, IsSome, IsTrue, true, Some, None}
+use Rattle.std.specs.Prelude.{◌≡◌, ℕ, ◌<◌, ◌≤◌, ◌⊎◌, true, Some, None}
 use Rattle.zc_base.specs.declared.place.Place.{Place}
 use Rattle.rv_decode.specs.Memory.{extents_of, is_text, lies_in}
 use Rattle.rv_decode.specs.State.{IsCore, ZcCore, ZcState, byte_in, reg_in}
-use Rattle.psabi_sym.specs.Inputs.{ParsedInputs}
-use Rattle.block_cut.specs.Items.{is_end_at, item_at}
-use Rattle.block_cut.specs.Leaders.{is_leader_at}
 use Rattle.sym_machine.specs.declared.word.SymByte.{SymByte}
 use Rattle.sym_machine.specs.declared.word.SymByte.TheVariants.{Num, Part, Undef}
 use Rattle.sym_machine.specs.declared.word.SymWord.{SymWord}
@@ -19,10 +16,6 @@ use Rattle.zc_link.specs.Stands.{ByteStands, IsMemory, Stands, WordStands}
 use Rattle.zc_link.specs.Values.{value_in}
 
 -- ---- addresses of code in a state
-
--- a place whose address the program of objects may hold: that of an item that leads a basic block, or the end of a section of code
-abbrev pub IsNamed : ParsedInputs → Place → Type 0
-IsNamed inputs q = (IsSome (item_at inputs q) × IsTrue (is_leader_at inputs q)) ⊎ IsTrue (is_end_at inputs.objects q)
 
 -- a byte that is part of a code address is part of that of a place that a program may name
 abbrev pub NamesByte : (Place → Type 0) → SymByte → Type 0

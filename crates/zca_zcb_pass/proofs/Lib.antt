@@ -1,2 +1,4 @@
 pub mod FormEffects
 pub mod ReachLaws
+pub mod HalfNormals
+pub mod ShortDistances

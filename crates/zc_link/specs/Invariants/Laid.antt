@@ -11,7 +11,7 @@ use Rattle.sym_machine.specs.Program.{Program, start_memory}
 use Rattle.sym_machine.specs.State.{PlainCore}
 use Rattle.zc_decode.specs.declared.short.Short.TheVariants.{Base}
 use Rattle.zc_link.specs.Image.{Image, loaded_core}
-use Rattle.zc_link.specs.Invariants.Leads.{Leads}
+use Rattle.moved_runs.specs.Leads.{Leads}
 use Rattle.zc_link.specs.Pace.{Stretch, commits_of, span_of}
 use Rattle.zc_link.specs.Invariants.Stretches.{OneAt, StretchLaid}
 use Rattle.zc_link.specs.Invariants.Room.{Room}

@@ -11,7 +11,7 @@ use Rattle.block_cut.specs.PlainLayout.{plain_address}
 use Rattle.block_cut.specs.declared.code_place.CodePlace.{CodePlace}
 use Rattle.block_cut.specs.declared.place_number.PlaceNumber.{PlaceNumber}
 use Rattle.zc_link.specs.Standing.{IsReady}
-use Rattle.zc_link.proofs.Faultless.{all_none}
+use Rattle.moved_runs.proofs.Faultless.{all_none}
 use Rattle.zc_link.proofs.PlaceNumbers.{IsFoundBy, found_by}
 use Rattle.zc_link.proofs.PlainLaws.{plain_listed}
 use Rattle.zc_link.proofs.layout.CutLayout.address_at.Goals as goal

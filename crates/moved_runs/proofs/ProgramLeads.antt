@@ -29,14 +29,13 @@ use Rattle.block_cut.proofs.PlainLaws.{next_start}
 use Rattle.block_cut.proofs.RawLaws.{raw_by}
 use Rattle.block_cut.proofs.SoundLaws.{sound_at}
 use Rattle.block_cut.proofs.WholeLaws.{code_is_section}
-use Rattle.shrink_layout.proofs.PlaceLaws.{same_place-refl}
-use Rattle.shrink_layout.proofs.TargetLaws.{away_target}
+use Rattle.moved_runs.proofs.Words.{same-refl}
 use Rattle.sym_machine.specs.Objects.{program_of}
 use Rattle.sym_machine.specs.Program.{Program}
-use Rattle.zc_link.specs.Invariants.Leads.{Leads, NamesItem, NamesTarget}
-use Rattle.zc_link.specs.Sound.{IsNamed}
-use Rattle.zc_link.proofs.Faultless.{all_none, reloc_good, target_good}
-use Rattle.zc_link.proofs.Led.{asks_at, item_leader, leader_named, reloc_leader}
+use Rattle.moved_runs.specs.Leads.{IsNamed, Leads, NamesItem}
+use Rattle.moved_runs.specs.Named.{IsNamedTarget}
+use Rattle.moved_runs.proofs.Faultless.{all_none, reloc_good, target_good}
+use Rattle.moved_runs.proofs.Led.{asks_at, away_target, item_leader, leader_named, reloc_leader}
 
 module _ (inputs : Inputs) (none : first_fault inputs ≡ None) where
   abbrev objects : List ObjectParts
@@ -60,7 +59,7 @@ module _ (inputs : Inputs) (none : first_fault inputs ≡ None) where
       (reloc_leader (parsed inputs) to (asks_at (parsed inputs) q s r at on asks) leads)
 
   -- a target whose place is named, if it has one
-  target_named : (t : Target) → ((to : Place) → t ≡ Code to → Named to) → NamesTarget Named t
+  target_named : (t : Target) → ((to : Place) → t ≡ Code to → Named to) → IsNamedTarget Named t
   target_named (Code to) place = place to refl
   target_named (Number n) place = tt
   target_named (Absent n) place = tt
@@ -135,7 +134,7 @@ module _ (inputs : Inputs) (none : first_fault inputs ≡ None) where
           (o : Option Place) → target_away objects q distance ≡ o → item_at (parsed inputs) q ≡ Some (option_map_or (Jump rd) o other)
           → NamesItem Named (option_map_or (Jump rd) o other)
       by None away here = stays
-      by (Some to) away here = going_named q to (Jump rd to) here (same_place-refl to) (away_target objects q to distance away)
+      by (Some to) away here = going_named q to (Jump rd to) here (same-refl to) (away_target objects q to distance away)
   instr_item_named q (instr.Jalr rd base imm) other stays is = tt
   instr_item_named q (instr.Branch op first second distance) other stays is = by (target_away objects q distance) refl is
     where
@@ -143,7 +142,7 @@ module _ (inputs : Inputs) (none : first_fault inputs ≡ None) where
           (o : Option Place) → target_away objects q distance ≡ o
           → item_at (parsed inputs) q ≡ Some (option_map_or (Branch op first second) o other) → NamesItem Named (option_map_or (Branch op first second) o other)
       by None away here = stays
-      by (Some to) away here = going_named q to (Branch op first second to) here (same_place-refl to) (away_target objects q to distance away)
+      by (Some to) away here = going_named q to (Branch op first second to) here (same-refl to) (away_target objects q to distance away)
   instr_item_named q (instr.Load op rd base imm) other stays is = tt
   instr_item_named q (instr.Store op source base imm) other stays is = tt
   instr_item_named q (instr.WithImm op rd first imm) other stays is = tt
@@ -186,7 +185,7 @@ module _ (inputs : Inputs) (none : first_fault inputs ≡ None) where
   after_named q i is ends =
       let next = next_at objects q in
       let leads : (goes_to next i || (ends_block i && same_place next next)) ≡ true =
-      or_right (goes_to next i) (ends_block i && same_place next next) (and_from (ends_block i) (same_place next next) ends (same_place-refl next)) in
+      or_right (goes_to next i) (ends_block i && same_place next next) (and_from (ends_block i) (same_place next next) ends (same-refl next)) in
       leader_named (parsed inputs) next (target (next_start inputs (all_none inputs none).gathered q i is)) (item_leader (parsed inputs) q next i is leads)
     where
       target : (is_start_at objects (next_at objects q) ≡ true) ⊎ (is_end_at objects (next_at objects q) ≡ true) → is_target_at objects (next_at objects q) ≡ true

@@ -18,8 +18,8 @@ use Rattle.psabi_sym.specs.declared.target.Target.TheVariants.{Code, Nowhere}
 use Rattle.psabi_sym.proofs.PlaceLaws.{code_is}
 use Rattle.block_cut.specs.Items.{all_places, is_target_at}
 use Rattle.block_cut.specs.Leaders.{is_leader_at, item_leads, section_leads, symbol_leads}
-use Rattle.shrink_layout.proofs.PlaceLaws.{same_place-refl}
-use Rattle.zc_link.proofs.Elements.{any_found, found_passes}
+use Rattle.moved_runs.proofs.Words.{same-refl}
+use Rattle.moved_runs.proofs.Elements.{any_found, found_passes}
 
 module _ (p : ParsedInputs) (q : Place) where
   -- a symbol leads into code: it is defined there, in a section of code
@@ -61,7 +61,7 @@ module _ (p : ParsedInputs) (q : Place) where
         found (Some s) at h =
             let is = in_code s (role_of s) refl h in
             and_from (same_place place q) (option_map_or is_code_section (section_at p.objects l.object l.symbol.home) false)
-            (ap (same_place place) (sym is.same) ∙ same_place-refl place)
+            (ap (same_place place) (sym is.same) ∙ same-refl place)
             (ap (λ o. option_map_or is_code_section o false) at ∙ is.code)
 
         by :
