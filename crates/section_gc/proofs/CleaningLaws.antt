@@ -1,14 +1,19 @@
 -- Dropping what isn't needed is a pass: it keeps of sections and symbols what a pass has to.
-use Rattle.std.proofs.Common.{◌≡◌, ℕ, suc, zero, ◌<◌, ◌≤◌, ◌⊎◌, inl, inr, List, [], ◌∷◌, length, take, refl, sym, ap, ◌∙◌, arith, filter, Bool, true, false, cond, eqb, Option, Some, None, slice_get}
+use Rattle.std.proofs.Common.{◌≡◌, ℕ, ◌<◌, inl, inr, List, [], length, map, refl, sym, ap, ◌∙◌, arith, filter, Bool, true, false, cond, eqb, Option, Some, None, slice_get}
 use Rattle.std.specs.Prelude.{◌&&◌, not}
+use Rattle.std.specs.List.{enumerate_from}
 use Rattle.std.specs.Option.{option_map_or}
+use Rattle.std.proofs.lemmas.List.{length-map}
+use Rattle.std.proofs.lemmas.List.FromFn.{length-enumerate_from}
 use Rattle.std.proofs.lemmas.Option.{slice_get_within}
 use Rattle.elf32_read.specs.Parts.{ObjectParts, SectionParts, SymbolParts, is_code_section, is_kept_section}
 use Rattle.psabi_sym.specs.Data.{role_of}
+use Rattle.psabi_sym.specs.Inputs.{Inputs, parsed}
 use Rattle.block_cut.specs.Resolved.{asks}
-use Rattle.moved_runs.specs.Passes.{IsOrderly, KeepsSection, KeepsSymbol, Pass, new_number}
+use Rattle.moved_runs.specs.Passes.{IsOrderly, KeepsSection, KeepsSymbol, Pass, new_number, renumbered}
 use Rattle.moved_runs.proofs.PassData.{role-same}
-use Rattle.section_gc.specs.Cleaned.{cleaned_in, cleaned_section, cleaned_symbol}
+use Rattle.moved_runs.proofs.PassNumbers.{not-eqb, number-low}
+use Rattle.section_gc.specs.Cleaned.{cleaned_in, cleaned_object, cleaned_section, cleaned_symbol}
 
 -- ---- sections
 
@@ -40,23 +45,15 @@ needed-clean b s is = by (is_code_section s) ∙ refl
     by true = ap (λ b. cond (not b) (record s { align = 1; size = 0; bytes = []; relocs = [] }) (record s { relocs = filter asks s.relocs })) is
     by false = refl
 
--- ---- symbols
-
-pub count-le : (ss : List SectionParts) (i : ℕ) → length (filter is_kept_section (take i ss)) ≤ length ss
-count-le [] zero = omega arith
-count-le [] (suc i) = omega arith
-count-le (s ∷ ss) zero = omega arith
-count-le (s ∷ ss) (suc i) = by (count-le ss i) (is_kept_section s)
+-- compressed code stays compressed
+pub marks-stay : (b : Bool) (s : SectionParts) → (cleaned_section b s).compressed ≡ s.compressed
+marks-stay b s = by (is_code_section s && not b)
   where
-    by : length (filter is_kept_section (take i ss)) ≤ length ss → (b : Bool) → length (cond b (s ∷ filter is_kept_section (take i ss)) (filter is_kept_section (take i ss))) ≤ suc (length ss)
-    by le true = omega arith
-    by le false = omega arith
+    by : (c : Bool) → (cond c (record s { align = 1; size = 0; bytes = []; relocs = [] }) (record s { relocs = filter asks s.relocs })).compressed ≡ s.compressed
+    by true = refl
+    by false = refl
 
-pub not-eqb : (a b : ℕ) → (a < b) ⊎ (b < a) → eqb a b ≡ false
-not-eqb a b either = grind arith
-
-pub number-low : (object : ObjectParts) (i : ℕ) → IsOrderly object → new_number object.sections i < 0xFFF1
-number-low object i orderly = omega (arith, orderly.few, count-le object.sections i)
+-- ---- symbols
 
 -- a symbol in a section
 pub kept-in-section : (b : Bool) (object : ObjectParts) (s : SymbolParts) (home : SectionParts) → IsOrderly object → slice_get object.sections s.home ≡ Some home → eqb s.home 0 ≡ false → KeepsSymbol s (cleaned_in b (new_number object.sections s.home) s home)
@@ -106,3 +103,11 @@ cleaning needed number = record {
   keeps_sections = λ o i s. section-keeps (needed o i) s;
   keeps_symbols = λ o object s orderly. symbol-keeps (needed o) object s orderly;
 }
+
+-- over given objects, sections get the numbers that they are written under
+abbrev pub cleaning_of : Inputs → (ℕ → ℕ → Bool) → Pass
+cleaning_of inputs needed = cleaning needed (renumbered (parsed inputs).objects)
+
+-- there are as many results as objects
+pub length-cleaned : (needed : ℕ → ℕ → Bool) (n : ℕ) (objects : List ObjectParts) → length (map (λ e. cleaned_object (needed e.0) e.1) (enumerate_from n objects)) ≡ length objects
+length-cleaned needed n objects = length-map (enumerate_from n objects) (λ e. cleaned_object (needed e.0) e.1) ∙ length-enumerate_from n objects

@@ -90,10 +90,3 @@ pub root-passed : (ls : List IndexedSection) (k : ℕ) (l : IndexedSection) (fir
 root-passed ls k l first old at other before =
     before
     ∙ ap (λ l. first ++ l) (sym (data-more ls k l at ∙ ap (λ b. data_nodes_from 0 (take k ls) ++ cond b (k ∷ []) []) other ∙ append-nil (data_nodes_from 0 (take k ls))))
-
--- the elements that pass a test, with one more if that passes
-pub kept-more : {X : Type 0} (p : X → Bool) (xs : List X) (k : ℕ) (x : X) (old : List X) → slice_get xs k ≡ Some x → old ≡ filter p (take k xs) → old ++ cond (p x) (x ∷ []) [] ≡ filter p (take (k + 1) xs)
-kept-more p xs k x old at before =
-    ap (λ l. l ++ cond (p x) (x ∷ []) []) before
-    ∙ sym (filter-append p (take k xs) (x ∷ []))
-    ∙ ap (filter p) (sym (take_next xs k x at))

@@ -22,11 +22,12 @@ use Rattle.psabi_sym.proofs.Gathered.{all_none}
 use Rattle.block_cut.specs.Faults.{first_fault, is_out_of_reach, range_fault}
 use Rattle.block_cut.specs.Items.{all_places}
 use Rattle.block_cut.proofs.FaultLaws.{faultless}
-use Rattle.section_gc.specs.Cleaned.{cleaned, cleaned_object, renumbered}
-use Rattle.section_gc.specs.Collected.{IsBreakage, collected_files, with_files}
+use Rattle.moved_runs.specs.Passes.{renumbered, with_files}
+use Rattle.object_passes.specs.Sizes.{first_large, first_oversized, passes_sum}
+use Rattle.object_passes.specs.Written.{without_marks}
+use Rattle.section_gc.specs.Cleaned.{cleaned, cleaned_object}
+use Rattle.section_gc.specs.Collected.{IsBreakage, collected_files}
 use Rattle.section_gc.specs.Kept.{AreNeeded}
-use Rattle.section_gc.specs.Sizes.{first_large, first_oversized, passes_sum}
-use Rattle.section_gc.specs.Written.{without_marks}
 use Rattle.section_gc.proofs.LeftFaultsNames.{duplicate-none, undefined-none}
 use Rattle.section_gc.proofs.LeftFaultsRelocs.{AreBare, IsBarePart, bare-file, entry-none, relocs-none}
 use Rattle.section_gc.proofs.LeftFaultsSums.{sums-none}

@@ -11,7 +11,7 @@ use Rattle.elf32_read.specs.declared.fault.Fault.{Fault}
 use Rattle.elf32_read.specs.declared.fault.Fault.TheVariants.{Duplicate, Undefined}
 use Rattle.elf32_read.specs.declared.reloc.Reloc.{Reloc}
 use Rattle.psabi_sym.specs.Data.{role_of}
-use Rattle.psabi_sym.specs.Faults.{code_room, counted_bytes, duplicate_fault, is_missing, is_second, is_used, is_used_in, names, object_code, reloc_room, room_in_code, same_symbol, undefined_fault}
+use Rattle.psabi_sym.specs.Faults.{code_room, counted_bytes, duplicate_fault, is_missing, is_second, is_used, is_used_in, names, object_code, room_in_code, same_symbol, undefined_fault}
 use Rattle.psabi_sym.specs.Inputs.{ParsedInputs}
 use Rattle.psabi_sym.specs.Indexed.{IndexedSymbol, all_symbols}
 use Rattle.psabi_sym.specs.Names.{is_definition, is_strong, same_name, strong_definition}
@@ -25,6 +25,7 @@ use Rattle.moved_runs.proofs.PassNames.{SameDefinition, Undefined as NoneDefined
 use Rattle.moved_runs.proofs.PassSections.{result-of}
 use Rattle.moved_runs.proofs.PassSymbols.{IsPassedSymbol, symbol-kept, symbols-all}
 use Rattle.moved_runs.proofs.PassZips.{ZipOption, BothNone, BothSome}
+use Rattle.object_passes.proofs.WordRooms.{asking-room}
 use Rattle.section_gc.specs.Cleaned.{cleaned_section}
 use Rattle.section_gc.proofs.CleaningLaws.{cleaning, role-clean}
 use Rattle.section_gc.proofs.LeftFaultsRelocs.{AreBare, IsBarePart}
@@ -169,24 +170,16 @@ module _ (needed : ℕ → ℕ → Bool) (number : ℕ → ℕ → ℕ) (inputs 
 
 -- ---- room
 
-room-fewer : (rs : List Reloc) → sum_by reloc_room (filter asks rs) ≤ sum_by reloc_room rs
-room-fewer [] = omega arith
-room-fewer (r ∷ rs) = by (room-fewer rs) (asks r)
-  where
-    by : sum_by reloc_room (filter asks rs) ≤ sum_by reloc_room rs → (b : Bool) → sum_by reloc_room (cond b (r ∷ filter asks rs) (filter asks rs)) ≤ sum_by reloc_room (r ∷ rs)
-    by le true = omega (arith, sum_by-cons reloc_room r rs, sum_by-cons reloc_room r (filter asks rs))
-    by le false = omega (arith, sum_by-cons reloc_room r rs)
-
 none-counted : (b : Bool) → counted_bytes b 0 ≡ 0
 none-counted true = refl
 none-counted false = refl
 
-code-less : (b : Bool) (s : SectionParts) → code_room (cleaned_section b s) ≤ code_room s
+pub code-less : (b : Bool) (s : SectionParts) → code_room (cleaned_section b s) ≤ code_room s
 code-less b s = subst (λ r. room_in_code (cleaned_section b s) r ≤ code_room s) (sym (role-clean b s)) (by (is_code_section s && not b) (role_of s))
   where
     by : (c : Bool) (r : SectionRole) → room_in_code (cond c (record s { align = 1; size = 0; bytes = []; relocs = [] }) (record s { relocs = filter asks s.relocs })) r ≤ room_in_code s r
     by true Code = let none = none-counted s.compressed in omega (arith, none)
-    by false Code = omega (arith, room-fewer s.relocs)
+    by false Code = omega (arith, asking-room s.relocs)
     by c (InClass class) = omega arith
     by c Dropped = omega arith
 

@@ -1,29 +1,26 @@
 -- The sums of the result are too large only if its files have too many bytes.
-use Rattle.std.proofs.Common.{◌≡◌, ℕ, zero, suc, ◌+◌, ◌≤◌, List, [], ◌∷◌, ◌++◌, length, drop, take, map, max, filter, refl, sym, ap, ap₂, ◌∙◌, arith, Bool, true, false, cond, eqb, ltb, Option, Some, None}
+use Rattle.std.proofs.Common.{◌≡◌, ℕ, zero, suc, ◌+◌, ◌≤◌, List, [], ◌∷◌, ◌++◌, length, drop, take, map, filter, refl, ap, ap₂, ◌∙◌, arith, Bool, true, false, cond, ltb, Option, Some, None}
 use Rattle.std.specs.Prelude.{◌||◌}
 use Rattle.std.specs.List.{AllZip, enumerate_from, find, list_any, range_with_len, sum_by}
 use Rattle.std.specs.Option.{option_map}
 use Rattle.std.proofs.lemmas.Bool.{le-ltb, ltb-false}
 use Rattle.std.proofs.lemmas.List.Sums.{sum_by-cons}
-use Rattle.elf32_read.specs.Parts.{ObjectParts, SectionParts, SymbolParts, is_code_section, is_kept_section, object_parts}
+use Rattle.elf32_read.specs.Parts.{ObjectParts, SectionParts, SymbolParts, is_kept_section, object_parts}
 use Rattle.elf32_read.specs.declared.fault.Fault.{Fault}
 use Rattle.elf32_read.specs.declared.fault.Fault.TheVariants.{TooLarge}
 use Rattle.elf32_write.specs.Writable.{IsObjectOf}
-use Rattle.psabi_sym.specs.Data.{role_of}
 use Rattle.psabi_sym.specs.Faults.{are_too_large, common_room, data_room, object_code, object_data, room_in_data, sum_fault, sums_of}
 use Rattle.psabi_sym.specs.Inputs.{Inputs, parsed}
-use Rattle.psabi_sym.specs.declared.section_row.SectionRole.{SectionRole}
-use Rattle.psabi_sym.specs.declared.section_row.SectionRole.TheVariants.{Code, InClass, Dropped}
 use Rattle.psabi_sym.proofs.Gathered.{all_none}
 use Rattle.block_cut.specs.Faults.{first_fault}
 use Rattle.block_cut.proofs.FaultLaws.{faultless}
-use Rattle.section_gc.specs.Cleaned.{cleaned, cleaned_section, cleaned_symbol, renumbered}
-use Rattle.section_gc.specs.Kept.{AreNeeded}
-use Rattle.section_gc.specs.Written.{without_marks}
-use Rattle.moved_runs.specs.Passes.{ArePassesFrom, IsOrderly, IsPassOf, passed_from}
-use Rattle.moved_runs.proofs.PassContents.{code-role}
+use Rattle.moved_runs.specs.Passes.{ArePassesFrom, IsOrderly, IsPassOf, passed_from, renumbered}
 use Rattle.moved_runs.proofs.PassData.{dropped-role}
-use Rattle.section_gc.proofs.CleaningLaws.{clean-data, cleaning, role-clean, symbol-keeps}
+use Rattle.object_passes.specs.Written.{without_marks}
+use Rattle.object_passes.proofs.WordRooms.{common-kept, data-kept}
+use Rattle.section_gc.specs.Cleaned.{cleaned, cleaned_section, cleaned_symbol}
+use Rattle.section_gc.specs.Kept.{AreNeeded}
+use Rattle.section_gc.proofs.CleaningLaws.{cleaning, section-keeps, symbol-keeps}
 use Rattle.section_gc.proofs.LeftFaultsNames.{object-code-less}
 use Rattle.section_gc.proofs.Theorem.{inputs-clean}
 
@@ -31,18 +28,6 @@ use Rattle.section_gc.proofs.Theorem.{inputs-clean}
 
 data-none : (s : SectionParts) → is_kept_section s ≡ false → data_room s ≡ 0
 data-none s dropped = ap (room_in_data s) (dropped-role s dropped)
-
-data-same : (b : Bool) (s : SectionParts) → data_room (cleaned_section b s) ≡ data_room s
-data-same b s = ap (room_in_data (cleaned_section b s)) (role-clean b s) ∙ by (is_code_section s) refl
-  where
-    plain : is_code_section s ≡ false → (r : SectionRole) → room_in_data (cleaned_section b s) r ≡ room_in_data s r
-    plain is Code = refl
-    plain is Dropped = refl
-    plain is (InClass class) = ap (λ (t : SectionParts). t.size + max 1 t.align) (clean-data b s is)
-
-    by : (c : Bool) → is_code_section s ≡ c → room_in_data (cleaned_section b s) (role_of s) ≡ room_in_data s (role_of s)
-    by true code = ap (room_in_data (cleaned_section b s)) (code-role s code) ∙ sym (ap (room_in_data s) (code-role s code))
-    by false is = plain is (role_of s)
 
 module _ (n : ℕ → Bool) where
   added-data : (added : List SectionParts) → list_any is_kept_section added ≡ false → sum_by data_room added ≡ 0
@@ -59,21 +44,12 @@ module _ (n : ℕ → Bool) where
     where
       by : sum_by data_room (passed_from (λ i s. cleaned_section (n i) s) (j + 1) ss ++ added) ≡ sum_by data_room ss → (b : Bool) → is_kept_section s ≡ b
           → sum_by data_room (map (λ e. cleaned_section (n e.0) e.1) (cond b ((j, s) ∷ filter (λ e. is_kept_section e.1) (enumerate_from (j + 1) ss)) (filter (λ e. is_kept_section e.1) (enumerate_from (j + 1) ss))) ++ added) ≡ sum_by data_room (s ∷ ss)
-      by le true is = omega (arith, le, sum_by-cons data_room s ss, sum_by-cons data_room (cleaned_section (n j) s) (passed_from (λ i s. cleaned_section (n i) s) (j + 1) ss ++ added), data-same (n j) s)
+      by le true is = omega (arith, le, sum_by-cons data_room s ss, sum_by-cons data_room (cleaned_section (n j) s) (passed_from (λ i s. cleaned_section (n i) s) (j + 1) ss ++ added), data-kept s (cleaned_section (n j) s) (section-keeps (n j) s))
       by le false is = omega (arith, le, sum_by-cons data_room s ss, data-none s is)
-
-  common-same : (g : ObjectParts) (s : SymbolParts) → IsOrderly g → common_room (cleaned_symbol n g s) ≡ common_room s
-  common-same g s order =
-      let a = symbol-keeps n g s order in
-      ap (λ b. cond b ((cleaned_symbol n g s).size + max 1 (cleaned_symbol n g s).value) 0) a.common ∙ by (eqb s.home 0xFFF2) refl
-    where
-      by : (b : Bool) → eqb s.home 0xFFF2 ≡ b → cond b ((cleaned_symbol n g s).size + max 1 (cleaned_symbol n g s).value) 0 ≡ cond b (s.size + max 1 s.value) 0
-      by true is = let a = symbol-keeps n g s order in ap (λ (t : SymbolParts). t.size + max 1 t.value) (a.whole is)
-      by false is = refl
 
   common-sum : (g : ObjectParts) (ss : List SymbolParts) → IsOrderly g → sum_by common_room (map (cleaned_symbol n g) ss) ≡ sum_by common_room ss
   common-sum g [] order = refl
-  common-sum g (s ∷ ss) order = omega (arith, sum_by-cons common_room s ss, sum_by-cons common_room (cleaned_symbol n g s) (map (cleaned_symbol n g) ss), common-same g s order, common-sum g ss order)
+  common-sum g (s ∷ ss) order = omega (arith, sum_by-cons common_room s ss, sum_by-cons common_room (cleaned_symbol n g s) (map (cleaned_symbol n g) ss), common-kept s (cleaned_symbol n g s) (symbol-keeps n g s order), common-sum g ss order)
 
 -- data take as much room as they did
 object-data-same : (needed : ℕ → ℕ → Bool) (number : ℕ → ℕ → ℕ) (n : ℕ) (g r : ObjectParts) → IsPassOf (cleaning needed number) n g r → object_data r ≡ object_data g

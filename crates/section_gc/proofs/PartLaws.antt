@@ -14,13 +14,13 @@ use Rattle.elf32_read.proofs.PartsLaws.{section_at}
 use Rattle.psabi_sym.specs.Indexed.{IndexedSection, IsSectionNumber, all_sections, section_at as section-of}
 use Rattle.psabi_sym.proofs.BridgeLaws.{map-map}
 use Rattle.moved_runs.specs.Passes.{new_number}
+use Rattle.object_passes.specs.Written.{without_mark}
+use Rattle.object_passes.proofs.ListLaws.{entry-at, made-more, picked-more, second}
 use Rattle.section_gc.specs.Cleaned.{cleaned_section, cleaned_sections, cleaned_symbol}
 use Rattle.section_gc.specs.Remains.{is_something, is_whole, remains_in, remains_of}
-use Rattle.section_gc.specs.Written.{without_mark}
 use Rattle.section_gc.specs.declared.remains.Remains.{Remains}
 use Rattle.section_gc.specs.declared.remains.Remains.TheVariants.{Nothing, Empty, Whole}
-use Rattle.section_gc.proofs.OrderlyLaws.{second}
-use Rattle.section_gc.proofs.RemainsLaws.{entry-at, in_remains, made-more, picked-more, remains-at, something-kept, symbol-by, whole-section}
+use Rattle.section_gc.proofs.RemainsLaws.{in_remains, remains-at, something-kept, symbol-by, whole-section}
 
 -- ---- sections of files
 

@@ -1,81 +1,47 @@
 -- The program of cleaned objects is the given one with its places moved.
-use Rattle.std.proofs.Common.{◌≡◌, ℕ, zero, suc, ◌+◌, ◌-◌, ◌<◌, ℤ, pos, negsuc, ◌+ℤ◌, List, [], ◌∷◌, ◌++◌, length, take, drop, replicate, refl, sym, ap, ◌∙◌, map, filter, Bool, true, false, cond, eqb, Option, Some, None, slice_get, subst, arith, inl, inr}
+use Rattle.std.proofs.Common.{◌≡◌, ℕ, ◌+◌, ℤ, pos, negsuc, ◌+ℤ◌, List, refl, sym, ap, ◌∙◌, Bool, true, false, cond, eqb, Option, Some, None, slice_get, subst, inl, inr}
 use Rattle.std.specs.Prelude.{All}
-use Rattle.std.specs.List.{flat_map, fold}
 use Rattle.std.specs.Option.{option_and_then, option_map, option_map_or, unwrap_or}
-use Rattle.std.proofs.lemmas.List.Elements.{All-append, All-cons, All-drop, All-head, All-nil, All-tail, All-take}
+use Rattle.std.proofs.lemmas.List.Elements.{All-weaker}
 use Rattle.zc_base.specs.Fields.{half_in, word_in}
 use Rattle.zc_base.specs.declared.place.Place.{Place}
-use Rattle.elf32_read.specs.Parts.{ObjectParts, SectionParts, is_code_section, is_kept_section}
+use Rattle.elf32_read.specs.Parts.{ObjectParts, SectionParts, is_code_section}
 use Rattle.elf32_read.specs.declared.reloc.Reloc.{Reloc}
-use Rattle.psabi_sym.specs.Contents.{data_contents}
-use Rattle.psabi_sym.specs.Data.{data_address, data_end, data_file_end}
 use Rattle.psabi_sym.specs.Inputs.{ParsedInputs}
-use Rattle.psabi_sym.specs.Indexed.{IndexedSection, all_sections, section_at}
+use Rattle.psabi_sym.specs.Indexed.{section_at}
 use Rattle.psabi_sym.specs.Resolve.{name_target}
 use Rattle.psabi_sym.specs.Start.{start_name}
 use Rattle.psabi_sym.specs.declared.target.Target.{Target}
 use Rattle.psabi_sym.specs.declared.target.Target.TheVariants as target
-use Rattle.psabi_sym.proofs.ContentLaws.{none_of_code}
 use Rattle.psabi_reloc.specs.Kinds.{kind_of}
 use Rattle.psabi_reloc.specs.declared.kind.RelocKind.{RelocKind}
 use Rattle.psabi_reloc.specs.declared.kind.RelocKind.TheVariants as kind
 use Rattle.rv_decode.specs.declared.instr.Instr.{Instr}
 use Rattle.rv_decode.specs.declared.instr.Instr.TheVariants as instr
-use Rattle.block_cut.specs.DataWords.{data_word, data_words, data_words_in}
 use Rattle.block_cut.specs.Items.{call_item, entry_of, instr_item, is_start_at, is_target_at, item_at, item_in, item_under, known_item, place_on, raw_in, raw_pair, size_on, spelled_item, start_only, starts_on, target_of, to_place, transfer_item, transfer_under}
 use Rattle.block_cut.specs.Relocs.{instr_in, is_word, reloc_on}
-use Rattle.block_cut.specs.declared.data_word.DataWord.{DataWord}
 use Rattle.block_cut.specs.declared.item.Item.{Item}
 use Rattle.block_cut.specs.declared.item.Item.TheVariants as item
-use Rattle.sym_machine.specs.declared.word.SymByte.{SymByte}
-use Rattle.sym_machine.specs.declared.word.SymByte.TheVariants.{Num}
-use Rattle.sym_machine.specs.AddressParts.{bytes_of, pc_target, target_word}
+use Rattle.sym_machine.specs.AddressParts.{pc_target}
 use Rattle.sym_machine.specs.Conditions.{is_solid}
 use Rattle.sym_machine.specs.Objects.{data_bytes, program_of}
 use Rattle.block_cut.specs.Resolved.{asks}
 use Rattle.section_gc.specs.Cleaned.{moved_by}
-use Rattle.moved_runs.specs.Passes.{ArePassed, new_number}
+use Rattle.moved_runs.specs.Passes.{ArePassed}
 use Rattle.moved_runs.specs.Moved.{moved_item}
 use Rattle.moved_runs.specs.Named.{IsNamedByte, IsNamedTarget}
 use Rattle.moved_runs.specs.Moves.{IsNamedOption, ItemLeads, KeepsItem, MovesExactly, OpLeads, PcMoves, SameRuns}
 use Rattle.section_gc.proofs.Closed.{IsClosed, IsKeptThere}
+use Rattle.moved_runs.proofs.MovedKinds.{of_instr}
+use Rattle.moved_runs.proofs.PassBytes.{bytes-named, word-asks}
+use Rattle.moved_runs.proofs.PassNumbers.{own-number}
 use Rattle.moved_runs.proofs.PassSections.{result-of}
-use Rattle.moved_runs.proofs.PassListed.{IsThere, all-there}
-use Rattle.moved_runs.proofs.PassContents.{code-role, no-address, unfilled_bytes}
 use Rattle.section_gc.proofs.CleaningLaws.{cleaning}
 use Rattle.section_gc.proofs.ResolveLaws.{IsNeededTarget}
-use Rattle.section_gc.proofs.BytesLaws.{bytes-clean, none-words, with_word, word-asks}
-use Rattle.section_gc.proofs.ItemLaws.{code_only, of_instr, target_only, entry-clean, item-clean, item_from, next-clean, reloc-needed}
+use Rattle.section_gc.proofs.BytesLaws.{bytes-clean}
+use Rattle.section_gc.proofs.ItemLaws.{code_only, target_only, entry-clean, item-clean, item_from, next-clean, reloc-needed}
 use Rattle.moved_runs.proofs.Words.{pc-target-moved}
 use Rattle.moved_runs.proofs.Runs.{same-runs}
-
--- ---- numbers of kept sections are their own
-
-count : List SectionParts → ℕ → ℕ
-count ss i = length (filter is_kept_section (take i ss))
-
-later : (ss : List SectionParts) (a b : ℕ) (s : SectionParts) → slice_get ss a ≡ Some s → is_kept_section s ≡ true → a < b → count ss a < count ss b
-unfolding count
-later [] a b s at kept lt = absurd cc
-later (t ∷ ss) a zero s at kept lt = absurd (omega arith)
-later (t ∷ ss) zero (suc b) s at kept lt =
-    let same : t ≡ s = cc in
-    let one : length (cond (is_kept_section t) (t ∷ filter is_kept_section (take b ss)) (filter is_kept_section (take b ss))) ≡ suc (length (filter is_kept_section (take b ss))) = ap (λ x. length (cond x (t ∷ filter is_kept_section (take b ss)) (filter is_kept_section (take b ss)))) (ap is_kept_section same ∙ kept) in
-    omega (arith, one)
-later (t ∷ ss) (suc a) (suc b) s at kept lt = by (later ss a b s at kept (omega arith)) (is_kept_section t)
-  where
-    by : length (filter is_kept_section (take a ss)) < length (filter is_kept_section (take b ss)) → (k : Bool)
-        → length (cond k (t ∷ filter is_kept_section (take a ss)) (filter is_kept_section (take a ss))) < length (cond k (t ∷ filter is_kept_section (take b ss)) (filter is_kept_section (take b ss)))
-    by less true = omega arith
-    by less false = less
-
-own-number : (ss : List SectionParts) (a b : ℕ) (s t : SectionParts) → slice_get ss a ≡ Some s → is_kept_section s ≡ true → slice_get ss b ≡ Some t → is_kept_section t ≡ true → new_number ss a ≡ new_number ss b → a ≡ b
-unfolding count
-own-number ss a b s t at-a kept-a at-b kept-b same =
-    let below = later ss a b s at-a kept-a in
-    let above = later ss b a t at-b kept-b in
-    grind (arith, below, above, same)
 
 -- ---- what items name
 
@@ -212,81 +178,12 @@ module _ (needed : ℕ → ℕ → Bool) (number : ℕ → ℕ → ℕ) (inputs 
 
   -- ---- what data name
 
-  words-named : (l : IndexedSection) (at : ℕ) (rs : List Reloc) → All (λ r. asks r ≡ true → IsNeededTarget needed (target_of inputs l.object r)) rs
-      → All (λ (w : DataWord). IsNamedTarget K w.target) (map (data_word inputs l at) (filter (λ r. is_word (kind_of r.kind)) rs))
-  words-named l at [] leads = All-nil (λ (w : DataWord). IsNamedTarget K w.target)
-  words-named l at (r ∷ rs) leads = by (words-named l at rs (All-tail (λ r. asks r ≡ true → IsNeededTarget needed (target_of inputs l.object r)) r rs leads)) (is_word (kind_of r.kind)) refl
-    where
-      here : asks r ≡ true → IsNeededTarget needed (target_of inputs l.object r)
-      here = All-head (λ r. asks r ≡ true → IsNeededTarget needed (target_of inputs l.object r)) r rs leads
-
-      by : All (λ (w : DataWord). IsNamedTarget K w.target) (map (data_word inputs l at) (filter (λ r. is_word (kind_of r.kind)) rs)) → (b : Bool) → is_word (kind_of r.kind) ≡ b
-          → All (λ (w : DataWord). IsNamedTarget K w.target) (map (data_word inputs l at) (cond b (r ∷ filter (λ r. is_word (kind_of r.kind)) rs) (filter (λ r. is_word (kind_of r.kind)) rs)))
-      by rest true is =
-          All-cons (λ (w : DataWord). IsNamedTarget K w.target) (data_word inputs l at r) (map (data_word inputs l at) (filter (λ r. is_word (kind_of r.kind)) rs))
-          (target-names (target_of inputs l.object r) (here (word-asks needed number inputs result clean r is))) rest
-      by rest false is = rest
-
-  section-words : (l : IndexedSection) → IsThere inputs.objects l → All (λ (w : DataWord). IsNamedTarget K w.target) (data_words_in inputs l)
-  section-words l there = kept (is_kept_section l.section) refl
-    where
-      empty : data_words_in inputs l ≡ [] → All (λ (w : DataWord). IsNamedTarget K w.target) (data_words_in inputs l)
-      empty none = subst (All (λ (w : DataWord). IsNamedTarget K w.target)) (sym none) (All-nil (λ (w : DataWord). IsNamedTarget K w.target))
-
-      each : All (λ r. asks r ≡ true → IsNeededTarget needed (target_of inputs l.object r)) l.section.relocs → (b : Bool) (a : Option ℕ)
-          → All (λ (w : DataWord). IsNamedTarget K w.target) (cond b [] (option_map_or (λ at. map (data_word inputs l at) (filter (λ r. is_word (kind_of r.kind)) l.section.relocs)) a []))
-      each leads true a = All-nil (λ (w : DataWord). IsNamedTarget K w.target)
-      each leads false None = All-nil (λ (w : DataWord). IsNamedTarget K w.target)
-      each leads false (Some at) = words-named l at l.section.relocs leads
-
-      code : (b : Bool) → is_code_section l.section ≡ b → is_kept_section l.section ≡ true → All (λ (w : DataWord). IsNamedTarget K w.target) (data_words_in inputs l)
-      code true is kept = empty (none-words needed number inputs result clean inputs l (none_of_code inputs l.object l.index l.section there (code-role l.section is)))
-      code false is kept = each (closed.leads l.object l.index l.section there (closed.data_needed l.object l.index l.section there kept is)) (eqb l.section.kind 8) (data_address inputs l.object l.index)
-
-      kept : (b : Bool) → is_kept_section l.section ≡ b → All (λ (w : DataWord). IsNamedTarget K w.target) (data_words_in inputs l)
-      kept false is = empty (none-words needed number inputs result clean inputs l (no-address inputs l there is))
-      kept true is = code (is_code_section l.section) refl is
-
-  all-words : (ls : List IndexedSection) → All (IsThere inputs.objects) ls → All (λ (w : DataWord). IsNamedTarget K w.target) (flat_map (data_words_in inputs) ls)
-  all-words [] there = All-nil (λ (w : DataWord). IsNamedTarget K w.target)
-  all-words (l ∷ ls) there =
-      All-append (λ (w : DataWord). IsNamedTarget K w.target) (data_words_in inputs l) (flat_map (data_words_in inputs) ls) (section-words l (All-head (IsThere inputs.objects) l ls there))
-      (all-words ls (All-tail (IsThere inputs.objects) l ls there))
-
-  word-bytes-named : (t : Target) → IsNamedTarget K t → All (IsNamedByte K) ((bytes_of (target_word t)))
-  word-bytes-named t n = four ((bytes_of (target_word t))) refl n
-    where
-      four : (bytes : List SymByte) → bytes ≡ (bytes_of (target_word t)) → IsNamedTarget K t → All (IsNamedByte K) bytes
-      four bytes is n = subst (All (IsNamedByte K)) (sym is) (by t n)
-        where
-          one : (a b c d : SymByte) → IsNamedByte K a → IsNamedByte K b → IsNamedByte K c → IsNamedByte K d → All (IsNamedByte K) (a ∷ b ∷ c ∷ d ∷ [])
-          one a b c d ka kb kc kd = All-cons (IsNamedByte K) a (b ∷ c ∷ d ∷ []) ka (All-cons (IsNamedByte K) b (c ∷ d ∷ []) kb (All-cons (IsNamedByte K) c (d ∷ []) kc (All-cons (IsNamedByte K) d [] kd (All-nil (IsNamedByte K)))))
-
-          by : (t : Target) → IsNamedTarget K t → All (IsNamedByte K) ((bytes_of (target_word t)))
-          by (target.Code q) k = one _ _ _ _ k k k k
-          by (target.Number x) k = one _ _ _ _ tt tt tt tt
-          by (target.Absent x) k = one _ _ _ _ tt tt tt tt
-          by target.Nowhere k = one _ _ _ _ tt tt tt tt
-
-  fold-named : (bytes : List SymByte) (ws : List DataWord) → All (IsNamedByte K) bytes → All (λ (w : DataWord). IsNamedTarget K w.target) ws → All (IsNamedByte K) (fold (with_word inputs) bytes ws)
-  fold-named bytes [] all named = all
-  fold-named bytes (w ∷ ws) all named =
-      let at = w.at - inputs.map.data_low in
-      let new = (bytes_of (target_word w.target)) in
-      fold-named (with_word inputs bytes w) ws
-      (All-append (IsNamedByte K) (take at bytes) (take (length bytes - at) new ++ drop (at + length new) bytes) (All-take (IsNamedByte K) at bytes all)
-      (All-append (IsNamedByte K) (take (length bytes - at) new) (drop (at + length new) bytes) (All-take (IsNamedByte K) (length bytes - at) new (word-bytes-named w.target (All-head (λ (w : DataWord). IsNamedTarget K w.target) w ws named))) (All-drop (IsNamedByte K) (at + length new) bytes all)))
-      (All-tail (λ (w : DataWord). IsNamedTarget K w.target) w ws named)
-
-  numbers-named : (ns : List ℕ) → All (IsNamedByte K) (map Num ns)
-  numbers-named [] = All-nil (IsNamedByte K)
-  numbers-named (n ∷ ns) = All-cons (IsNamedByte K) (Num n) (map Num ns) tt (numbers-named ns)
-
-  bytes-named : All (IsNamedByte K) (data_bytes inputs)
-  unfolding data_bytes data_words
-  bytes-named =
-      fold-named (unfilled_bytes inputs) (data_words inputs) (numbers-named (data_contents inputs ++ replicate (data_end inputs - data_file_end inputs) 0))
-      (all-words (all_sections inputs.objects) (all-there inputs.objects))
+  data-named : All (IsNamedByte K) (data_bytes inputs)
+  data-named =
+      bytes-named K inputs
+      (λ l there kept plain. All-weaker (λ r. asks r ≡ true → IsNeededTarget needed (target_of inputs l.object r)) (λ r. is_word (kind_of r.kind) ≡ true → IsNamedTarget K (target_of inputs l.object r))
+      (λ r leads is. target-names (target_of inputs l.object r) (leads (word-asks r is))) l.section.relocs
+      (closed.leads l.object l.index l.section there (closed.data_needed l.object l.index l.section there kept plain)))
 
   -- ---- the start
 
@@ -387,7 +284,7 @@ module _ (needed : ℕ → ℕ → Bool) (number : ℕ → ℕ → ℕ) (inputs 
       map = clean.map;
       visited = entry-needed;
       visits = λ q k. k;
-      named = bytes-named;
+      named = data-named;
       apart = apart;
       follows = λ q i k is. k;
       solid = λ q k. ap is_solid (item-clean needed number inputs result clean closed q k) ∙ solid-moved (item_at inputs q);

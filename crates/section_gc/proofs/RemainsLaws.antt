@@ -1,10 +1,10 @@
 -- What is left of sections, section after section, and what becomes of a symbol by it.
-use Rattle.std.proofs.Common.{◌≡◌, ℕ, zero, suc, ◌+◌, List, [], ◌∷◌, ◌++◌, length, map, filter, take, refl, sym, ap, ap₂, ◌∙◌, arith, Bool, true, false, cond, eqb, Option, Some, None, slice_get}
+use Rattle.std.proofs.Common.{◌≡◌, ℕ, ◌+◌, List, [], ◌∷◌, ◌++◌, length, map, filter, take, refl, sym, ap, ap₂, ◌∙◌, arith, Bool, true, false, cond, eqb, Option, Some, None, slice_get}
 use Rattle.std.specs.Prelude.{not, ◌&&◌}
 use Rattle.std.specs.List.{enumerate_from}
 use Rattle.std.specs.Option.{option_map, option_map_or}
 use Rattle.std.proofs.lemmas.Bool.{and_parts}
-use Rattle.std.proofs.lemmas.List.{length-append, map-append}
+use Rattle.std.proofs.lemmas.List.{length-append}
 use Rattle.std.proofs.lemmas.List.Elements.{filter-append}
 use Rattle.std.proofs.lemmas.Option.{slice_get-map}
 use Rattle.elf32_read.specs.Kept.{has_flags}
@@ -19,46 +19,14 @@ use Rattle.psabi_sym.proofs.SectionNumbers.{listed_at}
 use Rattle.block_cut.specs.Resolved.{asks}
 use Rattle.block_cut.proofs.TakeLaws.{take_next}
 use Rattle.moved_runs.specs.Passes.{new_number}
+use Rattle.object_passes.proofs.ListLaws.{entries, entry-at, made-more}
 use Rattle.reach.specs.Reach.{mark_of}
 use Rattle.section_gc.specs.Cleaned.{cleaned_in, cleaned_section, cleaned_symbol}
 use Rattle.section_gc.specs.Graph.{has_mark}
 use Rattle.section_gc.specs.Remains.{is_something, is_whole, remains_in, remains_of}
 use Rattle.section_gc.specs.declared.remains.Remains.{Remains}
 use Rattle.section_gc.specs.declared.remains.Remains.TheVariants.{Nothing, Empty, Whole}
-use Rattle.section_gc.proofs.EdgeLaws.{kept-more, node-is}
-
--- ---- numbered lists
-
--- an element with its number
-pub entries : {X : Type 0} (n : ℕ) (xs : List X) (i : ℕ) → slice_get (enumerate_from n xs) i ≡ option_map (λ x. (n + i, x)) (slice_get xs i)
-entries n [] i = refl
-entries n (x ∷ xs) zero = ap (λ m. Some (m, x)) (omega arith)
-entries n (x ∷ xs) (suc i) =
-    let next : n + 1 + i ≡ n + suc i = omega arith in
-    entries (n + 1) xs i ∙ ap (λ m. option_map (λ x. (m, x)) (slice_get xs i)) next
-
-pub entry-at : {X : Type 0} (xs : List X) (i : ℕ) (x : X) → slice_get xs i ≡ Some x → slice_get (enumerate_from 0 xs) i ≡ Some (i, x)
-entry-at xs i x at =
-    let none : 0 + i ≡ i = omega arith in
-    entries 0 xs i ∙ (λ j. option_map (λ x. (none j, x)) (at j))
-
--- what becomes of a list's elements, with what becomes of one more
-pub made-more : {X Y : Type 0} (f : X → Y) (xs : List X) (k : ℕ) (x : X) (old : List Y) → slice_get xs k ≡ Some x → old ≡ map f (take k xs) → old ++ f x ∷ [] ≡ map f (take (k + 1) xs)
-made-more f xs k x old at before =
-    ap (λ l. l ++ f x ∷ []) before ∙ sym (map-append f (take k xs) (x ∷ [])) ∙ ap (map f) (sym (take_next xs k x at))
-
--- what becomes of the elements that pass a test, with one more
-pub picked-more : {X Y : Type 0} (f : X → Y) (p : X → Bool) (xs : List X) (k : ℕ) (x : X) (old : List Y) → slice_get xs k ≡ Some x → old ≡ map f (filter p (take k xs))
-    → old ++ cond (p x) (f x ∷ []) [] ≡ map f (filter p (take (k + 1) xs))
-picked-more f p xs k x old at before =
-    ap (λ l. l ++ cond (p x) (f x ∷ []) []) before
-    ∙ ap (λ l. map f (filter p (take k xs)) ++ l) (by (p x))
-    ∙ sym (map-append f (filter p (take k xs)) (cond (p x) (x ∷ []) []))
-    ∙ ap (map f) (kept-more p xs k x (filter p (take k xs)) at refl)
-  where
-    by : (b : Bool) → cond b (f x ∷ []) [] ≡ map f (cond b (x ∷ []) [])
-    by true = refl
-    by false = refl
+use Rattle.section_gc.proofs.EdgeLaws.{node-is}
 
 -- ---- one section
 

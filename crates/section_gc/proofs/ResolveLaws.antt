@@ -1,34 +1,27 @@
 -- What symbols of cleaned objects resolve to, if that is needed.
-use Rattle.std.proofs.Common.{◌≡◌, ℕ, zero, suc, ◌+◌, ◌<◌, ◌⊎◌, inl, inr, ℤ, pos, ◌+ℤ◌, List, [], ◌∷◌, length, drop, refl, sym, ap, ap₂, ◌∙◌, arith, Bool, true, false, cond, eqb, Option, Some, None, slice_get, subst}
-use Rattle.std.specs.Prelude.{◌&&◌, ◌||◌, not}
-use Rattle.std.specs.Int.{w32, cast_unsigned}
-use Rattle.std.specs.Option.{option_and_then, option_map, option_map_or}
-use Rattle.std.proofs.lemmas.Option.{get_or_from_slice_get, slice_get-map, slice_get_past, slice_get_within}
-use Rattle.std.proofs.lemmas.List.Elements.{All-get_or}
+use Rattle.std.proofs.Common.{◌≡◌, ℕ, zero, suc, ◌+◌, ◌<◌, ◌⊎◌, inl, inr, ℤ, pos, ◌+ℤ◌, List, length, refl, sym, ap, ap₂, ◌∙◌, arith, Bool, true, false, cond, eqb, Option, Some, None, slice_get, subst}
+use Rattle.std.specs.Prelude.{◌&&◌, not}
+use Rattle.std.specs.Option.{option_and_then, option_map_or}
+use Rattle.std.proofs.lemmas.Option.{slice_get_past}
 use Rattle.zc_base.specs.declared.place.Place.{Place}
 use Rattle.elf32_read.specs.Parts.{ObjectParts, SectionParts, SymbolParts, is_code_section, is_kept_section}
-use Rattle.psabi_sym.specs.Data.{class_of, role_of}
+use Rattle.psabi_sym.specs.Data.{class_of}
 use Rattle.psabi_sym.specs.Inputs.{ParsedInputs}
 use Rattle.psabi_sym.specs.Indexed.{IndexedSymbol, section_at, symbol_at}
+use Rattle.psabi_sym.specs.Names.{goes_by_name}
 use Rattle.psabi_sym.specs.Resolve.{Definition, code_target, definition_target, home_target, name_definition, name_target, number_target, offset_within, resolved, role_target, symbol_target, undefined_target}
-use Rattle.psabi_sym.specs.Resolve.Definition.{InObject}
-use Rattle.psabi_sym.specs.declared.section_row.SectionRole.TheVariants as role
+use Rattle.psabi_sym.specs.Resolve.Definition.{InObject, AtNumber}
 use Rattle.psabi_sym.specs.declared.target.Target.{Target}
 use Rattle.psabi_sym.specs.declared.target.Target.TheVariants.{Code, Number, Absent, Nowhere}
 use Rattle.section_gc.specs.Cleaned.{cleaned_in, cleaned_section, cleaned_symbol, moved_by}
 use Rattle.moved_runs.specs.Moved.{moved_target}
 use Rattle.moved_runs.specs.Passes.{ArePassed, IsHomed, IsOrderly, new_number}
+use Rattle.moved_runs.proofs.PassContents.{code-role}
 use Rattle.moved_runs.proofs.PassSections.{result-of, section-moved}
-use Rattle.moved_runs.proofs.PassSymbols.{IsPassedSymbol}
 use Rattle.moved_runs.proofs.PassData.{address_in-moved, dropped-role}
-use Rattle.moved_runs.proofs.PassNames.{SameDefinition, Undefined, Numbered, Defined, definition-same}
-use Rattle.section_gc.proofs.CleaningLaws.{cleaning, needed-clean, not-eqb, number-low, role-clean, symbol-keeps}
-
-abbrev section_target : ParsedInputs → ℕ → ℕ → ℕ → ℤ → SectionParts → Target
-section_target inputs o i value addend section = role_target inputs o i value addend section (role_of section)
-
-abbrev named_target : ParsedInputs → SymbolParts → ℤ → Target
-named_target inputs s addend = option_map_or (definition_target inputs addend) (name_definition inputs s.name) (undefined_target s addend)
+use Rattle.moved_runs.proofs.PassNumbers.{not-eqb, number-low}
+use Rattle.moved_runs.proofs.PassTargets.{DefinitionMoves, SymbolMoves, absolute, data-role, in-section, name-moved, named_target, section_target, symbol-resolved}
+use Rattle.section_gc.proofs.CleaningLaws.{cleaning, needed-clean, role-clean}
 
 -- what is needed: a number, or a place in a section that is
 abbrev pub IsNeededTarget : (ℕ → ℕ → Bool) → Target → Type 0
@@ -55,14 +48,6 @@ module _ (needed : ℕ → ℕ → Bool) (renumber : ℕ → ℕ → ℕ) (input
   M q = moved_by renumber q
 
   -- ---- a section
-
-  code-role : (h : SectionParts) → is_code_section h ≡ true → role_of h ≡ role.Code
-  unfolding role_of
-  code-role h code = ap (λ c. cond c role.Code (cond (is_kept_section h) (role.InClass (class_of h)) role.Dropped)) code
-
-  data-role : (h : SectionParts) → is_kept_section h ≡ true → is_code_section h ≡ false → role_of h ≡ role.InClass (class_of h)
-  unfolding role_of
-  data-role h kept plain = ap₂ (λ c k. cond c role.Code (cond k (role.InClass (class_of h)) role.Dropped)) plain kept
 
   -- a place in code
   code-moved : (o i : ℕ) (h : SectionParts) (offset : ℤ) → IsNeededTarget needed (code_target o i h offset) → code_target o (renumber o i) (cleaned_section (needed o i) h) offset ≡ moved_target M (code_target o i h offset)
@@ -107,12 +92,6 @@ module _ (needed : ℕ → ℕ → Bool) (renumber : ℕ → ℕ → ℕ) (input
 
   -- ---- a home
 
-  low-home : (g : ObjectParts) (s : SymbolParts) → IsOrderly g → s.home < length g.sections → eqb s.home 0xFFF1 ≡ false
-  low-home g s orderly low = not-eqb s.home 0xFFF1 (inl (omega (arith, low, orderly.few)))
-
-  absolute : (g : ObjectParts) (s : SymbolParts) → IsOrderly g → s.home ≡ 0xFFF1 → slice_get g.sections s.home ≡ None
-  absolute g s orderly is = slice_get_past g.sections s.home (omega (arith, is, orderly.few))
-
   -- where no section is, the symbol stays
   pub homeless : (n : ℕ → Bool) (g : ObjectParts) (s : SymbolParts) → slice_get g.sections s.home ≡ None → cleaned_symbol n g s ≡ s
   homeless n g s none = ap (λ x. option_map_or (cleaned_in (n s.home) (new_number g.sections s.home) s) (cond (eqb s.home 0) None x) s) none ∙ by (eqb s.home 0)
@@ -121,24 +100,19 @@ module _ (needed : ℕ → ℕ → Bool) (renumber : ℕ → ℕ → ℕ) (input
       by true = refl
       by false = refl
 
-  in-section : (o : ℕ) (g : ObjectParts) (s : SymbolParts) (addend : ℤ) → slice_get inputs.objects o ≡ Some g → s.home < length g.sections → IsOrderly g → home_target inputs o s addend ≡ option_map_or (section_target inputs o s.home s.value addend) (slice_get g.sections s.home) Nowhere
-  in-section o g s addend at low orderly =
-      ap (λ b. cond b (number_target s.value addend) (option_map_or (section_target inputs o s.home s.value addend) (section_at inputs.objects o s.home) Nowhere)) (low-home g s orderly low)
-      ∙ ap (λ x. option_map_or (section_target inputs o s.home s.value addend) (option_and_then (λ (object : ObjectParts). slice_get object.sections s.home) x) Nowhere) at
-
   home-clean : (o : ℕ) (g : ObjectParts) (s : SymbolParts) (addend : ℤ) → slice_get inputs.objects o ≡ Some g → IsOrderly g → IsHomed g s → eqb s.home 0 ≡ false → IsNeededTarget needed (home_target inputs o s addend)
       → home_target result o (cleaned_symbol (needed o) g s) addend ≡ moved_target M (home_target inputs o s addend)
   home-clean o g s addend at orderly homed other it = by homed.home
     where
       found-in : (low : s.home < length g.sections) (found : Option SectionParts) → slice_get g.sections s.home ≡ found → home_target result o (cleaned_symbol (needed o) g s) addend ≡ moved_target M (home_target inputs o s addend)
-      found-in low None none = absurd (subst (IsNeededTarget needed) (in-section o g s addend at low orderly ∙ ap (λ x. option_map_or (section_target inputs o s.home s.value addend) x Nowhere) none) it)
+      found-in low None none = absurd (subst (IsNeededTarget needed) (in-section inputs o g s addend at low orderly ∙ ap (λ x. option_map_or (section_target inputs o s.home s.value addend) x Nowhere) none) it)
       found-in low (Some h) is = by (is_kept_section h) refl
         where
           there : section_at inputs.objects o s.home ≡ Some h
           there = ap (option_and_then (λ (object : ObjectParts). slice_get object.sections s.home)) at ∙ is
 
           given : home_target inputs o s addend ≡ section_target inputs o s.home s.value addend h
-          given = in-section o g s addend at low orderly ∙ ap (λ x. option_map_or (section_target inputs o s.home s.value addend) x Nowhere) is
+          given = in-section inputs o g s addend at low orderly ∙ ap (λ x. option_map_or (section_target inputs o s.home s.value addend) x Nowhere) is
 
           by : (k : Bool) → is_kept_section h ≡ k → home_target result o (cleaned_symbol (needed o) g s) addend ≡ moved_target M (home_target inputs o s addend)
           by false dropped = absurd (subst (IsNeededTarget needed) (given ∙ ap (role_target inputs o s.home s.value addend h) (dropped-role h dropped)) it)
@@ -168,89 +142,56 @@ module _ (needed : ℕ → ℕ → Bool) (renumber : ℕ → ℕ → ℕ) (input
           ∙ ap (λ x. option_map_or (section_target inputs o s.home s.value addend) (option_and_then (λ (object : ObjectParts). slice_get object.sections s.home) x) Nowhere) at
           ∙ ap (λ x. option_map_or (section_target inputs o s.home s.value addend) x Nowhere) none) it)
 
-  -- ---- names
+  -- ---- definitions
 
-  defined-clean : (addend : ℤ) (l m : IndexedSymbol) → IsPassedSymbol (cleaning needed renumber) inputs.objects l m → eqb l.symbol.home 0 ≡ false → IsNeededTarget needed (definition_target inputs addend (InObject l)) → definition_target result addend (InObject m) ≡ moved_target M (definition_target inputs addend (InObject l))
-  defined-clean addend l m c other it =
-      ap₂ (λ o s. home_target result o s addend) c.object c.symbol ∙ home-clean l.object c.given l.symbol addend c.given_is c.orderly c.homed other it
+  defines-clean : (addend : ℤ) (l : IndexedSymbol) → IsNeededTarget needed (home_target inputs l.object l.symbol addend) → SymbolMoves (cleaning needed renumber) inputs result clean M addend addend l
+  defines-clean addend l it = λ m c other. ap₂ (λ o s. home_target result o s addend) c.object c.symbol ∙ home-clean l.object c.given l.symbol addend c.given_is c.orderly c.homed other it
+
+  definition-clean : (s : SymbolParts) (addend : ℤ) (d : Option Definition) → IsNeededTarget needed (option_map_or (definition_target inputs addend) d (undefined_target s addend))
+      → DefinitionMoves (cleaning needed renumber) inputs result clean M addend addend d
+  definition-clean s addend None it = refl
+  definition-clean s addend (Some (AtNumber n)) it = refl
+  definition-clean s addend (Some (InObject l)) it = defines-clean addend l it
 
   -- where a name leads by itself
   pub name-clean : (name : List ℕ) → IsNeededTarget needed (name_target inputs name) → name_target result name ≡ moved_target M (name_target inputs name)
-  name-clean name = by (name_definition inputs name) (name_definition result name) (definition-same (cleaning needed renumber) inputs result clean name)
+  name-clean name it = name-moved (cleaning needed renumber) inputs result clean M name (by (name_definition inputs name) it)
     where
-      by : (a b : Option Definition) → SameDefinition (cleaning needed renumber) inputs result clean a b → IsNeededTarget needed (option_map_or (definition_target inputs (pos 0)) a Nowhere) → option_map_or (definition_target result (pos 0)) b Nowhere ≡ moved_target M (option_map_or (definition_target inputs (pos 0)) a Nowhere)
-      by a b Undefined it = absurd it
-      by a b (Numbered n) it = refl
-      by a b (Defined l m c other) it = defined-clean (pos 0) l m c other it
-
-  undefined-same : (s t : SymbolParts) (addend : ℤ) → t.bind ≡ s.bind → undefined_target t addend ≡ moved_target M (undefined_target s addend)
-  undefined-same s t addend same = ap (λ b. cond (eqb b 2) (Absent (cast_unsigned w32 addend)) Nowhere) same ∙ by (eqb s.bind 2)
-    where
-      by : (b : Bool) → cond b (Absent (cast_unsigned w32 addend)) Nowhere ≡ moved_target M (cond b (Absent (cast_unsigned w32 addend)) Nowhere)
-      by true = refl
-      by false = refl
-
-  named-clean : (s t : SymbolParts) (addend : ℤ) → t.name ≡ s.name → t.bind ≡ s.bind → IsNeededTarget needed (named_target inputs s addend) → named_target result t addend ≡ moved_target M (named_target inputs s addend)
-  named-clean s t addend name bind it =
-      ap (λ n. option_map_or (definition_target result addend) (name_definition result n) (undefined_target t addend)) name
-      ∙ by (name_definition inputs s.name) (name_definition result s.name) (definition-same (cleaning needed renumber) inputs result clean s.name) it
-    where
-      by : (a b : Option Definition) → SameDefinition (cleaning needed renumber) inputs result clean a b → IsNeededTarget needed (option_map_or (definition_target inputs addend) a (undefined_target s addend)) → option_map_or (definition_target result addend) b (undefined_target t addend) ≡ moved_target M (option_map_or (definition_target inputs addend) a (undefined_target s addend))
-      by a b Undefined it = undefined-same s t addend bind
-      by a b (Numbered n) it = refl
-      by a b (Defined l m c other) it = defined-clean addend l m c other it
+      by : (d : Option Definition) → IsNeededTarget needed (option_map_or (definition_target inputs (pos 0)) d Nowhere) → DefinitionMoves (cleaning needed renumber) inputs result clean M (pos 0) (pos 0) d
+      by None it = refl
+      by (Some (AtNumber n)) it = refl
+      by (Some (InObject l)) it = defines-clean (pos 0) l it
 
   -- ---- symbols
-
-  symbol-clean : (o : ℕ) (g : ObjectParts) (s : SymbolParts) (addend : ℤ) → slice_get inputs.objects o ≡ Some g → IsOrderly g → IsHomed g s → IsNeededTarget needed (symbol_target inputs o s addend)
-      → symbol_target result o (cleaned_symbol (needed o) g s) addend ≡ moved_target M (symbol_target inputs o s addend)
-  symbol-clean o g s addend at orderly homed it =
-      let same = symbol-keeps (needed o) g s orderly in
-      ap₂ (λ c b. cond (c || not (eqb b 0)) (named_target result (cleaned_symbol (needed o) g s) addend) (home_target result o (cleaned_symbol (needed o) g s) addend)) same.common same.bind
-      ∙ by (eqb s.home 0xFFF2) (eqb s.bind 0) refl it
-    where
-      local : (b c : Bool) → b ≡ true → (b && c) ≡ false → c ≡ false
-      local true c e h = h
-      local false c e h = absurd cc
-
-      by : (c b : Bool) → eqb s.bind 0 ≡ b → IsNeededTarget needed (cond (c || not b) (named_target inputs s addend) (home_target inputs o s addend))
-          → cond (c || not b) (named_target result (cleaned_symbol (needed o) g s) addend) (home_target result o (cleaned_symbol (needed o) g s) addend) ≡ moved_target M (cond (c || not b) (named_target inputs s addend) (home_target inputs o s addend))
-      by true b is it = let same = symbol-keeps (needed o) g s orderly in named-clean s (cleaned_symbol (needed o) g s) addend same.name same.bind it
-      by false true is it = home-clean o g s addend at orderly homed (local (eqb s.bind 0) (eqb s.home 0) is homed.somewhere) it
-      by false false is it = let same = symbol-keeps (needed o) g s orderly in named-clean s (cleaned_symbol (needed o) g s) addend same.name same.bind it
-
-  second : {X : Type 0} (xs : List X) (k : ℕ) → slice_get xs (suc k) ≡ slice_get (drop 1 xs) k
-  second [] zero = refl
-  second [] (suc k) = refl
-  second (x ∷ xs) k = refl
-
-  symbol-got : (o k : ℕ) (g : ObjectParts) (s : SymbolParts) → slice_get inputs.objects o ≡ Some g → slice_get g.symbols (suc k) ≡ Some s → symbol_at result.objects o (suc k) ≡ Some (cleaned_symbol (needed o) g s)
-  symbol-got o k g s at is =
-      let r = result-of (cleaning needed renumber) inputs.objects result.objects clean.objects o g at in
-      ap (option_and_then (λ (object : ObjectParts). slice_get object.symbols (suc k))) r.is
-      ∙ ap (λ ss. slice_get ss (suc k)) r.clean.symbols
-      ∙ slice_get-map (cleaned_symbol (needed o) g) (drop 1 g.symbols) k
-      ∙ ap (option_map (cleaned_symbol (needed o) g)) (sym (second g.symbols k) ∙ is)
-
-  homed-at : (g : ObjectParts) (k : ℕ) (s : SymbolParts) → IsOrderly g → slice_get g.symbols (suc k) ≡ Some s → IsHomed g s
-  homed-at g k s orderly is =
-      let here = sym (second g.symbols k) ∙ is in
-      subst (IsHomed g) (get_or_from_slice_get (drop 1 g.symbols) k s s here) (All-get_or (IsHomed g) (drop 1 g.symbols) k s (slice_get_within (drop 1 g.symbols) k s here) orderly.homes)
 
   pub resolved-clean : (o k : ℕ) (addend : ℤ) → IsNeededTarget needed (resolved inputs o k addend) → resolved result o k addend ≡ moved_target M (resolved inputs o k addend)
   unfolding resolved
   resolved-clean o zero addend it = refl
-  resolved-clean o (suc k) addend it = by (slice_get inputs.objects o) refl it
+  resolved-clean o (suc k) addend it = by (slice_get inputs.objects o) refl
     where
-      in-object : (g : ObjectParts) → slice_get inputs.objects o ≡ Some g → (s : Option SymbolParts) → slice_get g.symbols (suc k) ≡ s → IsNeededTarget needed (option_map_or (λ symbol. symbol_target inputs o symbol addend) s Nowhere)
-          → option_map_or (λ symbol. symbol_target result o symbol addend) (symbol_at result.objects o (suc k)) Nowhere ≡ moved_target M (option_map_or (λ symbol. symbol_target inputs o symbol addend) s Nowhere)
-      in-object g at None is it = absurd it
-      in-object g at (Some s) is it =
-          let r = result-of (cleaning needed renumber) inputs.objects result.objects clean.objects o g at in
-          ap (λ x. option_map_or (λ symbol. symbol_target result o symbol addend) x Nowhere) (symbol-got o k g s at is)
-          ∙ symbol-clean o g s addend at r.clean.orderly (homed-at g k s r.clean.orderly is) it
+      unfound : symbol_at inputs.objects o (suc k) ≡ None → ⊥
+      unfound none = subst (IsNeededTarget needed) (ap (λ x. option_map_or (λ symbol. symbol_target inputs o symbol addend) x Nowhere) none) it
 
-      by : (found : Option ObjectParts) → slice_get inputs.objects o ≡ found → IsNeededTarget needed (option_map_or (λ symbol. symbol_target inputs o symbol addend) (option_and_then (λ (object : ObjectParts). slice_get object.symbols (suc k)) found) Nowhere)
-          → option_map_or (λ symbol. symbol_target result o symbol addend) (symbol_at result.objects o (suc k)) Nowhere ≡ moved_target M (option_map_or (λ symbol. symbol_target inputs o symbol addend) (option_and_then (λ (object : ObjectParts). slice_get object.symbols (suc k)) found) Nowhere)
-      by None at it = absurd it
-      by (Some g) at it = in-object g at (slice_get g.symbols (suc k)) refl it
+      in-object : (g : ObjectParts) → slice_get inputs.objects o ≡ Some g → (found : Option SymbolParts) → slice_get g.symbols (suc k) ≡ found → resolved result o (suc k) addend ≡ moved_target M (resolved inputs o (suc k) addend)
+      in-object g at None is = absurd (unfound (ap (option_and_then (λ (object : ObjectParts). slice_get object.symbols (suc k))) at ∙ is))
+      in-object g at (Some s) is =
+          symbol-resolved (cleaning needed renumber) inputs result clean M o k g s addend addend at is
+          (record { named = λ by-name. definition-clean s addend (name_definition inputs s.name) (led (goes_by_name s) by-name here); own = λ local. defines-clean addend (record { object = o; index = suc k; symbol = s }) (homed (goes_by_name s) local here) })
+        where
+          given : symbol_at inputs.objects o (suc k) ≡ Some s
+          given = ap (option_and_then (λ (object : ObjectParts). slice_get object.symbols (suc k))) at ∙ is
+
+          here : IsNeededTarget needed (symbol_target inputs o s addend)
+          here = subst (IsNeededTarget needed) (ap (λ x. option_map_or (λ symbol. symbol_target inputs o symbol addend) x Nowhere) given) it
+
+          led : (b : Bool) → b ≡ true → IsNeededTarget needed (cond b (named_target inputs s addend) (home_target inputs o s addend)) → IsNeededTarget needed (named_target inputs s addend)
+          led true is it = it
+          led false is it = absurd cc
+
+          homed : (b : Bool) → b ≡ false → IsNeededTarget needed (cond b (named_target inputs s addend) (home_target inputs o s addend)) → IsNeededTarget needed (home_target inputs o s addend)
+          homed false is it = it
+          homed true is it = absurd cc
+
+      by : (found : Option ObjectParts) → slice_get inputs.objects o ≡ found → resolved result o (suc k) addend ≡ moved_target M (resolved inputs o (suc k) addend)
+      by None at = absurd (unfound (ap (option_and_then (λ (object : ObjectParts). slice_get object.symbols (suc k))) at))
+      by (Some g) at = in-object g at (slice_get g.symbols (suc k)) refl

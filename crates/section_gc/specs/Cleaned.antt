@@ -1,11 +1,11 @@
 -- Objects without the code that isn't needed: what becomes of each section and symbol, and so of each place.
-use Rattle.std.specs.Prelude.{ℕ, Bool, not, ◌&&◌, ◌==◌, if◌then◌else◌, List, [], filter, map, drop, slice_get, Option, None}
+use Rattle.std.specs.Prelude.{ℕ, Bool, not, ◌&&◌, if◌then◌else◌, List, [], filter, map, drop}
 use Rattle.std.specs.List.{enumerate_from}
 use Rattle.std.specs.Option.{option_map_or}
 use Rattle.zc_base.specs.declared.place.Place.{Place}
 use Rattle.elf32_read.specs.Parts.{ObjectParts, SectionParts, SymbolParts, is_code_section, is_kept_section}
 use Rattle.block_cut.specs.Resolved.{asks}
-use Rattle.moved_runs.specs.Passes.{new_number}
+use Rattle.moved_runs.specs.Passes.{home_of, new_number}
 
 -- ---- sections
 
@@ -21,10 +21,6 @@ cleaned_sections needed object =
     map (λ e. cleaned_section (needed e.0) e.1) (filter (λ e. is_kept_section e.1) (enumerate_from 0 object.sections))
 
 -- ---- symbols
-
--- the section that a symbol is in, if it is in one
-abbrev pub home_of : ObjectParts → SymbolParts → Option SectionParts
-home_of object s = if s.home == 0 then None else slice_get object.sections s.home
 
 -- a symbol in a section gets the section's new number. If the section is dropped, the symbol becomes the number 0 (ABS, 0xFFF1), and
 -- in code that isn't needed it comes to stand at the start, with no size
@@ -53,10 +49,6 @@ abbrev pub cleaned : (ℕ → ℕ → Bool) → List ObjectParts → List Object
 cleaned needed objects = map (λ e. cleaned_object (needed e.0) e.1) (enumerate_from 0 objects)
 
 -- ---- places
-
--- the new number of a section, by its object's index and its own
-abbrev pub renumbered : List ObjectParts → ℕ → ℕ → ℕ
-renumbered objects o i = option_map_or (λ object. new_number object.sections i) (slice_get objects o) 0
 
 -- a place is where it was in its section, under the section's new number
 abbrev pub moved_by : (ℕ → ℕ → ℕ) → Place → Place

@@ -8,16 +8,13 @@ use Rattle.psabi_sym.specs.Inputs.{Inputs, parsed}
 use Rattle.block_cut.specs.Faults.{first_fault}
 use Rattle.sym_machine.specs.Objects.{program_of}
 use Rattle.zc_base.specs.declared.place.Place.{Place}
-use Rattle.section_gc.specs.Cleaned.{cleaned, moved_by, renumbered}
+use Rattle.section_gc.specs.Cleaned.{cleaned, moved_by}
 use Rattle.section_gc.specs.Counts.{all_code, listed_bytes, needed_code}
 use Rattle.section_gc.specs.Kept.{AreNeeded}
 use Rattle.section_gc.specs.declared.gc_fault.GcFault.{GcFault}
 use Rattle.section_gc.specs.declared.gc_fault.GcFault.TheVariants.{Object, Broken, OutOfMemory}
 use Rattle.moved_runs.specs.Moves.{MovesExactly, SameRuns}
-
--- the inputs with other files
-abbrev pub with_files : Inputs → List (List ℕ) → Inputs
-with_files inputs files = record { files = files; map = inputs.map }
+use Rattle.moved_runs.specs.Passes.{renumbered, with_files}
 
 -- the files of the given objects without the code that isn't needed
 abbrev pub collected_files : Inputs → (ℕ → ℕ → Bool) → List (List ℕ)

@@ -5,6 +5,4 @@ pub mod Counts
 pub mod Graph
 pub mod Marked
 pub mod Remains
-pub mod Sizes
-pub mod Written
-pub mod Rooms
+pub mod Left

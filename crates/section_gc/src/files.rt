@@ -8,11 +8,11 @@ ghost use Rattle.block_cut.specs.Faults.{first_fault};
 ghost use Rattle.psabi_sym.specs.Indexed.{all_sections};
 ghost use Rattle.psabi_sym.specs.Inputs.{parsed};
 ghost use Rattle.psabi_sym.specs.Objects.{contents_of};
+ghost use Rattle.object_passes.specs.Sizes.{first_oversized};
+ghost use Rattle.object_passes.specs.Written.{without_marks};
 ghost use Rattle.section_gc.specs.Cleaned.{cleaned};
 ghost use Rattle.section_gc.specs.Collected.{collected_files};
 ghost use Rattle.section_gc.specs.Marked.{needed_by, marked_object};
-ghost use Rattle.section_gc.specs.Sizes.{first_oversized};
-ghost use Rattle.section_gc.specs.Written.{without_marks};
 
 use crate::remains::remains_in;
 use crate::sections::section_parts;

@@ -4,7 +4,6 @@ ghost use Rattle.std.specs.Prelude.{◌≡◌, None, IfErr, IfOk, length};
 ghost use Rattle.zc_base.specs.MemMap.{IsMap};
 ghost use Rattle.psabi_sym.specs.Indexed.{all_sections};
 ghost use Rattle.psabi_sym.specs.Inputs.{inputs_in, parsed};
-ghost use Rattle.psabi_sym.specs.LinkFault.{IsRefusal};
 ghost use Rattle.psabi_sym.specs.Objects.{contents_of};
 ghost use Rattle.block_cut.specs.Faults.{first_fault};
 ghost use Rattle.section_gc.specs.Collected.{IsCollected, IsCollection, IsGcFault};
@@ -14,11 +13,11 @@ ghost use Rattle.section_gc.specs.Marked.{needed_by};
 use crate::counts::code_counts;
 use crate::files::files_of;
 use crate::gc_fault::GcFault;
+use crate::left::oversized_index;
 use crate::needed::needed_sections;
-use crate::sizes::first_oversized;
 use block_cut::cut::Cut;
 use elf32_read::fault::Fault;
-use psabi_sym::link_fault::LinkFault;
+use object_passes::judge::{cut_files, judge};
 use psabi_sym::objects::Objects;
 use std::alloc::Global;
 use std::marker::Model;
@@ -50,31 +49,6 @@ impl Model for Cleaned {
     } };
 }
 
-// The objects in these files, cut into items, or their first fault.
-fn cut_files(alloc: Global, files: &[Vec<u8>], map: MemMap) -> Result<Cut, LinkFault>
-    requires { IsMap map }
-    ensures same { IfOk result (λ cut. cut ≡ inputs_in map (contents_of files.now)) }
-    ensures faultless { IfOk result (λ _. first_fault (inputs_in map (contents_of files.now)) ≡ None) }
-    ensures err { IfErr result (IsRefusal (first_fault (inputs_in map (contents_of files.now)))) }
-{
-    match Objects::gather(alloc, files, map) {
-        Ok(objects) => Cut::new(alloc, objects),
-        Err(fault) => Err(fault),
-    }
-}
-
-// The first fault of the objects in these files, if they have one.
-fn judge(alloc: Global, files: &[Vec<u8>], map: MemMap) -> Result<(), LinkFault>
-    requires { IsMap map }
-    ensures ok { IfOk result (λ _. first_fault (inputs_in map (contents_of files.now)) ≡ None) }
-    ensures err { IfErr result (IsRefusal (first_fault (inputs_in map (contents_of files.now)))) }
-{
-    match cut_files(alloc, files, map) {
-        Ok(_cut) => Ok(()),
-        Err(fault) => Err(fault),
-    }
-}
-
 // The files of the objects without the code that isn't marked, which isn't needed, or why they aren't to be had.
 fn collected_files(
     alloc: Global,
@@ -88,7 +62,7 @@ fn collected_files(
         IsCollected objects.now (needed_by objects.now marks.now) (contents_of files.items)) }
     ensures err { IfErr result (IsGcFault objects.now) }
 {
-    if let Some(index) = first_oversized(objects, marks) {
+    if let Some(index) = oversized_index(alloc, objects, marks)? {
         return Err(GcFault::Broken {
             index,
             fault: Fault::TooLarge,

@@ -5,7 +5,8 @@ ghost use Rattle.elf32_read.specs.declared.fault.Fault.{Fault};
 ghost use Rattle.psabi_sym.specs.Inputs.{Inputs, parsed};
 ghost use Rattle.block_cut.specs.Faults.{first_fault};
 ghost use Rattle.psabi_sym.specs.LinkFault.{IsRefusal};
-ghost use Rattle.section_gc.specs.Collected.{IsBreakage, IsGcFault, collected_files, with_files};
+ghost use Rattle.moved_runs.specs.Passes.{with_files};
+ghost use Rattle.section_gc.specs.Collected.{IsBreakage, IsGcFault, collected_files};
 ghost use Rattle.section_gc.specs.Kept.{AreNeeded};
 
 use elf32_read::fault::Fault;

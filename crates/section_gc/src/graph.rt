@@ -5,8 +5,8 @@ ghost use Rattle.psabi_sym.specs.Indexed.{all_sections};
 ghost use Rattle.psabi_sym.specs.Inputs.{parsed};
 ghost use Rattle.section_gc.specs.Graph.{data_nodes_from, is_data_role, nodes_at, reloc_nodes, section_nodes, target_nodes};
 
-use crate::section_part::asks;
 use elf32_read::reloc::Reloc;
+use object_passes::relocs::asks;
 use psabi_sym::objects::Objects;
 use psabi_sym::section_ref::SectionRef;
 use psabi_sym::section_row::SectionRole;

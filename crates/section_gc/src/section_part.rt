@@ -4,22 +4,15 @@ ghost use Rattle.std.specs.Prelude.{◌≡◌, true, false, not, ◌&&◌, IfOk,
 ghost use Rattle.elf32_read.specs.Lent.{IsSection};
 ghost use Rattle.elf32_read.specs.Parts.{is_code_section};
 ghost use Rattle.block_cut.specs.Resolved.{asks};
+ghost use Rattle.object_passes.specs.Written.{without_mark};
 ghost use Rattle.section_gc.specs.Cleaned.{cleaned_section};
-ghost use Rattle.section_gc.specs.Written.{without_mark};
 
 use elf32_read::reloc::Reloc;
 use elf32_read::section::Section;
 use elf32_write::object_parts::PartSection;
-use psabi_reloc::kind::RelocKind;
+use object_passes::relocs::asks;
 use psabi_sym::section_ref::SectionRef;
 use std::alloc::{AllocError, Global};
-
-/// Whether a relocation asks for something.
-pub fn asks(reloc: Reloc) -> bool
-    ensures { result ≡ asks reloc }
-{
-    RelocKind::of(reloc.kind) != Some(RelocKind::Ignored)
-}
 
 // The relocations of a section that ask for something.
 fn asking_relocs(alloc: Global, section: &SectionRef) -> Result<Vec<Reloc>, AllocError>

@@ -1,10 +1,10 @@
 // What is left of an object's sections, as they are written.
 
 ghost use Rattle.std.specs.Prelude.{◌≡◌, ◌<◌, ℕ, Bool, IfOk, length, map};
+ghost use Rattle.object_passes.specs.Written.{without_mark};
 ghost use Rattle.section_gc.specs.Cleaned.{cleaned_sections};
 ghost use Rattle.section_gc.specs.Marked.{given_object};
 ghost use Rattle.section_gc.specs.Remains.{remains_in};
-ghost use Rattle.section_gc.specs.Written.{without_mark};
 
 use crate::remains::{Remains, number_among_all};
 use crate::section_part::section_part;

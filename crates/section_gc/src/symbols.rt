@@ -10,6 +10,7 @@ use crate::remains::Remains;
 use elf32_read::object::Object;
 use elf32_read::symbol::{ABS, Symbol, UNDEF};
 use elf32_write::object_parts::PartSymbol;
+use object_passes::symbols::symbol_part;
 use std::alloc::{AllocError, Global};
 
 // What becomes of a symbol, by what is left of each section of its object.
@@ -38,21 +39,6 @@ fn cleaned_symbol<'a>(table: &[Remains], symbol: Symbol<'a>) -> Symbol<'a>
             ..symbol
         },
     }
-}
-
-// A symbol, as it is written.
-fn symbol_part(alloc: Global, symbol: Symbol) -> Result<PartSymbol, AllocError>
-    ensures { IfOk result (λ part. IsSymbol symbol.entry part) }
-{
-    let name = Vec::from_slice(alloc, symbol.name)?;
-    Ok(PartSymbol {
-        name,
-        value: symbol.value,
-        size: symbol.size,
-        bind: symbol.bind,
-        kind: symbol.kind,
-        home: symbol.home,
-    })
 }
 
 /// What becomes of each symbol of an object but symbol 0, by what is left of each section, in time linear in the

@@ -2,9 +2,9 @@ use Rattle.std.proofs.Common.{◌∙◌, [], ap, get_or}
 use Rattle.elf32_read.specs.Parts.{object_parts}
 use Rattle.elf32_write.specs.ObjectFile.{object_bytes}
 use Rattle.psabi_sym.specs.Inputs.{parsed}
+use Rattle.object_passes.proofs.MarkLaws.{bytes-same}
 use Rattle.section_gc.specs.Cleaned.{cleaned_object}
 use Rattle.section_gc.specs.Graph.{has_mark}
-use Rattle.section_gc.proofs.MarkLaws.{bytes-same}
 use Rattle.section_gc.proofs.files.file_of.Goals as goal
 
 pub returns-clause-bytes : goal.returns-clause-bytes

@@ -4,9 +4,9 @@ use Rattle.elf32_write.specs.ObjectFile.{object_bytes}
 use Rattle.elf32_write.specs.Writable.{IsObjectOf}
 use Rattle.psabi_sym.specs.Inputs.{parsed}
 use Rattle.psabi_sym.specs.Objects.{contents_of}
+use Rattle.object_passes.specs.Written.{without_marks}
 use Rattle.section_gc.specs.Cleaned.{cleaned}
 use Rattle.section_gc.specs.Graph.{has_mark}
-use Rattle.section_gc.specs.Written.{without_marks}
 use Rattle.section_gc.proofs.files.files_of.Given as goal
 
 abbrev pub invariant-loop-o : goal.invariant-loop-o

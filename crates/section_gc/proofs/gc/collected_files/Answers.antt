@@ -6,11 +6,13 @@ use Rattle.psabi_sym.specs.Inputs.{Inputs, inputs_in, parsed}
 use Rattle.psabi_sym.specs.LinkFault.{IsRefusal}
 use Rattle.psabi_sym.specs.Objects.{contents_of}
 use Rattle.block_cut.specs.Faults.{first_fault}
+use Rattle.object_passes.specs.Written.{without_marks}
+use Rattle.object_passes.proofs.OversizedLaws.{oversized-broken}
 use Rattle.section_gc.specs.Cleaned.{cleaned}
 use Rattle.section_gc.specs.Graph.{has_mark}
-use Rattle.section_gc.specs.Written.{without_marks}
+use Rattle.section_gc.proofs.CleaningLaws.{cleaning_of}
+use Rattle.section_gc.proofs.FitLaws.{cleaning-fit}
 use Rattle.section_gc.proofs.LeftFaults.{range-left}
-use Rattle.section_gc.proofs.OversizedLaws.{oversized-broken}
 use Rattle.section_gc.proofs.Theorem.{collected}
 use Rattle.section_gc.proofs.gc.collected_files.Goals as goal
 
@@ -22,7 +24,7 @@ returns-in-Some-clause-err c =
       given_faultless = c.requires.faultless;
       needed = needed;
       are_needed = c.requires.needed;
-      broken = oversized-broken inputs needed c.in-Some.index c.requires.faultless (sym c.first_oversized.ensures ∙ c.in-Some.is);
+      broken = oversized-broken inputs (cleaning_of inputs needed) c.in-Some.index c.requires.faultless (cleaning-fit inputs needed) (sym c.in_ok-index.ensures ∙ c.in-Some.is);
       is_breakage = tt;
     }
 
@@ -32,7 +34,7 @@ returns-in-Err-clause-err c =
     let needed = has_mark (parsed inputs).objects c.args.marks.now in
     let parts = map without_marks (cleaned needed (parsed inputs).objects) in
     let read = subst (AllZip IsObjectOf parts) c.in_ok-files.ensures.bytes c.in_ok-files.ensures.read_back in
-    let small = sym c.first_oversized.ensures ∙ c.in_default.is in
+    let small = sym c.in_ok-index.ensures ∙ c.in_default.is in
     c.of_result.ensures inputs needed c.requires.faultless c.requires.needed
     (λ i fault is. range-left inputs needed i fault c.requires.faultless c.requires.needed read small is)
     (subst (λ (it : Inputs). IsRefusal (first_fault it) c.in-Err.fault)

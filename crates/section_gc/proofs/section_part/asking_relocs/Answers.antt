@@ -1,6 +1,6 @@
 use Rattle.std.proofs.Common.{[], ◌∷◌, ◌++◌, ◌∙◌, append-nil, ap, cond, sym}
 use Rattle.block_cut.specs.Resolved.{asks}
-use Rattle.section_gc.proofs.EdgeLaws.{kept-more}
+use Rattle.object_passes.proofs.ListLaws.{kept-more}
 use Rattle.section_gc.proofs.section_part.asking_relocs.Goals as goal
 use Rattle.section_gc.proofs.section_part.asking_relocs.Goals.{then-asks+in_ok-push, else-asks}
 

@@ -7,9 +7,9 @@ use Rattle.elf32_read.proofs.PartsLaws.{length-sections, section_at}
 use Rattle.psabi_sym.specs.Indexed.{all_sections}
 use Rattle.psabi_sym.specs.Inputs.{parsed}
 use Rattle.moved_runs.specs.Passes.{new_number}
+use Rattle.object_passes.specs.Written.{without_mark}
 use Rattle.section_gc.specs.Cleaned.{cleaned_section}
 use Rattle.section_gc.specs.Remains.{is_something, is_whole}
-use Rattle.section_gc.specs.Written.{without_mark}
 use Rattle.section_gc.specs.declared.remains.Remains.TheVariants.{Nothing}
 use Rattle.section_gc.proofs.PartLaws.{got-remains, one-section, section-passed, section-turn, sections-all}
 use Rattle.section_gc.proofs.sections.section_parts.Goals as goal

@@ -2,9 +2,9 @@ use Rattle.std.proofs.Common.{◌≡◌, ℕ, Bool, [], map, filter, take}
 use Rattle.std.specs.Prelude.{slice_index_or}
 use Rattle.std.specs.List.{enumerate_from}
 use Rattle.elf32_read.specs.Parts.{is_kept_section, object_parts}
+use Rattle.object_passes.specs.Written.{without_mark}
 use Rattle.section_gc.specs.Cleaned.{cleaned_section}
 use Rattle.section_gc.specs.Remains.{remains_in}
-use Rattle.section_gc.specs.Written.{without_mark}
 use Rattle.section_gc.proofs.sections.section_parts.Given as goal
 
 abbrev pub invariant-loop-i : goal.invariant-loop-i

@@ -1,7 +1,0 @@
-use Rattle.psabi_sym.specs.Inputs.{inputs_in}
-use Rattle.psabi_sym.specs.Objects.{contents_of}
-use Rattle.section_gc.proofs.FileLaws.{gather_first}
-use Rattle.section_gc.proofs.gc.cut_files.Goals as goal
-
-pub returns-in-Err-clause-err : goal.returns-in-Err-clause-err
-returns-in-Err-clause-err c = gather_first (inputs_in c.args.map (contents_of c.args.files.now)) c.in-Err.fault c.in-Err.ensures.err
