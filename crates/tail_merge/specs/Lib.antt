@@ -1,0 +1,11 @@
+pub mod Tails
+pub mod Merged
+pub mod Sharing
+pub mod Merging
+pub mod RemovedTails
+pub mod HostTree
+pub mod TailItems
+pub mod TailSearch
+pub mod MovedTails
+pub mod Left
+pub mod SectionCode
