@@ -11,6 +11,8 @@ mod gc;
 #[cfg(test)]
 mod make;
 #[cfg(test)]
+mod merge;
+#[cfg(test)]
 mod outcomes;
 #[cfg(test)]
 mod plain;

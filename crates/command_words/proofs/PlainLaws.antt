@@ -8,9 +8,9 @@ use Rattle.clap.specs.Lexer.{usize_max}
 use Rattle.clap.specs.Simple.{App, Shape, built, help_shape}
 use Rattle.clap.specs.Walk.{Row, Text, first_of}
 use Rattle.clap.proofs.OnLiterals.{clap_on_literals}
-use Rattle.command_words.specs.Command.{Command, Meaning, Spelled, Words, check_of, command_of, found_in, gc_of, make_of, meaning, meaning_named, meanings, plain_of, read_by_clap, run_of, trace_of, values_in, zc_of}
+use Rattle.command_words.specs.Command.{Command, Meaning, Spelled, Words, check_of, command_of, found_in, gc_of, make_of, meaning, meaning_named, meanings, merge_of, plain_of, read_by_clap, run_of, trace_of, values_in, zc_of}
 use Rattle.command_words.specs.PlainForm.{IsReadAsPlain, is_plain_form, plain_command_of, spelled_words}
-use Rattle.command_words.specs.Table.{OptionSyntax, Syntax, check_syntax, gc_syntax, make_syntax, one, plain_syntax, program_app, run_syntax, several, trace_syntax, zc_syntax}
+use Rattle.command_words.specs.Table.{OptionSyntax, Syntax, check_syntax, gc_syntax, make_syntax, merge_syntax, one, plain_syntax, program_app, run_syntax, several, trace_syntax, zc_syntax}
 use Rattle.command_words.proofs.Given.{Given, all_of-given, first_of-given, lookup, rows_for, same_text}
 use Rattle.command_words.proofs.PlainOptions.{Each, values_of}
 use Rattle.command_words.proofs.PlainWords.{Reads, SeveralFits, SingleFits}
@@ -225,10 +225,28 @@ gc_read words few =
     form_read (record { form = gc_syntax; command = gc_of }) words (λ rows. refl)
     (several_read (codes "gc") gc_syntax.options (sub 6) gc_enters words (codes "OBJ") gc_leaf gc_words few) _ refl
 
+-- `merge`
+merge_enters : Enters built_app (codes "merge") (sub 7)
+unfolding built_app sub program_app clap_on_literals
+merge_enters = record { named = refl; found = refl; other = refl; same = refl; defaults = (refl, tt); negates = refl; free = refl }
+
+merge_leaf : IsLeafOf (sub 7) merge_syntax.options (codes "OBJ" ∷ [])
+unfolding built_app sub program_app clap_on_literals
+merge_leaf = record { defaults = refl; help = refl; required = refl; negates = refl; written = refl; dashes = refl; by_long = refl; by_id = refl; apart = refl; other = refl; back = refl; rules = refl; rest = refl }
+
+merge_words : SeveralFits (sub 7).rules (codes "OBJ")
+unfolding built_app sub program_app clap_on_literals
+merge_words = record { by_index = refl; by_id = refl }
+
+merge_read : (words : List Text) → length words ≤ usize_max → ReadsForm words (record { form = merge_syntax; command = merge_of })
+merge_read words few =
+    form_read (record { form = merge_syntax; command = merge_of }) words (λ rows. refl)
+    (several_read (codes "merge") merge_syntax.options (sub 7) merge_enters words (codes "OBJ") merge_leaf merge_words few) _ refl
+
 -- ---- all commands
 
 forms_read : (words : List Text) → length words ≤ usize_max → Each (ReadsForm words) meanings
-forms_read words few = (plain_read words few, (zc_read words few, (run_read words, (trace_read words few, (check_read words, (make_read words, (gc_read words few, tt)))))))
+forms_read words few = (plain_read words few, (zc_read words few, (run_read words, (trace_read words few, (check_read words, (make_read words, (gc_read words few, (merge_read words few, tt))))))))
 
 -- words of a command that is one of these
 module _ (name : Text) (words : List Text) where

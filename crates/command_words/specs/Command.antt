@@ -14,13 +14,14 @@ use Rattle.command_words.specs.declared.command_line.CommandLine.{CommandLine}
 use Rattle.command_words.specs.declared.command_line.CommandLine.TheVariants as line
 use Rattle.command_words.specs.declared.command_line.GcArgs.{GcArgs}
 use Rattle.command_words.specs.declared.command_line.MakeArgs.{MakeArgs}
+use Rattle.command_words.specs.declared.command_line.MergeArgs.{MergeArgs}
 use Rattle.command_words.specs.declared.command_line.PlainArgs.{PlainArgs}
 use Rattle.command_words.specs.declared.command_line.RunArgs.{RunArgs}
 use Rattle.command_words.specs.declared.command_line.TraceArgs.{TraceArgs}
 use Rattle.command_words.specs.declared.command_line.ZcArgs.{ZcArgs}
 use Rattle.command_words.specs.MapWords.{map_given}
 use Rattle.command_words.specs.Number.{number_up_to}
-use Rattle.command_words.specs.Table.{OptionSyntax, PositionalSyntax, Syntax, check_syntax, gc_syntax, make_syntax, plain_syntax, program_app, run_syntax, trace_syntax, zc_syntax}
+use Rattle.command_words.specs.Table.{OptionSyntax, PositionalSyntax, Syntax, check_syntax, gc_syntax, make_syntax, merge_syntax, plain_syntax, program_app, run_syntax, trace_syntax, zc_syntax}
 
 -- a command, with the memory map that it works in, the names of its files, and its numbers
 pub data Command : Type 0 where
@@ -31,6 +32,7 @@ pub data Command : Type 0 where
   Check : (cert : Text) → Command
   Make : (prefix : Option Text) (number functions : ℕ) → Command
   Gc : (prefix : Text) (objects : List Text) → Command
+  Merge : (prefix : Text) (objects : List Text) → Command
 
 -- ---- what clap reads
 
@@ -115,6 +117,11 @@ abbrev pub gc_of : Spelled → Option Command
 gc_of (Words (Some prefix ∷ []) objects) = Some (Gc prefix objects)
 gc_of other = None
 
+-- `merge` of its objects
+abbrev pub merge_of : Spelled → Option Command
+merge_of (Words (Some prefix ∷ []) objects) = Some (Merge prefix objects)
+merge_of other = None
+
 -- a command's syntax, and which command it is with these words
 pub record Meaning : Type 0 where
   pub form : Syntax
@@ -125,7 +132,7 @@ meanings =
     record { form = plain_syntax; command = plain_of } ∷ record { form = zc_syntax; command = zc_of }
     ∷ record { form = run_syntax; command = run_of } ∷ record { form = trace_syntax; command = trace_of }
     ∷ record { form = check_syntax; command = check_of } ∷ record { form = make_syntax; command = make_of }
-    ∷ record { form = gc_syntax; command = gc_of } ∷ []
+    ∷ record { form = gc_syntax; command = gc_of } ∷ record { form = merge_syntax; command = merge_of } ∷ []
 
 -- the meaning of a command's name
 abbrev pub meaning_named : Text → Option Meaning
@@ -169,6 +176,10 @@ make_meant args = Make (option_copied args.prefix) args.number args.functions
 abbrev pub gc_meant : GcArgs → Command
 gc_meant args = Gc args.prefix.now (texts args.objects.items)
 
+-- the command that the words of `merge` mean
+abbrev pub merge_meant : MergeArgs → Command
+merge_meant args = Merge args.prefix.now (texts args.objects.items)
+
 -- a command
 abbrev pub meant_command : CommandLine → Command
 meant_command (line.Plain args) = plain_meant args
@@ -178,6 +189,7 @@ meant_command (line.Trace args) = trace_meant args
 meant_command (line.Check cert) = Check cert.now
 meant_command (line.Make args) = make_meant args
 meant_command (line.Gc args) = gc_meant args
+meant_command (line.Merge args) = merge_meant args
 
 -- a command's map, if it has one, is one that a link may be made for
 abbrev pub HasMap : CommandLine → Type 0
@@ -188,3 +200,4 @@ HasMap (line.Trace args) = IsMap args.map
 HasMap (line.Check cert) = ⊤
 HasMap (line.Make args) = ⊤
 HasMap (line.Gc args) = ⊤
+HasMap (line.Merge args) = ⊤

@@ -93,9 +93,14 @@ make_syntax = record {
 abbrev pub gc_syntax : Syntax
 gc_syntax = record { name = codes "gc"; options = required (codes "out") ∷ []; positionals = several (codes "OBJ") ∷ [] }
 
+-- `merge --out PREFIX OBJ...`
+abbrev pub merge_syntax : Syntax
+merge_syntax = record { name = codes "merge"; options = required (codes "out") ∷ []; positionals = several (codes "OBJ") ∷ [] }
+
 -- all commands
 abbrev pub commands : List Syntax
-commands = plain_syntax ∷ zc_syntax ∷ run_syntax ∷ trace_syntax ∷ check_syntax ∷ make_syntax ∷ gc_syntax ∷ []
+commands =
+    plain_syntax ∷ zc_syntax ∷ run_syntax ∷ trace_syntax ∷ check_syntax ∷ make_syntax ∷ gc_syntax ∷ merge_syntax ∷ []
 
 -- ---- the `clap` command
 

@@ -64,6 +64,14 @@ pub struct GcArgs<'a> {
     pub objects: Vec<String>,
 }
 
+/// What `merge` shares equal ends of functions in: the objects, at least one. The names of the files that it puts begin
+/// with the prefix.
+#[derive(Drop)]
+pub struct MergeArgs<'a> {
+    pub prefix: &'a str,
+    pub objects: Vec<String>,
+}
+
 /// A command, with the names of its files.
 #[derive(Drop)]
 pub enum CommandLine<'a> {
@@ -74,4 +82,5 @@ pub enum CommandLine<'a> {
     Check { cert: &'a str },
     Make(MakeArgs<'a>),
     Gc(GcArgs<'a>),
+    Merge(MergeArgs<'a>),
 }

@@ -133,5 +133,12 @@ const GC: Syntax = Syntax {
     positionals: &[OBJECTS],
 };
 
+// `merge --out PREFIX OBJ...`
+const MERGE: Syntax = Syntax {
+    name: "merge",
+    options: &[OUT],
+    positionals: &[OBJECTS],
+};
+
 /// The commands.
-pub static COMMANDS: [Syntax; 7] = [PLAIN, ZC, RUN, TRACE, CHECK, MAKE, GC];
+pub static COMMANDS: [Syntax; 8] = [PLAIN, ZC, RUN, TRACE, CHECK, MAKE, GC, MERGE];

@@ -1,27 +1,32 @@
 -- The headline from what a call does: of an outcome that is Done, only the case is left in which the command did its work.
-use Rattle.std.proofs.Common.{◌≡◌, ℕ, suc, List, [], ◌∷◌, length, map, Option, Some, None, refl, sym, ap, ap₂, subst, ◌∙◌, inl, inr}
+use Rattle.std.proofs.Common.{◌≡◌, ℕ, suc, ◌+◌, List, [], ◌∷◌, length, map, Option, Some, None, refl, sym, ap, ap₂, subst, ◌∙◌, inl, inr}
+use Rattle.std.specs.List.{enumerate_from}
 use Rattle.std.proofs.lemmas.Option.{same_Some, none-some}
 use Rattle.std.proofs.lemmas.List.{length-map}
 use Rattle.elf32_read.specs.Parts.{object_parts}
 use Rattle.elf32_write.specs.ObjectFile.{object_bytes}
 use Rattle.psabi_sym.specs.Inputs.{Inputs, inputs_in, parsed}
 use Rattle.section_gc.specs.Cleaned.{cleaned}
-use Rattle.section_gc.proofs.RoomLaws.{length-cleaned}
-use Rattle.section_gc.specs.Collected.{Collection, IsCollection}
+use Rattle.section_gc.proofs.CleaningLaws.{length-cleaned}
+use Rattle.section_gc.specs.Collected.{Collection, IsCollection, collected_place}
+use Rattle.tail_merge.specs.Merged.{merged, merged_object, merged_place}
+use Rattle.tail_merge.specs.Merging.{IsMerging, Merging}
 use Rattle.zc_base.specs.MemMap.{standard_map}
 use Rattle.zc_base.specs.declared.mem_map.MemMap.{MemMap}
+use Rattle.zc_base.specs.declared.place.Place.{Place}
 use Rattle.elf32_read.specs.declared.fault.Fault.{Fault}
 use Rattle.block_cut.specs.Faults.{first_fault}
 use Rattle.zc_link.specs.Preserves.{Preserves}
 use Rattle.zc_outside.specs.Files.{Files, KeepsFiles}
 use Rattle.zc_outside.specs.Wanted.{AreRead, each_within}
 use Rattle.zc_outside.specs.World.{World}
-use Rattle.command_words.specs.Command.{Command, Gc, Plain, Zc}
+use Rattle.command_words.specs.Command.{Command, Gc, Merge, Plain, Zc}
 use Rattle.zcld.specs.declared.outcome.Outcome.{Outcome}
 use Rattle.zcld.specs.declared.outcome.Outcome.TheVariants.{Broken, Done, OutOfMemory, Refused}
 use Rattle.zcld.specs.Call.{Calls, task_of}
 use Rattle.zcld.specs.Gc.{GcWork}
-use Rattle.zcld.specs.Headline.{HoldsCollection, HoldsImage, Links}
+use Rattle.zcld.specs.Headline.{HoldsImage, HoldsResults, Links, PreservesMoved}
+use Rattle.zcld.specs.Merge.{MergeWork}
 use Rattle.zcld.specs.ObjectNames.{named_from, names_from}
 use Rattle.zcld.specs.Objects.{objects_wanted, refused_for}
 use Rattle.zcld.specs.Puts.{HasFiles, PutsFiles}
@@ -29,7 +34,7 @@ use Rattle.zcld.specs.Plain.{PlainWork}
 use Rattle.zcld.specs.Task.{IsWorked, OnlyRead, Performs, Task}
 use Rattle.zcld.specs.Zc.{ZcWork}
 use Rattle.zcld.specs.declared.limits.TheConstants.{OBJECT_LIMIT}
-use Rattle.zcld.proofs.MovedImages.{collection_preserves}
+use Rattle.zcld.proofs.MovedImages.{collection_preserves, merging_preserves}
 
 -- a refusal of objects isn't Done
 refused_undone : (found : Option (ℕ × Fault)) → refused_for found ≡ Some Done → ⊥
@@ -108,25 +113,37 @@ as_many inputs c is =
     ap length is.collected.files_are ∙ length-map (cleaned is.needed (parsed inputs).objects) object_bytes
     ∙ length-cleaned is.needed 0 (parsed inputs).objects ∙ length-map inputs.files object_parts
 
+length_enumerated : {A : Type 0} (n : ℕ) (xs : List A) → length (enumerate_from n xs) ≡ length xs
+length_enumerated n [] = refl
+length_enumerated n (x ∷ xs) = ap suc (length_enumerated (n + 1) xs)
+
+as_many_merged : (inputs : Inputs) (m : Merging) → IsMerging inputs m → length m.files ≡ length inputs.files
+as_many_merged inputs m is =
+    let objects = (parsed inputs).objects in
+    ap length is.merged.files_are ∙ length-map (merged (parsed inputs)) object_bytes
+    ∙ length-map (enumerate_from 0 objects) (λ e. merged_object (parsed inputs) e.0 e.1)
+    ∙ length_enumerated 0 objects ∙ length-map inputs.files object_parts
+
 module _ (before after : World) where
-  -- objects were read, and what is put is what is left of them
-  holds_collection :
-      (prefix : List ℕ) (names : List (List ℕ)) (f g : Files) (files : List (List ℕ)) (c : Collection) (between left : World) →
+  -- objects were read, and results of them were put
+  holds_results :
+      (most : ℕ) (moved : Inputs → Place → Place) (prefix : List ℕ) (names : List (List ℕ)) (f g : Files) (files results : List (List ℕ)) (between left : World) →
       before.shelf.files ≡ Some f → after.shelf.files ≡ Some g → after.shelf ≡ left.shelf →
       OnlyRead (objects_wanted names) before between → AreRead before.shelf.files (objects_wanted names) files →
-      PutsFiles between.shelf.files left.shelf.files (named_from prefix 0 c.files) → IsCollection (inputs_in standard_map files) c →
-      HoldsCollection prefix names f g
-  holds_collection prefix names f g files c between left told tells same only read puts collected =
+      PutsFiles between.shelf.files left.shelf.files (named_from prefix 0 results) → length results ≡ length files →
+      ((elf : List ℕ) → Preserves (inputs_in standard_map results) elf → PreservesMoved most (moved (inputs_in standard_map files)) (inputs_in standard_map files) elf) →
+      HoldsResults most moved prefix names f g
+  holds_results most moved prefix names f g files results between left told tells same only read puts many preserve =
       let kept : KeepsFiles (Some f) between.shelf.files = subst (λ a. KeepsFiles a between.shelf.files) told only.shelf.files in
       let there : left.shelf.files ≡ Some g = sym (ap (λ s. s.files) same) ∙ tells in
-      let put : PutsFiles between.shelf.files (Some g) (named_from prefix 0 c.files) =
-      subst (λ b. PutsFiles between.shelf.files b (named_from prefix 0 c.files)) there puts in (
+      let put : PutsFiles between.shelf.files (Some g) (named_from prefix 0 results) =
+      subst (λ b. PutsFiles between.shelf.files b (named_from prefix 0 results)) there puts in (
         files,
-        c.files,
+        results,
         stood f OBJECT_LIMIT names files (subst (λ a. AreRead a (objects_wanted names) files) told read),
-        as_many (inputs_in standard_map files) c collected,
-        results_stand f g between.shelf.files prefix c.files kept put,
-        collection_preserves standard_map files c collected,
+        many,
+        results_stand f g between.shelf.files prefix results kept put,
+        preserve,
       )
 
   by_cases :
@@ -155,7 +172,20 @@ module _ (before after : World) where
         | inl lack ↦ absurd (done_not_memory lack.0)
         | inr (inl breaks) ↦ absurd (done_not_broken breaks.index breaks.fault breaks.outcome_is)
         | inr (inr put) ↦
-            holds_collection prefix names f g calls.files put.collection worked.between calls.left told tells calls.line.shelf worked.only worked.read put.done.files put.collected
+            let inputs = inputs_in standard_map calls.files in
+            holds_results 64 collected_place prefix names f g calls.files put.results.files worked.between calls.left told tells calls.line.shelf worked.only worked.read put.done.files
+            (as_many inputs put.results put.are) (collection_preserves inputs put.results put.are)
+      ]
+  by_cases (Some (Merge prefix names)) Done (Some f) (Some g) told tells calls =
+      let undone = refused_undone (first_fault (inputs_in standard_map calls.files)) in
+      let worked = done_worked (task_of (Merge prefix names)) (MergeWork prefix) calls.files before calls.left undone calls.does in
+      elim worked.work [
+        | inl lack ↦ absurd (done_not_memory lack.0)
+        | inr (inl breaks) ↦ absurd (done_not_broken breaks.index breaks.fault breaks.outcome_is)
+        | inr (inr put) ↦
+            let inputs = inputs_in standard_map calls.files in
+            holds_results 128 (λ inputs. merged_place (parsed inputs)) prefix names f g calls.files put.results.files worked.between calls.left told tells calls.line.shelf worked.only worked.read put.done.files
+            (as_many_merged inputs put.results put.are) (merging_preserves inputs put.results put.are)
       ]
   by_cases command outcome a b told tells calls = tt
 

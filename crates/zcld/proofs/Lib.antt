@@ -5,6 +5,7 @@ pub mod GcFacts
 pub mod Headline
 pub mod MachineFacts
 pub mod MakeFacts
+pub mod MergeFacts
 pub mod MovedImages
 pub mod Names
 pub mod ObjectFiles
@@ -13,6 +14,7 @@ pub mod Pieces
 pub mod PlainFacts
 pub mod PutLaws
 pub mod Refusals
+pub mod RewriteFacts
 pub mod RunFacts
 pub mod TraceFacts
 pub mod WithObjects

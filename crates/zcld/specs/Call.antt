@@ -1,13 +1,12 @@
 -- What a call of the program does: what its command does up to a world, and from there the outcome's line.
 use Rattle.std.specs.Prelude.{◌≡◌, ℕ, ◌⊎◌, true, false, IsTrue, is_some, List, [], Option, Some, None, ⊤}
-use Rattle.zc_base.specs.MemMap.{standard_map}
 use Rattle.zc_outside.specs.Desk.{Desk, OnlyWrites, WriteCause}
 use Rattle.zc_outside.specs.Files.{Files, Rose}
 use Rattle.zc_outside.specs.Streams.{Adds, AddsPart, KeepsBytes}
 use Rattle.zc_outside.specs.Wanted.{AreHeld, AreRead, IsOneLong, Wanted}
 use Rattle.zc_outside.specs.World.{World}
 use Rattle.zc_outside.specs.declared.console.ConsoleFault.{ConsoleFault}
-use Rattle.command_words.specs.Command.{Check, Command, Gc, Make, Plain, Run, Trace, Zc}
+use Rattle.command_words.specs.Command.{Check, Command, Gc, Make, Merge, Plain, Run, Trace, Zc}
 use Rattle.zcld.specs.declared.input.TheConstants.{INPUT_LIMIT}
 use Rattle.zcld.specs.declared.outcome.Outcome.{Outcome}
 use Rattle.zcld.specs.declared.outcome.Outcome.TheVariants.{Usage, ReadFault, WriteFault, OutOfMemory}
@@ -16,8 +15,10 @@ use Rattle.zcld.specs.ErrLine.{err_line}
 use Rattle.zcld.specs.Gc.{GcWork}
 use Rattle.zcld.specs.Input.{IsShortInput, RoseAbove}
 use Rattle.zcld.specs.Make.{MakeWork}
+use Rattle.zcld.specs.Merge.{MergeWork}
 use Rattle.zcld.specs.Objects.{objects_refusal, objects_wanted}
 use Rattle.zcld.specs.Plain.{PlainWork}
+use Rattle.zcld.specs.Rewrites.{rewrite_task}
 use Rattle.zcld.specs.Run.{RunWork, run_refusal, run_wanted}
 use Rattle.zcld.specs.Task.{Performs, Task}
 use Rattle.zcld.specs.Trace.{TraceWork}
@@ -63,12 +64,8 @@ task_of (Make prefix number functions) = record {
   puts = is_some prefix;
   takes = false;
 }
-task_of (Gc prefix objects) = record {
-  wanted = objects_wanted objects;
-  refusal = objects_refusal standard_map;
-  puts = true;
-  takes = false;
-}
+task_of (Gc prefix objects) = rewrite_task objects
+task_of (Merge prefix objects) = rewrite_task objects
 
 -- the work of each command, once its files are read and accepted
 abbrev pub work_of : Command → List (List ℕ) → Outcome → World → World → Type 0
@@ -79,6 +76,7 @@ work_of (Trace map steps objects) = TraceWork map steps
 work_of (Check cert) = CheckWork
 work_of (Make prefix number functions) = MakeWork prefix number functions
 work_of (Gc prefix objects) = GcWork prefix
+work_of (Merge prefix objects) = MergeWork prefix
 
 -- what words do: what their command performs; or, if they are no command, nothing, with the outcome Usage, or OutOfMemory if
 -- memory ran out before that was known

@@ -1,16 +1,17 @@
--- The headline: what stands under OUT after `zc` or `plain` has ended with Done, and under PREFIX0.o and so on after `gc` has, over a
--- store that tells its files.
+-- The headline: what stands under OUT after `zc` or `plain` has ended with Done, and under PREFIX0.o and so on after `gc` or `merge`
+-- has, over a store that tells its files.
 use Rattle.std.specs.Prelude.{◌≡◌, ℕ, List, length, map, Option, Some, ⊤}
 use Rattle.psabi_sym.specs.Inputs.{Inputs, inputs_in, parsed}
 use Rattle.section_gc.specs.Collected.{collected_place}
 use Rattle.sym_machine.specs.Objects.{program_of}
+use Rattle.tail_merge.specs.Merged.{merged_place}
 use Rattle.zc_base.specs.MemMap.{standard_map}
 use Rattle.zc_base.specs.declared.mem_map.MemMap.{MemMap}
 use Rattle.zc_base.specs.declared.place.Place.{Place}
 use Rattle.zc_link.specs.Image.{Image, image_in}
-use Rattle.zc_link.specs.Preserves.{FollowsAlways, Preserves}
+use Rattle.zc_link.specs.Preserves.{FollowsWithin, Preserves}
 use Rattle.zc_outside.specs.Files.{Files}
-use Rattle.command_words.specs.Command.{Command, Gc, Plain, Zc}
+use Rattle.command_words.specs.Command.{Command, Gc, Merge, Plain, Zc}
 use Rattle.zcld.specs.declared.outcome.Outcome.{Outcome}
 use Rattle.zcld.specs.declared.outcome.Outcome.TheVariants.{Done}
 use Rattle.zcld.specs.ObjectNames.{names_from}
@@ -22,26 +23,29 @@ HoldsImage memory out names before after =
     (objects : List (List ℕ)) × (elf : List ℕ) × (map before names ≡ map Some objects) × (after out ≡ Some elf)
     × Preserves (inputs_in memory objects) elf
 
--- the file is an image without a fault, and under every plan of interrupts it does what the objects' program does, if each of the
--- program's places is looked up where it was moved to
-pub record PreservesMoved (moved : Place → Place) (inputs : Inputs) (elf : List ℕ) : Type 0 where
+-- the file is an image without a fault, and under every plan of interrupts it does what the objects' program does, within so many
+-- commits for each step, if each of the program's places is looked up where it was moved to
+pub record PreservesMoved (most : ℕ) (moved : Place → Place) (inputs : Inputs) (elf : List ℕ) : Type 0 where
   pub image : Image
   pub read : image_in elf inputs.map ≡ Some image
-  pub follows : FollowsAlways (program_of (parsed inputs)) (record image { address = λ q. image.address (moved q) })
+  pub follows : FollowsWithin most (program_of (parsed inputs)) (record image { address = λ q. image.address (moved q) })
 
--- objects stood under the names, and as many results stand under PREFIX0.o and so on; whatever image does what the results' program does, does
--- what the objects' program does, with sections under their new numbers
-abbrev pub HoldsCollection : List ℕ → List (List ℕ) → Files → Files → Type 0
-HoldsCollection prefix names before after =
+-- objects stood under the names, and as many results stand under PREFIX0.o and so on; whatever image does what the results' program
+-- does, does what the objects' program does, within so many commits for each step, with each place where it was moved to
+abbrev pub HoldsResults : ℕ → (Inputs → Place → Place) → List ℕ → List (List ℕ) → Files → Files → Type 0
+HoldsResults most moved prefix names before after =
     (objects results : List (List ℕ)) × (map before names ≡ map Some objects) × (length results ≡ length objects)
     × (map after (names_from prefix 0 (length results)) ≡ map Some results)
     × ((elf : List ℕ) → Preserves (inputs_in standard_map results) elf →
-    PreservesMoved (collected_place (inputs_in standard_map objects)) (inputs_in standard_map objects) elf)
+    PreservesMoved most (moved (inputs_in standard_map objects)) (inputs_in standard_map objects) elf)
 
--- `zc` or `plain` that ended with Done put such an image, in the map that the words give, and `gc` such results, if the store told
--- its files before and tells them after
+-- `zc` or `plain` that ended with Done put such an image, in the map that the words give, and `gc` and `merge` such results, if the
+-- store told its files before and tells them after. `gc` moves sections. `merge` moves items, and a step into a removed tail takes a
+-- jump before it
 abbrev pub Links : Option Command → Outcome → Option Files → Option Files → Type 0
 Links (Some (Zc memory out cert names)) Done (Some before) (Some after) = HoldsImage memory out names before after
 Links (Some (Plain memory out names)) Done (Some before) (Some after) = HoldsImage memory out names before after
-Links (Some (Gc prefix names)) Done (Some before) (Some after) = HoldsCollection prefix names before after
+Links (Some (Gc prefix names)) Done (Some before) (Some after) = HoldsResults 64 collected_place prefix names before after
+Links (Some (Merge prefix names)) Done (Some before) (Some after) =
+    HoldsResults 128 (λ inputs. merged_place (parsed inputs)) prefix names before after
 Links command outcome before after = ⊤

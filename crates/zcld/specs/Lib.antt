@@ -13,7 +13,9 @@ pub mod Trace
 pub mod Check
 pub mod ObjectNames
 pub mod Make
+pub mod Rewrites
 pub mod Gc
+pub mod Merge
 pub mod Call
 pub mod Headline
 pub mod Program

@@ -9,6 +9,8 @@ use Rattle.psabi_sym.specs.declared.link_fault.LinkFault.{LinkFault}
 use Rattle.psabi_sym.specs.declared.link_fault.LinkFault.TheVariants as link
 use Rattle.section_gc.specs.declared.gc_fault.GcFault.{GcFault}
 use Rattle.section_gc.specs.declared.gc_fault.GcFault.TheVariants as gc
+use Rattle.tail_merge.specs.declared.merge_fault.MergeFault.{MergeFault}
+use Rattle.tail_merge.specs.declared.merge_fault.MergeFault.TheVariants as merge
 use Rattle.zc_outside.specs.declared.read_files.ReadFault as files
 use Rattle.zc_outside.specs.declared.read_files.ReadFault.TheVariants as read
 use Rattle.zcld.specs.declared.outcome.FileFault.TheVariants.{Certificate, Plan}
@@ -30,6 +32,12 @@ abbrev pub gc_outcome : GcFault → Outcome
 gc_outcome (gc.Object i fault) = Refused i fault
 gc_outcome (gc.Broken i fault) = Broken i fault
 gc_outcome gc.OutOfMemory = OutOfMemory
+
+-- the outcome when `merge` has no results
+abbrev pub merge_outcome : MergeFault → Outcome
+merge_outcome (merge.Object i fault) = Refused i fault
+merge_outcome (merge.Broken i fault) = Broken i fault
+merge_outcome merge.OutOfMemory = OutOfMemory
 
 -- the outcome when a text is no plan
 abbrev pub plan_outcome : PlanFault → Outcome

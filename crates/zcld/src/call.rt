@@ -11,6 +11,7 @@ use crate::ending::Ending;
 use crate::err_line::write_line;
 use crate::gc::gc;
 use crate::make::make;
+use crate::merge::merge;
 use crate::outcome::Outcome;
 use crate::plain::plain;
 use crate::run::run;
@@ -63,5 +64,6 @@ fn perform<S: Store, C: Console>(
         CommandLine::Check { cert } => Ending::alone(alloc, check(alloc, cert, store, console)),
         CommandLine::Make(args) => Ending::alone(alloc, make(alloc, args, store, console)),
         CommandLine::Gc(args) => gc(alloc, &args, store, console),
+        CommandLine::Merge(args) => merge(alloc, &args, store, console),
     }
 }

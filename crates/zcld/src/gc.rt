@@ -1,24 +1,18 @@
 // The command `gc`: the code that nothing reaches is left out of objects, the results are put, and how much code is kept is
 // written.
 
-ghost use Rattle.std.specs.Prelude.{◌≡◌, ◌+◌, ◌++◌, ◌≤◌, ◌⊎◌, Some, length};
+ghost use Rattle.std.specs.Prelude.{◌≡◌, ◌+◌, ◌++◌, ◌≤◌, Some, length};
 ghost use Rattle.psabi_sym.specs.Objects.{contents_of};
-ghost use Rattle.zc_outside.specs.Desk.{OnlyWrites};
-ghost use Rattle.zc_outside.specs.Shelf.{OnlyPuts};
 ghost use Rattle.zc_outside.specs.World.{world};
 ghost use Rattle.command_words.specs.Command.{gc_meant};
 ghost use Rattle.zcld.specs.Call.{DoesWith};
-ghost use Rattle.zcld.specs.ErrLine.{NamesNothing};
-ghost use Rattle.zcld.specs.Gc.{gc_output, kept_lines as lines_on, share_line};
-ghost use Rattle.zcld.specs.Puts.{PutsInTurn};
-ghost use Rattle.zcld.specs.declared.outcome.Outcome.TheVariants.{OutOfMemory};
+ghost use Rattle.zcld.specs.Gc.{kept_lines as lines_on, share_line};
 
 use crate::ending::Ending;
 use crate::err_line::ROOM;
 use crate::objects::read_objects;
 use crate::outcome::Outcome;
-use crate::print::print_text;
-use crate::put_objects::put_named;
+use crate::put_objects::{Results, put_and_print};
 use arrayvec::ArrayString;
 use command_words::command_line::GcArgs;
 use itoa::Buffer;
@@ -45,37 +39,19 @@ pub fn gc<S: Store, C: Console>(
     };
     match collect(alloc, files.as_slice(), MemMap::standard()) {
         Ok(cleaned) => {
-            let outcome = put_and_print(alloc, args.prefix, &cleaned, store, console);
-            Ending::alone(alloc, outcome)
+            let lines = kept_lines(&cleaned);
+            let results = Results {
+                prefix: args.prefix,
+                objects: cleaned.objects.as_slice(),
+                lines: lines.as_str(),
+            };
+            Ending::alone(alloc, put_and_print(alloc, &results, store, console))
         }
         Err(fault) => Ending {
             outcome: Outcome::from(fault),
             files,
         },
     }
-}
-
-// Puts the results, then writes how much code is kept, and says how that ended.
-fn put_and_print<S: Store, C: Console>(
-    alloc: Global,
-    prefix: &str,
-    cleaned: &Cleaned,
-    store: &mut S,
-    console: &mut C,
-) -> Outcome
-    ensures done { ((result ≡ OutOfMemory)
-        × (world (S.shown store.new) (C.shown console.new) ≡ world (S.shown store.old) (C.shown console.old)))
-        ⊎ PutsInTurn result (gc_output prefix.now cleaned.now)
-        (world (S.shown store.old) (C.shown console.old)) (world (S.shown store.new) (C.shown console.new)) }
-    ensures puts { OnlyPuts (S.shown store.old) (S.shown store.new) }
-    ensures writes { OnlyWrites (C.shown console.old) (C.shown console.new) }
-    ensures line { NamesNothing result }
-{
-    let lines = kept_lines(cleaned);
-    if let Err(outcome) = put_named(alloc, prefix, cleaned.objects.as_slice(), store) {
-        return outcome;
-    }
-    print_text(lines.as_str().as_bytes(), console)
 }
 
 // The lines on how much code is kept.

@@ -1,5 +1,5 @@
 //! Links RV32IM objects into an executable, as they are or made smaller with 16-bit instructions, leaves out the code
-//! that they don't need, and runs objects and executables.
+//! that they don't need, shares equal ends of their functions, and runs objects and executables.
 #![tactic(auto)]
 
 pub mod call;
@@ -10,6 +10,7 @@ pub mod gc;
 pub mod input;
 pub mod limits;
 pub mod make;
+pub mod merge;
 pub mod objects;
 pub mod outcome;
 pub mod plain;

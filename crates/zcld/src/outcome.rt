@@ -12,6 +12,7 @@ use psabi_sym::link_fault::LinkFault;
 use section_gc::gc_fault::GcFault;
 use std::alloc::AllocError;
 use sym_machine::why::Why;
+use tail_merge::merge_fault::MergeFault;
 use zc_base::place::Place;
 use zc_machine::reason::Reason;
 use zc_outside::read_files::ReadFault;
@@ -28,8 +29,8 @@ pub enum FileFault {
 
 /// How a call ends. A refusal names the object, by its index among those of the command line, and the first fault in
 /// it. `Broken` names an object and its first fault in the same way, of objects that have no fault but would have one
-/// without the code that nothing reaches. A stop names the reason and the program counter, a program that is stuck the
-/// place and the reason.
+/// without the code that nothing reaches, or with equal ends of functions shared. A stop names the reason and the program
+/// counter, a program that is stuck the place and the reason.
 #[derive(Clone, Copy, PartialEq, Eq, Debug)]
 pub enum Outcome {
     Done,
@@ -96,6 +97,21 @@ impl From<GcFault> for Outcome {
             GcFault::Object { index, fault } => Outcome::Refused(index, fault),
             GcFault::Broken { index, fault } => Outcome::Broken(index, fault),
             GcFault::OutOfMemory => Outcome::OutOfMemory,
+        }
+    }
+}
+
+impl From<MergeFault> for Outcome {
+    ghost use Rattle.std.specs.Prelude.{◌≡◌};
+    ghost use Rattle.zcld.specs.Outcome.{merge_outcome};
+
+    ghost from_gives = { λ fault outcome. outcome ≡ merge_outcome fault };
+
+    fn from(fault: MergeFault) -> Outcome {
+        match fault {
+            MergeFault::Object { index, fault } => Outcome::Refused(index, fault),
+            MergeFault::Broken { index, fault } => Outcome::Broken(index, fault),
+            MergeFault::OutOfMemory => Outcome::OutOfMemory,
         }
     }
 }

@@ -1,10 +1,10 @@
-// Objects that a command puts at its end, under names with a prefix and their numbers.
+// Objects that a command puts at its end, under names with a prefix and their numbers, and the lines that it writes then.
 
 ghost use Rattle.std.specs.Prelude.{◌≡◌, ◌⊎◌, ℕ, IfOk, IfErr, List, OnOk, length};
 ghost use Rattle.std.specs.String.{string_bytes};
 ghost use Rattle.command_words.specs.Command.{texts};
 ghost use Rattle.psabi_sym.specs.Objects.{contents_of};
-ghost use Rattle.zc_outside.specs.Desk.{Desk};
+ghost use Rattle.zc_outside.specs.Desk.{Desk, OnlyWrites};
 ghost use Rattle.zc_outside.specs.Shelf.{OnlyPuts};
 ghost use Rattle.zc_outside.specs.World.{world};
 ghost use Rattle.zcld.specs.ErrLine.{NamesNothing};
@@ -13,9 +13,43 @@ ghost use Rattle.zcld.specs.Puts.{PutsFiles, PutsInTurn};
 ghost use Rattle.zcld.specs.declared.outcome.Outcome.TheVariants.{OutOfMemory};
 
 use crate::outcome::Outcome;
+use crate::print::print_text;
 use crate::put::put;
 use std::alloc::{AllocError, Global};
+use zc_outside::console::Console;
 use zc_outside::store::Store;
+
+/// Objects, the prefix of their names, and the lines that are written of them.
+#[derive(Clone, Copy)]
+pub struct Results<'a> {
+    pub prefix: &'a str,
+    pub objects: &'a [Vec<u8>],
+    pub lines: &'a str,
+}
+
+/// Puts results, then writes their lines, and says how that ended.
+pub fn put_and_print<S: Store, C: Console>(
+    alloc: Global,
+    results: &Results,
+    store: &mut S,
+    console: &mut C,
+) -> Outcome
+    ensures done { ((result ≡ OutOfMemory)
+        × (world (S.shown store.new) (C.shown console.new) ≡ world (S.shown store.old) (C.shown console.old)))
+        ⊎ PutsInTurn result (record {
+          files = named_from results.now.prefix.now 0 (contents_of results.now.objects.now);
+          text = results.now.lines.now;
+        })
+        (world (S.shown store.old) (C.shown console.old)) (world (S.shown store.new) (C.shown console.new)) }
+    ensures puts { OnlyPuts (S.shown store.old) (S.shown store.new) }
+    ensures writes { OnlyWrites (C.shown console.old) (C.shown console.new) }
+    ensures line { NamesNothing result }
+{
+    if let Err(outcome) = put_named(alloc, results.prefix, results.objects, store) {
+        return outcome;
+    }
+    print_text(results.lines.as_bytes(), console)
+}
 
 /// Puts objects under their names, one after another, or says how the call ends where one can't be put. Nothing is put
 /// before all names are made.
