@@ -9,10 +9,11 @@ FOLDER, as `apt-get source zlib` gives them. Each is compiled with -Os by GCC an
 function in a section of its own: for RV32IM, and with compressed code (C, Zcb, Zcmp) as far as the compiler has it. `zcld` and
 the others link the same objects of RV32IM, the same ones with C, and the same ones with C, Zcb and Zcmp. GNU ld and LLD
 relax, but where a column says otherwise. With `gc` they leave out the sections that nothing needs; for `zcld` GNU ld does
-that before, in a link that keeps relocations (`ld -r --gc-sections`), or `zcld gc` does where a column says so. GNU ld and
-LLD put constants after the text, and in the columns of far constants where `zcld` puts them. In those of GNU ld without gp
-nothing is called `__global_pointer$`, so that it doesn't reach data by gp, and all data, constants too, lie where `zcld` puts
-them.
+that before, in a link that keeps relocations (`ld -r --gc-sections`), or `zcld gc` does where a column says so. Where one says
+`merge`, `zcld merge` shares equal ends of functions in a section before; in the columns with `one`, all functions of a file are in
+one section. GNU ld and LLD put constants after the text, and in the columns of far constants where `zcld` puts them. In those of
+GNU ld without gp nothing is called `__global_pointer$`, so that it doesn't reach data by gp, and all data, constants too, lie
+where `zcld` puts them.
 
 A figure is the bytes of all sections of code. What isn't installed is left out, and what a linker says of objects that it
 doesn't take is printed. Each image that `zcld` makes is run, and must do what its objects do. If both come to an instruction
@@ -42,6 +43,8 @@ KNOWN_CAUSES = (b'NoInstruction', b'ConditionUnknown')
 SCRIPT, POINTER, OTHER_POINTER = os.path.join(TOP, 'fuzz', 'c_runtime', 'memory.ld'), '__global_pointer$', 'pointer'
 FIRMWARE = os.path.join(EXAMPLES, 'firmware')
 PLAIN, COMPRESSED, ZCB, ZCMP = 'rv32im', 'rv32imc', 'rv32imc_zcb', 'rv32im_zca_zcb_zcmp'
+# The same with all functions of a file in one section.
+ONE, ONE_COMPRESSED = 'rv32im -fno-function-sections', 'rv32imc -fno-function-sections'
 USUAL = ('-Os', '-mabi=ilp32', '-ffreestanding', '-fno-pic', '-ffunction-sections', '-fdata-sections', '-w')
 # What each compiler is called, of which the first that is installed is taken, and its own words. GCC would make a call of
 # memset of the loop in memset.
@@ -54,7 +57,7 @@ WORDS = {'ld': (), 'LLD': ('--relax-gp',)}
 ZLIB = [name + '.c' for name in ('adler32', 'crc32', 'deflate', 'inffast', 'inflate', 'inftrees', 'trees', 'zutil')]
 # Where Debian has picolibc, for which of its targets libraries are made, and what each compiler is told to find its headers.
 PICOLIBC = '/usr/lib/picolibc/riscv64-unknown-elf'
-MULTILIBS = {PLAIN: 'rv32im', COMPRESSED: 'rv32imac', ZCMP: 'rv32imac'}
+MULTILIBS = {PLAIN: 'rv32im', ONE: 'rv32im', COMPRESSED: 'rv32imac', ONE_COMPRESSED: 'rv32imac', ZCMP: 'rv32imac'}
 HEADERS = {'GCC': ('--specs=picolibc.specs',), 'Clang': (f'-isystem{PICOLIBC}/include',)}
 INPUT = b''.join(b'%d.%de%d\n' % (k * 7919 % 211, k, k % 5 - 2) for k in range(1, 20))
 
@@ -103,7 +106,7 @@ class Compiler:
         for source in (os.path.join(FIRMWARE, 'start.s'), *support, *program.sources):
             paths.append(os.path.join(folder, os.path.basename(source)[:-2] + '.o'))
             words = HEADERS[self.name] if program.has_library else program.words
-            told([self.command, *self.words, *USUAL, f'-march={target}', *words, '-c', source, '-o', paths[-1]])
+            told([self.command, *self.words, *USUAL, *target_words(target), *words, '-c', source, '-o', paths[-1]])
         if program.has_library:
             merge(os.path.join(folder, 'merged.o'), *paths, *self.libraries(target))
             return [os.path.join(folder, 'merged.o')]
@@ -121,8 +124,13 @@ class Compiler:
         is_there = os.path.isdir(PICOLIBC) and programs.found(*COMPILERS['GCC'][0])
         if program.has_library and (target not in MULTILIBS or not is_there):
             return False
-        words = [self.command, *self.words, f'-march={target}', '-mabi=ilp32', '-c', '-x', 'c', os.devnull, '-o', os.devnull]
+        words = [self.command, *self.words, *target_words(target), '-mabi=ilp32', '-c', '-x', 'c', os.devnull, '-o', os.devnull]
         return programs.run(words).status == 0
+
+
+def target_words(target):
+    """What a compiler is told of a target."""
+    return f'-march={target}'.split()
 
 
 # ---- links
@@ -179,6 +187,11 @@ class Links:
         told([self.zcld, 'gc', '--out', self.path('collected'), *objects])
         return [self.path(f'collected{k}.o') for k in range(len(objects))]
 
+    def merged(self, objects):
+        """The objects with equal ends of functions shared, in their order."""
+        told([self.zcld, 'merge', '--out', self.path('merged'), *objects])
+        return [self.path(f'merged{k}.o') for k in range(len(objects))]
+
     def by_zcld(self, link, paths):
         """The text that `plain` or `zc` makes of objects, whose image does what they do."""
         out = self.path(link)
@@ -201,15 +214,17 @@ class Links:
         if linker == WITHOUT_GP:
             return self.without_gp(objects, *words)
         if linker not in LINKERS:
+            before = {OWN: self.collected, SHARED: self.merged, GC: self.gathered}
             for word in words:
-                objects = self.collected(objects) if word == OWN else self.gathered(objects)
+                objects = before[word](objects)
             return self.by_zcld(linker, objects)
         return self.other(linker, objects, *words)
 
 
 # The columns of the tables: the head, who links, the objects' target, and words. Those of `zc` say what leaves out sections before
-# it: `ld -r` or `zcld gc`.
-GC, OWN, FAR = '--gc-sections', 'zcld gc', (f'--section-start=.rodata={DATA_AT:#x}', f'-Tdata={DATA_AT + 0x80000:#x}')
+# it, `ld -r` or `zcld gc`, or that `zcld merge` shares equal ends of functions before it.
+GC, OWN, SHARED = '--gc-sections', 'zcld gc', 'zcld merge'
+FAR = f'--section-start=.rodata={DATA_AT:#x}', f'-Tdata={DATA_AT + 0x80000:#x}'
 SAME = (('`plain`', 'plain', PLAIN), ('`zc`', 'zc', PLAIN), ('GNU ld, no relaxation', 'ld', PLAIN, '--no-relax'),
         ('GNU ld', 'ld', PLAIN), ('LLD', 'LLD', PLAIN), ('gc, `zc`', 'zc', PLAIN, GC), ('gc, GNU ld', 'ld', PLAIN, GC),
         ('gc, LLD', 'LLD', PLAIN, GC))
@@ -230,7 +245,11 @@ FRAMES = (('`zc`, RV32IM', 'zc', PLAIN), ('`zc`, C', 'zc', COMPRESSED), ('`zc`, 
 COLLECTED = (('`zc`', 'zc', PLAIN), ('`gc`, `zc`', 'zc', PLAIN, OWN), ('`ld -r`, `zc`', 'zc', PLAIN, GC),
              ('`ld -r`, `gc`, `zc`', 'zc', PLAIN, GC, OWN), ('C: `zc`', 'zc', COMPRESSED), ('C: `gc`, `zc`', 'zc', COMPRESSED, OWN),
              ('C: `ld -r`, `zc`', 'zc', COMPRESSED, GC))
-TABLES = SAME, SHORT, TODAY, COLLECTED, FRAMES
+MERGED = (('`zc`', 'zc', PLAIN), ('`merge`, `zc`', 'zc', PLAIN, SHARED), ('one: `zc`', 'zc', ONE),
+          ('one: `merge`, `zc`', 'zc', ONE, SHARED), ('C: `zc`', 'zc', COMPRESSED),
+          ('C: `merge`, `zc`', 'zc', COMPRESSED, SHARED), ('one, C: `zc`', 'zc', ONE_COMPRESSED),
+          ('one, C: `merge`, `zc`', 'zc', ONE_COMPRESSED, SHARED))
+TABLES = SAME, SHORT, TODAY, COLLECTED, MERGED, FRAMES
 
 
 def measured(zcld, zlib, room):
@@ -238,7 +257,7 @@ def measured(zcld, zlib, room):
     tables, said = [[] for _ in TABLES], []
     for compiler in filter(lambda it: it.command, map(Compiler, COMPILERS)):
         for program in listed(zlib):
-            targets = [it for it in (PLAIN, COMPRESSED, ZCB, ZCMP) if compiler.has(program, it)]
+            targets = [it for it in (PLAIN, ONE, COMPRESSED, ONE_COMPRESSED, ZCB, ZCMP) if compiler.has(program, it)]
             if targets:
                 folder = os.path.join(room, f'{compiler.name}-{program.name}')
                 objects = {it: compiler.compiled(program, it, os.path.join(folder, it)) for it in targets}

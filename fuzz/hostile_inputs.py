@@ -27,7 +27,7 @@ from zcld_tools.elf import (ALIGN, DATA_FLAGS, EXECUTABLE, EXECUTE, HEADER, LOCA
                             READABLE, RELAX, RVC, RVC_BRANCH, RVC_JUMP, R_32, WRITABLE, Part, file_header)
 from zcld_tools.files import read, write
 from zcld_tools.images import DATA_AT, TEXT_AT, image_bytes, load_header
-from zcld_tools.instructions import A0, EXIT_WORDS, NOP, SHORT_NOP, ZERO, addi, auipc, words_of
+from zcld_tools.instructions import A0, EXIT_WORDS, NOP, RET, SHORT_NOP, ZERO, addi, auipc, jalr, words_of
 from zcld_tools.objects import Reloc, Written, object_with
 from zcld_tools.programs import Failed
 
@@ -145,6 +145,33 @@ def hints():
     text.relocs = [Reloc(0, RELAX, None, 0)] * 345_000
     return [object_with(*WORDS)[0].bytes(), *[made.bytes()] * 8]
 
+
+def ends(*tails):
+    """Functions with these ends, and an exit."""
+    made, text = object_with(*WORDS)
+    for words in tails:
+        text.words(*words)
+    return [made.bytes()]
+
+
+def unequal_ends():
+    """65,000 jumps by a register, of which no two are the same."""
+    return ends(*((jalr(ZERO, 1 + k // 4096, k % 4096),) for k in range(65_000)))
+
+
+def long_ends():
+    """650 ends of functions, of a hundred instructions each, that differ in the first."""
+    return ends(*((addi(A0, A0, k), *[NOP] * 98, RET) for k in range(650)))
+
+
+def long_end_twice():
+    """An end of 32,000 instructions, twice."""
+    return ends(*[[addi(A0, A0, k % 2048) for k in range(32_000)] + [RET]] * 2)
+
+
+# Ends of functions, which `merge` compares.
+ENDS = {'65,000 equal ends': lambda: ends(*[(RET,)] * 65_000), '65,000 ends that differ': unequal_ends,
+        '650 ends of a hundred instructions': long_ends, 'an end of 32,000 instructions, twice': long_end_twice}
 
 OBJECTS = WITHIN | {
     '65,000 low parts': low_parts, '21,000 paddings': alignments, '1,000 sections aligned to 256': aligned_sections,
@@ -298,6 +325,8 @@ def main():
             files = OBJECTS[name]()
             assert all(len(data) <= OBJECT_LIMIT for data in files), name
             calls.links(name, write_list(folder, files))
+        for name in filter(is_asked, ENDS):
+            calls.say(name, ['merge', '--out', 'left', *write_list(folder, ENDS[name]())])
         for name in filter(is_asked, IMAGES):
             write(os.path.join(folder, 'image'), IMAGES[name]())
             calls.say(name, ['run', 'image'])

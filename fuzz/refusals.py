@@ -91,6 +91,8 @@ def cases():
     yield Case('hello, run', ('run', 'image'), image, is_run=True)
     yield Case('three, gc', ('gc', '--out', 'p', 'x0.o'), objects([THREE]), ('p0.o',))
     yield Case('hello, gc', ('gc', '--out', 'p', 'x0.o', 'x1.o'), objects(two), ('p0.o', 'p1.o'))
+    yield Case('three, merge', ('merge', '--out', 'p', 'x0.o'), objects([THREE]), ('p0.o',))
+    yield Case('hello, merge', ('merge', '--out', 'p', 'x0.o', 'x1.o'), objects(two), ('p0.o', 'p1.o'))
     yield Case('push, run', ('run', '--plan', 'plan', 'image'), {'image': PUSH_IMAGE, 'plan': PUSH_PLAN}, is_run=True)
     yield Case('savings, check', ('check', 'cert'), {'cert': SAVINGS})
     yield Case('made, make', ('make', '5', '0'), {})

@@ -1,14 +1,12 @@
 """Objects without the code that nothing reaches: what `gc` writes, prints and refuses, against the model and by hand."""
-import random
-
-import collected_objects
+from collected_objects import COLLECTING
 from made_objects import made_list
 from zcld_tools.elf import ABS, BRANCH, CALL, DATA_FLAGS, LOCAL, NONE, PROGBITS, RELAX, RVC, R_32, SECTION_TYPE, WEAK
 from zcld_tools.instructions import A0, CALL_WORDS, EXIT_WORDS, NOP, RET, ZERO, addi, branch
 from zcld_tools.objects import Written, object_with
 
-from checks.c_programs import FOLDERS, STATUSES, objects_of
-from checks.made_files import MIB, OLD, THREE
+from checks import rewritten
+from checks.made_files import THREE
 
 
 def three(*, is_named=False):
@@ -83,10 +81,7 @@ def far_apart():
 def shared_names(count, name=b'_start'):
     """Symbols that share a name of a megabyte."""
     made, _ = object_with(*EXIT_WORDS, name=name)
-    start = made.symbol_names.add(b'x' * MIB)
-    for k in range(count):
-        made.symbol(start, home=ABS, value=k, bind=LOCAL)
-    return made.bytes()
+    return rewritten.shared_names(made, count)
 
 
 def compressed():
@@ -100,22 +95,9 @@ def compressed():
     return [made.bytes()]
 
 
-def compared(group, what, files):
-    """What `gc` does with files against the model, and the run of what it leaves."""
-    folder = group.folder()
-    counts = dict.fromkeys(('refused', 'broken', 'alike', 'runs alike'), 0)
-    group.same(what, collected_objects.look(folder, files, counts), None)
-    folder.remove()
-    return counts
-
-
-def says(group, what, files, status, out=b'', err=b''):
-    """How `gc` of files ends, by hand; the model must say the same."""
-    folder = group.folder(left0=OLD)
-    names = folder.write_list(files)
-    group.same(what, folder.run(('gc', '--out', 'left', *names)), (status, out, err))
-    folder.remove()
-    compared(group, f'{what}, the model', files)
+def says(group, what, files, *ended, **how):
+    """How `gc` of files ends."""
+    rewritten.says(group, COLLECTING, what, files, *ended, **how)
 
 
 def collected_by_hand(group):
@@ -137,24 +119,9 @@ def collected_by_hand(group):
 
 def collected_programs(group):
     """programs that C compilers made, and random lists, without code that nothing reaches: the same output and status"""
-    for program in STATUSES:
-        for folder in FOLDERS:
-            compared(group, f'{program} by {folder}', objects_of(program, folder))
-    for seed in range(150):
-        source = random.Random(f'collected {seed}')
-        compared(group, f'list {seed}', made_list(source, source.random() < 0.15))
+    rewritten.compared_programs(group, COLLECTING, made_list)
 
 
 def collected_files(group):
     """names that can't be put, which leave those before them, and files that stand under them"""
-    folder = group.folder()
-    names = folder.write_list([*three(), THREE.replace(b'_start', b'_other')])
-    ended = folder.run(('gc', '--out', 'none/left', *names))
-    group.ends('no such folder', ended, 123, 'write fault')
-    group.ends('an object that isn\'t there', folder.run(('gc', '--out', 'left', *names, 'none')), 122, 'read fault')
-    folder.write('left0.o', OLD)
-    group.same('over a file', folder.run(('gc', '--out', 'left', *names)).status, 0)
-    group.same('the file is another', folder.read('left0.o') != OLD, True)
-    group.ends('no prefix', folder.run(('gc', *names)), 120, 'usage')
-    group.ends('no object', folder.run(('gc', '--out', 'left')), 120, 'usage')
-    group.ends('a map', folder.run(('gc', '--out', 'left', '--text', '20000000', *names)), 120, 'usage')
+    rewritten.put_objects(group, 'gc', [*three(), THREE.replace(b'_start', b'_other')])

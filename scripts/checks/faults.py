@@ -39,6 +39,8 @@ Check plan
 plain object
 gc object
 gc --cert out object
+merge object
+merge --cert out object
 plain --cert out object
 zc object
 zc --out out object
@@ -72,6 +74,8 @@ run -image
 zc --out out --cert cert -object
 gc --out left -object
 gc --out -left object
+merge --out left -object
+merge --out -left object
 zc --out out --cert cert object -object
 trace object object -object
 check -plan
@@ -79,6 +83,8 @@ check --plan
 plain --out out
 gc --out left
 gc
+merge --out left
+merge
 trace
 trace --steps 3
 zc --out out --cert cert

@@ -1,0 +1,89 @@
+"""Compares what a command writes of lists of objects with what its model makes of them, and runs both.
+
+Of a list that has a fault the command must name the first, and where the result has one, the first of that; then no file is there.
+Otherwise the objects, byte for byte, and the lines must be the model's, and the image that `zc` makes of the objects must write what
+`trace` of the given ones does, and end in the same way, unless that is stuck.
+"""
+import argparse
+import collections
+import random
+import sys
+import tempfile
+from typing import Callable, NamedTuple
+
+from checks.harness import LINK, Folder
+from object_faults import NAMES, told
+from object_items import first_fault
+from zcld_tools import programs
+from zcld_tools.files import files_in
+
+STEPS = 3000
+# As many commits as an image may need for a step.
+COMMITS_OF_STEP = 64
+
+
+class Rewriting(NamedTuple):
+    """A command that writes objects again: its name, its model and the model's lines, and how many steps an image of the result
+    may take for one of the given objects'."""
+
+    command: str
+    made: Callable
+    lines: Callable
+    steps: int = 1
+
+    def called(self, folder, names):
+        """How the command ends with these files, and the objects that stand then."""
+        ended = folder.run((self.command, '--out', 'left', *names))
+        return ended, {name: data for name, data in files_in(folder.place).items() if name.startswith('left')}
+
+    def expected(self, files):
+        """How it must end, the objects that must stand then, and what happened."""
+        fault = first_fault(files)
+        if fault:
+            return (121, b'', told(fault) + b'\n'), {}, 'refused'
+        made = self.made(files)
+        result = [it.bytes() for it in made]
+        fault = first_fault(result)
+        if fault:
+            line = f'broken {fault[0]} {fault[1]} {NAMES[fault[1]]}\n'
+            return (119, b'', line.encode()), {}, 'broken'
+        return (0, self.lines(made), b''), {f'left{i}.o': data for i, data in enumerate(result)}, 'alike'
+
+    def runs(self, folder, names, result):
+        """How the objects end, and the image of the result."""
+        given = folder.run(('trace', '--steps', str(STEPS), *names))
+        folder.run((*LINK, *result))
+        return given, folder.run(('run', '--steps', str(COMMITS_OF_STEP * self.steps * STEPS + 3), 'out'))
+
+    def look(self, folder, files, counts):
+        """Says what differs of a list, if anything does."""
+        names = folder.write_list(files)
+        ended, stands = self.called(folder, names)
+        wanted, objects, what = self.expected(files)
+        counts[what] += 1
+        if ended != wanted:
+            return f'{ended} in place of {wanted}'
+        if stands != objects:
+            return f'other objects: {[name for name in objects if stands.get(name) != objects[name]]} of {sorted(stands)}'
+        if objects:
+            given, ran = self.runs(folder, names, objects)
+            if given.status not in (126, 127):
+                counts['runs alike'] += 1
+                return None if given == ran else f'{given} became {ran}'
+        return None
+
+    def compare(self, about, made_list):
+        """Compares random lists, and prints counts. It stops at the first difference with status 1."""
+        words = argparse.ArgumentParser(description=about)
+        words.add_argument('--seed', type=int, default=1)
+        words.add_argument('--count', type=int, default=1000)
+        words.add_argument('program', nargs='?', default=programs.BUILT)
+        given, counts = words.parse_args(), collections.Counter()
+        program = programs.built(given.program)
+        for seed in range(given.seed, given.seed + given.count):
+            source = random.Random(seed)
+            with tempfile.TemporaryDirectory() as place:
+                wrong = self.look(Folder(program, place), made_list(source, source.random() < 0.15), counts)
+            if wrong:
+                sys.exit(f'seed {seed}: {wrong}')
+        print(f'{given.count} lists: ' + ', '.join(f'{count} {what}' for what, count in sorted(counts.items())))
