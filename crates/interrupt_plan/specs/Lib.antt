@@ -1,4 +1,5 @@
 pub mod Plan
+pub mod SharedPlan
 pub mod Order
 pub mod Text
 pub mod Fault

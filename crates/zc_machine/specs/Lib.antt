@@ -10,6 +10,7 @@ pub mod Frames
 pub mod Answer
 pub mod Buffer
 pub mod Interrupt
+pub mod Poked
 pub mod Cursor
 pub mod Run
 pub mod Advance
