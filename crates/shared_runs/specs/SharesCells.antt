@@ -12,7 +12,7 @@ use Rattle.shared_runs.specs.SharedPlain.{SharedState, Sharing, shared_after}
 
 -- after the commits that the program's steps take, the image follows the program; and a step takes at most 64 of them, after 3 at
 -- the start
-pub record Keeps (w : Sharing) (input : List ℕ) (n : ℕ) (s : SharedState) : Type 0 where
+pub record KeepsPace (w : Sharing) (input : List ℕ) (n : ℕ) (s : SharedState) : Type 0 where
   pub state : ZcState
   pub runs : machine_after (loaded_core w.image) input (shared_by w.ranges w.plan) s.commits ≡ Ok state
   pub follows : Follows w.program w.image s.plain state
@@ -23,4 +23,4 @@ abbrev pub SharesCells : Program → Image → Pace → List (ℕ × ℕ) → Ty
 SharesCells p e pace ranges =
     (input : List ℕ) (plan : List SharedEntry) (n : ℕ) (s : SharedState) → All (λ b. b < 256) input → IsSharedPlan plan →
     let w : Sharing = record { program = p; image = e; pace = pace; ranges = ranges; plan = plan } in
-    shared_after w input n ≡ Ok s → Keeps w input n s
+    shared_after w input n ≡ Ok s → KeepsPace w input n s
