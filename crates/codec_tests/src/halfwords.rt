@@ -8,6 +8,7 @@ use rv_decode::normal::normal;
 use std::alloc::Global;
 use std::test::Fail;
 use zc_decode::decode16::decode16;
+use zc_decode::row::row;
 use zc_decode::short::Short;
 use zc_encode::encode16::encode16;
 use zca_zcb_pass::short::{short_branch, short_jump, short_of};
@@ -213,6 +214,71 @@ const HALFWORDS: &str = "81C8 = lbu 10 11 1
 #[test]
 fn halfwords_of_zcb_decode_and_others_do_not(rt: HostRuntime) -> Result<(), Fail> {
     expect(&rt, "decode16", HALFWORDS)
+}
+
+/// The number of a halfword's row.
+pub fn numbered(alloc: Global, digits: &str) -> Result<String, Fail> {
+    match row(u16::from_str_radix(digits, 16)?) {
+        Some(number) => Ok(format!(in alloc; "{number}")?),
+        None => Ok(String::from_str(alloc, "none")?),
+    }
+}
+
+// A halfword of each row, in the tables' order, and halfwords of none.
+const ROWS: &str = "0048 = 0 | c.addi4spn a0,sp,4
+4188 = 1 | c.lw a0,0(a1)
+C01C = 2 | c.sw a5,0(s0)
+8188 = 3 | c.lbu a0,0(a1)
+8588 = 4 | c.lhu a0,0(a1)
+85C8 = 5 | c.lh a0,0(a1)
+8988 = 6 | c.sb a0,0(a1)
+8D88 = 7 | c.sh a0,0(a1)
+0001 = 8 | c.nop
+0005 = 8 | a hint: c.nop 1
+057D = 9 | c.addi a0,31
+0501 = 9 | a hint: c.addi a0,0
+2FFD = 10 | c.jal .+2046
+457D = 11 | c.li a0,31
+617D = 12 | c.addi16sp sp,496
+657D = 13 | c.lui a0,31
+8105 = 14 | c.srli a0,1
+8505 = 15 | c.srai a0,1
+897D = 16 | c.andi a0,31
+8D0D = 17 | c.sub a0,a1
+8D2D = 18 | c.xor a0,a1
+8D5D = 19 | c.or a0,a5
+8C7D = 20 | c.and s0,a5
+9D4D = 21 | c.mul a0,a1
+9D61 = 22 | c.zext.b a0
+9D75 = 23 | c.not a0
+AFFD = 24 | c.j .+2046
+CC7D = 25 | c.beqz s0,.+254
+EC7D = 26 | c.bnez s0,.+254
+057E = 27 | c.slli a0,31
+4282 = 28 | c.lwsp t0,0(sp)
+8282 = 29 | c.jr t0
+852E = 30 | c.mv a0,a1
+9002 = 31 | c.ebreak
+9282 = 32 | c.jalr t0
+952E = 33 | c.add a0,a1
+C002 = 34 | c.swsp x0,0(sp)
+B842 = 35 | cm.push {ra}, -16
+BA42 = 36 | cm.pop {ra}, 16
+BC42 = 37 | cm.popretz {ra}, 16
+BE42 = 38 | cm.popret {ra}, 16
+ACA2 = 39 | cm.mvsa01 s1,s0
+ACE2 = 40 | cm.mva01s s1,s0
+A006 = 41 | cm.jt 1
+A202 = 42 | cm.jalt 128
+0000 = none
+8002 = none | c.jr x0
+B832 = none | cm.push with list 3
+AC22 = none | cm.mvsa01 s0,s0
+0513 = none | half of a word";
+
+#[test]
+fn rows_have_numbers_in_their_order(rt: HostRuntime) -> Result<(), Fail> {
+    expect(&rt, "row", ROWS)
 }
 
 /// A hash with one more value mixed in.

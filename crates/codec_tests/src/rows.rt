@@ -5,7 +5,7 @@
 
 use crate::base::map_of;
 use crate::forms::long_form;
-use crate::halfwords::{halfword, spelled};
+use crate::halfwords::{halfword, numbered, spelled};
 use crate::relocs::{branch_with, call_with, fitting, jal_with, kind, parts, put, reaching};
 use crate::words::{instr, normal_form};
 use crate::zcmp::short;
@@ -29,6 +29,7 @@ fn answer(alloc: Global, call: &str, given: &str) -> Result<String, Fail> {
         "decode" => instr(alloc, given),
         "normal" => normal_form(alloc, given),
         "decode16" => spelled(alloc, given),
+        "row" => numbered(alloc, given),
         "short" => short(alloc, given),
         "encode16" | "short_of" | "short_branch" | "short_jump" => halfword(alloc, call, given),
         "long_branch" => long_form(alloc, given),

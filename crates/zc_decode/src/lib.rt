@@ -5,6 +5,7 @@ pub mod decode16;
 mod fields;
 pub mod form;
 pub mod lists;
+pub mod row;
 mod rows;
 pub mod short;
 mod spell;
