@@ -134,6 +134,22 @@ const LATER_ENDS: &str = "
 00*4 02000000 00*8 34000000 e0000000 02000000 01000000 04000000 10000000
 00*4 03000000 00*8 14010000 85000000 00*8 01000000 00*4";
 
+// Four sections named `.shared`: code, data, zeroed data, and one without ALLOC, which is dropped. Then data named
+// `.shared.x`.
+const SHARED: &str = "
+7f454c46010101 00*9
+0100 f300 01000000 00*8 58000000 00*4
+3400 00*4 2800 0700 0600
+13000000 61626364 65000000 66670000
+00 =.shared =.shared.x 00
+00*40
+01000000 01000000 06000000 00*4 34000000 04000000 00*8 04000000 00*4
+01000000 01000000 03000000 00*4 38000000 05000000 00*8 04000000 00*4
+01000000 08000000 03000000 00*4 40000000 06000000 00*8 08000000 00*4
+01000000 01000000 00*8 40000000 02000000 00*8 01000000 00*4
+09000000 01000000 03000000 00*4 40000000 02000000 00*8 02000000 00*4
+00*4 03000000 00*8 44000000 13000000 00*8 01000000 00*4";
+
 // Code of 262,144 bytes. The alignment of the code is at 262276, and its size at 262264.
 const LONG: &str = "
 7f454c46010101 00*9
@@ -157,6 +173,7 @@ fn files_of(alloc: Global, list: &str) -> Result<Vec<Vec<u8>>, Fail> {
             "header" => HEADER,
             "ends" => ENDS,
             "later" => LATER_ENDS,
+            "shared" => SHARED,
             "long" => LONG,
             "empty" => "",
             _ => return Err("no object".into()),
@@ -192,6 +209,17 @@ fn data_text(alloc: Global, objects: &Objects) -> Result<String, Fail> {
     let bytes = objects.data_contents(alloc)?;
     let digits = hex::encode(alloc, bytes.as_slice())?;
     Ok(format!(in alloc; "{file_end:x} {end:x} {digits}")?)
+}
+
+// How many sections are shared, and the address and size of each.
+fn shared_text(alloc: Global, objects: &Objects) -> Result<String, AllocError> {
+    let ranges = objects.shared(alloc)?;
+    let mut text = format!(in alloc; "{}", ranges.len())?;
+    for range in &ranges {
+        let (at, size) = *range;
+        text.push_str(format!(in alloc; " {at:x}:{size}")?.as_str())?;
+    }
+    Ok(text)
 }
 
 // The flags of each object, and whether it is compressed, as the object says and as the list of objects says.
@@ -267,6 +295,7 @@ fn told(alloc: Global, objects: &Objects, question: &str) -> Result<String, Fail
         "linked" => Ok(String::from_str(alloc, "linked")?),
         "start" => Ok(target_text(alloc, objects.start())?),
         "data" => data_text(alloc, objects),
+        "shared" => Ok(shared_text(alloc, objects)?),
         "flags" => Ok(flags_text(alloc, objects)?),
         "counts" => Ok(counts_text(alloc, objects)?),
         "relocated" => relas_text(alloc, objects),
@@ -329,6 +358,17 @@ data = 100022 10005b 616263006a6b6c6d6e00000000000000646566670000000000000000000
 #[test]
 fn data_stands_class_after_class(rt: HostRuntime) -> Result<(), Fail> {
     expect(&rt, "first;second @ ", DATA)
+}
+
+// In the last, the name of the section of data begins a byte later, so it is `shared`.
+const SHARED_RANGES: &str = "first;second @ shared = 0
+shared @ shared = 2 100000:5 100010:6
+shared;first;shared @ shared = 4 100010:5 100050:6 10001c:5 100060:6
+shared 168:2 @ shared = 1 100010:6";
+
+#[test]
+fn shared_sections_are_data_of_that_very_name(rt: HostRuntime) -> Result<(), Fail> {
+    expect(&rt, "", SHARED_RANGES)
 }
 
 // Each name of the second object is a name of the first, except the whole text, two names that aren't defined, and the

@@ -130,6 +130,10 @@ length-data_contents inputs =
 
 -- ---- a section of an object
 
+-- the address of a section, by its object's index and its own as they were read
+pub address_read : (inputs : ParsedInputs) (l : IndexedSection) (o i : ℕ) → o ≡ l.object → i ≡ l.index → data_address inputs o i ≡ data_address inputs l.object l.index
+address_read inputs l o i object index = λ j. data_address inputs (object j) (index j)
+
 module _ (inputs : ParsedInputs) (o i : ℕ) (s : SectionParts) (at : section_at inputs.objects o i ≡ Some s) where
   found : data_address inputs o i ≡ role_address inputs o i s (role_of s)
   unfolding data_address

@@ -1,5 +1,5 @@
 -- What names stand for by tables, and the sums over objects by rows, are what the definitions say.
-use Rattle.std.proofs.Common.{◌≡◌, ℕ, zero, suc, ◌+◌, ◌<◌, ◌≤◌, Bool, true, false, cond, ◌&&◌, List, [], ◌∷◌, length, get_or, take, drop, map, max, refl, sym, ap, ◌∙◌, arith, Option, Some, None, is_none, All, eqb, nat_lt}
+use Rattle.std.proofs.Common.{◌≡◌, ℕ, ◌+◌, ◌<◌, ◌≤◌, Bool, true, false, ◌&&◌, List, [], ◌∷◌, length, get_or, take, drop, map, max, refl, sym, ap, ◌∙◌, arith, Option, Some, None, is_none, All, eqb, nat_lt}
 use Rattle.std.specs.List.{find, flat_map, enumerate_from, range_with_len, sum_by, zip}
 use Rattle.std.specs.Option.{option_map, option_or}
 use Rattle.std.proofs.lemmas.Bool.{eqb-true, ltb-false, or_parts}
@@ -29,6 +29,7 @@ use Rattle.psabi_sym.specs.Resolve.Definition.{InObject, AtNumber}
 use Rattle.psabi_sym.specs.Invariants.Rows.{first_row, name_number, placed_rows, role_room, row_address_of, row_blocks, row_common_room, row_data_room, row_room, row_start, section_row, symbol_number, symbol_row}
 use Rattle.psabi_sym.proofs.BridgeLaws.{common_is, commons_end, find-map, first_row_is, number_at, row_blocks_are}
 use Rattle.psabi_sym.proofs.NumberLaws.{bound_goes, symbol_number_is}
+use Rattle.psabi_sym.proofs.RangeLaws.{none_found_in_range}
 use Rattle.psabi_sym.proofs.Tables.{table_at}
 
 -- ---- classes
@@ -182,24 +183,6 @@ row_sums objects names =
     rooms (l ∷ ls) =
         omega (arith, sum_by-cons (λ m. row_data_room (section_row m)) l ls, sum_by-cons (λ m. data_room m.section) l ls, section_room_is l.section (role_of l.section), rooms ls)
 
--- a search that finds nothing
-find_none : (p : ℕ → Bool) (a n k : ℕ) → find p (range_with_len a n) ≡ None → k < n → p (a + k) ≡ false
-find_none p a zero k none lt = absurd (omega arith)
-find_none p a (suc n) zero none lt =
-    let same : a + 0 ≡ a = omega arith in
-    ap p same ∙ first_none (p a) refl
-  where
-    first_none : (b : Bool) → p a ≡ b → p a ≡ false
-    first_none true is = absurd (cc (none, ap (λ t. cond t (Some a) (find p (range_with_len (a + 1) n))) is))
-    first_none false is = is
-find_none p a (suc n) (suc k) none lt =
-    let same : a + suc k ≡ a + 1 + k = omega arith in
-    ap p same ∙ find_none p (a + 1) n k (rest_none (p a) none) (omega arith)
-  where
-    rest_none : (b : Bool) → cond b (Some a) (find p (range_with_len (a + 1) n)) ≡ None → find p (range_with_len (a + 1) n) ≡ None
-    rest_none true h = absurd cc
-    rest_none false h = h
-
 -- the room of data is bounded
 pub data_fits : (files : List (List ℕ)) → sum_fault files ≡ None → sum_by (λ f. object_data (object_parts f)) files + 96 ≤ 0x40_0000
 unfolding sum_fault
@@ -208,8 +191,8 @@ data_fits (f ∷ fs) none =
     let files = f ∷ fs in
     let p = λ (i : ℕ). are_too_large (sums_of (take (i + 1) files)) in
     let n : ℕ = length fs in
-    let fine : p (0 + n) ≡ false = find_none p 0 (length files) n (mapped (find p (range_with_len 0 (length files))) none) (omega arith) in
-    let all : take (0 + n + 1) files ≡ files = take_all (0 + n + 1) files (omega arith) in
+    let fine : p n ≡ false = none_found_in_range p 0 (length files) n (mapped (find p (range_with_len 0 (length files))) none) (omega arith) (omega arith) in
+    let all : take (n + 1) files ≡ files = take_all (n + 1) files (omega arith) in
     let sums : are_too_large (sums_of files) ≡ false = sym (ap (λ l. are_too_large (sums_of l)) all) ∙ fine in
     ltb-false 0x40_0000 ((sums_of files).data_room + 96) (or_parts _ (nat_lt 0x40_0000 ((sums_of files).data_room + 96)) sums).1
   where

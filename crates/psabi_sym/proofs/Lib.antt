@@ -4,6 +4,7 @@ pub mod BridgeLaws
 pub mod CommonLaws
 pub mod ContentLaws
 pub mod DefinedLaws
+pub mod EndLaws
 pub mod FaultLaws
 pub mod FlatLaws
 pub mod FoundLaws
@@ -15,8 +16,10 @@ pub mod LongNames
 pub mod NumberedLaws
 pub mod PartLaws
 pub mod PlaceLaws
+pub mod RangeLaws
 pub mod RowLaws
 pub mod SectionNumbers
+pub mod SharedLaws
 pub mod StartLaws
 pub mod SumLaws
 pub mod Tables

@@ -1,8 +1,7 @@
 -- Lists of files whose first ones have too many bytes: their refusal needs no more of the others than the first fault of reading.
-use Rattle.std.proofs.Common.{◌≡◌, ℕ, zero, suc, ◌+◌, ◌<◌, ◌≤◌, List, [], ◌∷◌, ◌++◌, length, take, Bool, true, false, ◌||◌, cond, ltb, Option, Some, None, ◌⊎◌, inl, inr, refl, sym, ap, subst, ◌∙◌, arith, length-append}
+use Rattle.std.proofs.Common.{◌≡◌, ℕ, zero, suc, ◌+◌, ◌<◌, ◌≤◌, List, [], ◌∷◌, ◌++◌, length, take, Bool, true, false, ◌||◌, cond, ltb, Option, Some, None, refl, sym, ap, subst, ◌∙◌, arith, length-append}
 use Rattle.std.specs.List.{find, range_with_len, sum_by}
 use Rattle.std.specs.Option.{option_map, option_or}
-use Rattle.std.proofs.Math.Nat.{eq-or-lt_of_le}
 use Rattle.std.proofs.lemmas.Bool.{le-ltb, lt-ltb}
 use Rattle.std.proofs.lemmas.List.{take-append-le, take_all}
 use Rattle.elf32_read.specs.declared.fault.Fault.{Fault}
@@ -12,6 +11,7 @@ use Rattle.elf32_read.specs.Object.{has_bad_alignment, has_bad_name, has_bad_sym
 use Rattle.elf32_read.specs.Rows.{first_of}
 use Rattle.psabi_sym.specs.Faults.{are_too_large, fault_from, first_some, gather_fault, most_objects, name_fault, sum_fault, sums_of}
 use Rattle.psabi_sym.specs.Inputs.{Inputs, parsed}
+use Rattle.psabi_sym.proofs.RangeLaws.{none_found_in_range}
 
 -- ---- the first fault of reading
 
@@ -80,19 +80,6 @@ find_more p q k (suc n) m x same found =
     by later true is = is
     by later false is = later is
 
--- where none is found, none passes
-find_none : (p : ℕ → Bool) (k n i : ℕ) → find p (range_with_len k n) ≡ None → k ≤ i → i < k + n → p i ≡ false
-find_none p k zero i none from within = absurd (omega arith)
-find_none p k (suc n) i none from within = by (λ rest after. find_none p (k + 1) n i rest after (omega arith)) (p k) refl none
-  where
-    at : p k ≡ false → (k + 1 ≤ i → p i ≡ false) → (k ≡ i) ⊎ (k < i) → p i ≡ false
-    at here later (inl same) = subst (λ n. p n ≡ false) same here
-    at here later (inr after) = later (omega arith)
-
-    by : (find p (range_with_len (k + 1) n) ≡ None → k + 1 ≤ i → p i ≡ false) → (b : Bool) → p k ≡ b → cond b (Some k) (find p (range_with_len (k + 1) n)) ≡ None → p i ≡ false
-    by later true is h = absurd cc
-    by later false is h = at is (later h) (eq-or-lt_of_le from)
-
 -- the first object with which a sum is too large is so with others behind it
 pub sum_fault_append : (first others : List (List ℕ)) (index : ℕ) → find (passes first) (range_with_len 0 (length first)) ≡ Some index → sum_fault (first ++ others) ≡ Some (index, TooLarge)
 unfolding sum_fault
@@ -113,7 +100,7 @@ long_files [] long none = absurd (omega arith)
 long_files (file ∷ files) long none =
     let all = file ∷ files in
     let count : length files + 1 ≡ length all = omega arith in
-    let last : are_too_large (sums_of (take (length files + 1) all)) ≡ false = find_none (passes all) 0 (length all) (length files) none (omega arith) (omega arith) in
+    let last : are_too_large (sums_of (take (length files + 1) all)) ≡ false = none_found_in_range (passes all) 0 (length all) (length files) none (omega arith) (omega arith) in
     let whole : are_too_large (sums_of all) ≡ false = ap (λ f. are_too_large (sums_of f)) (sym (ap (λ n. take n all) count ∙ take_all (length all) all (omega arith))) ∙ last in
     let above : ltb 0x200_0000 (sum_by length all) ≡ true = lt-ltb 0x200_0000 (sum_by length all) long in
     let code = ltb 0x4_0000 (sums_of all).code_room in

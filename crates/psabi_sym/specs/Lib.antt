@@ -12,4 +12,5 @@ pub mod Objects
 pub mod Places
 pub mod Resolve
 pub mod SectionRef
+pub mod Shared
 pub mod Start

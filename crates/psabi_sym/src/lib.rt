@@ -26,6 +26,7 @@ mod read_symbols;
 pub mod section_ref;
 pub mod section_row;
 mod sections;
+mod shared;
 mod start;
 pub mod sums;
 pub mod symbol_row;

@@ -1,9 +1,11 @@
 // Sections as values.
 
-ghost use Rattle.std.specs.Prelude.{◌≡◌, ◌<◌, ◌^◌, Some, length, slice_get};
+ghost use Rattle.std.specs.Prelude.{◌≡◌, ◌<◌, ◌==◌, ◌^◌, ◌++◌, ◌∷◌, [], List, ℕ, Some, false, length, slice_get};
+ghost use Rattle.std.specs.List.{list_any};
 ghost use Rattle.elf32_read.specs.Header.{section_count};
 ghost use Rattle.elf32_read.specs.Parts.{is_code_section, section_parts};
 ghost use Rattle.psabi_sym.specs.Data.{role_of};
+ghost use Rattle.psabi_sym.specs.Names.{same_name};
 
 use crate::loaded::Loaded;
 use crate::section_row::{SectionRole, SectionRow};
@@ -24,17 +26,15 @@ pub struct SectionRef<'a> {
 }
 
 impl<'a> Model for SectionRef<'a> {
-    ghost use Rattle.std.specs.Prelude.{◌≡◌};
-    ghost use Rattle.psabi_sym.specs.Data.{role_of};
     ghost use Rattle.psabi_sym.specs.Indexed.{IndexedSection};
-    ghost use Rattle.psabi_sym.specs.SectionRef.{lent_section};
+    ghost use Rattle.psabi_sym.specs.SectionRef.{IsLent, lent_section};
 
     ghost Value = { IndexedSection };
 
     ghost view = { λ s.
         record { object = s.object; index = s.index; section = lent_section s.entry s.relocs s.compressed } };
 
-    ghost invariant = { λ s. s.role ≡ role_of (lent_section s.entry s.relocs s.compressed) };
+    ghost invariant = { λ s. IsLent s.role s.entry s.relocs s.compressed };
 }
 
 impl<'a> SectionRef<'a> {
@@ -90,6 +90,15 @@ impl<'a> SectionRef<'a> {
         ensures { result ≡ self.now.section.compressed }
     {
         self.compressed
+    }
+
+    /// Whether the section has this name, which is given with its terminating zero. It looks at no more
+    /// bytes than the given name has.
+    pub fn is_named(&self, ended: &[u8]) -> bool
+        ensures { (name : List ℕ) → list_any (λ byte. byte == 0) name ≡ false → ended.now ≡ name ++ 0 ∷ []
+            → result ≡ same_name self.now.section.name name }
+    {
+        self.entry.is_named(ended)
     }
 
     /// The section's type, sh_type.

@@ -2,6 +2,7 @@ pub mod Examples
 pub mod RowLaws
 pub mod BitLaws
 pub mod DecodeLaws
+pub mod EventLaws
 pub mod ResultLaws
 pub mod NormalLaws
 pub mod RegisterLaws

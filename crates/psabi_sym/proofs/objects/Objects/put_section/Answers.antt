@@ -1,13 +1,8 @@
-use Rattle.std.proofs.Common.{◌≡◌, ℕ, rules, ap, sym, ◌∙◌, arith, IsSome, subst, ⊎_elim}
-use Rattle.psabi_sym.specs.Data.{address_in, data_address}
-use Rattle.psabi_sym.specs.Inputs.{ParsedInputs, parsed}
-use Rattle.psabi_sym.specs.Indexed.{IndexedSection}
-use Rattle.psabi_sym.proofs.ContentLaws.{address_in-ge, address_of_data, content_none, none_of_code, none_of_dropped}
+use Rattle.std.proofs.Common.{◌≡◌, rules, ap, sym, ◌∙◌, arith, IsSome, subst, ⊎_elim}
+use Rattle.psabi_sym.specs.Data.{address_in}
+use Rattle.psabi_sym.specs.Inputs.{parsed}
+use Rattle.psabi_sym.proofs.ContentLaws.{address_in-ge, address_of_data, address_read, content_none, none_of_code, none_of_dropped}
 use Rattle.psabi_sym.proofs.objects.Objects.put_section.Goals as goal
-
--- by the object's index and its own, as they were read
-address_read : (inputs : ParsedInputs) (l : IndexedSection) (o i : ℕ) → o ≡ l.object → i ≡ l.index → data_address inputs o i ≡ data_address inputs l.object l.index
-address_read inputs l o i object index = λ j. data_address inputs (object j) (index j)
 
 pub data_address-requires : goal.data_address-requires
 data_address-requires c =

@@ -8,5 +8,5 @@ use Rattle.psabi_sym.proofs.section_ref.SectionRef.is_code.Goals as goal
 pub returns : goal.returns
 returns c =
     let s = c.self.inside in
-    c.is_code.ensures ∙ ap is_code_role c.self.invariant ∙ code_is (lent_section s.entry s.relocs s.compressed)
+    c.is_code.ensures ∙ ap is_code_role c.self.invariant.role_is ∙ code_is (lent_section s.entry s.relocs s.compressed)
     ∙ ap (λ l. is_code_section l.section) c.self.view_is
