@@ -2,34 +2,28 @@
 -- changes bytes of its section, so the word that it fills in lies there as well.
 use Rattle.std.proofs.Common.{◌≡◌, ℕ, ℤ, ◌+◌, ◌≤◌, List, [], ◌∷◌, ◌++◌, get_or, map, filter, take, Bool, true, false, cond, eqb, not, Option, Some, None, slice_get, refl, sym, ap, ◌∙◌, arith}
 use Rattle.std.specs.Prelude.{All, ◌&&◌, ◌||◌, nat_lt}
-use Rattle.std.specs.List.{flat_map, fold}
+use Rattle.std.specs.List.{flat_map}
 use Rattle.std.specs.Option.{option_map, option_map_or, option_or}
 use Rattle.std.proofs.lemmas.Bool.{ltb-false, or_parts}
 use Rattle.std.proofs.lemmas.Grind.{flat_map-append}
-use Rattle.std.proofs.lemmas.List.{append-nil, map-append}
-use Rattle.std.proofs.lemmas.List.Elements.{All-filter, All-map, filter-append}
-use Rattle.std.proofs.lemmas.List.Sums.{fold-append}
+use Rattle.std.proofs.lemmas.List.{append-nil}
+use Rattle.std.proofs.lemmas.List.Elements.{All-filter, All-map}
 use Rattle.std.proofs.lemmas.Option.{slice_get-get_or}
-use Rattle.elf32_read.specs.Parts.{ObjectParts, SectionParts}
+use Rattle.elf32_read.specs.Parts.{SectionParts}
 use Rattle.elf32_read.specs.declared.fault.Fault.{Fault}
 use Rattle.elf32_read.specs.declared.fault.Fault.TheVariants.{BadTarget, LoPair, RelocKind as KindFault, RelocPlace}
 use Rattle.elf32_read.specs.declared.reloc.Reloc.{Reloc}
 use Rattle.psabi_reloc.specs.Kinds.{field_length, kind_of}
 use Rattle.psabi_reloc.specs.declared.kind.RelocKind.{RelocKind}
 use Rattle.psabi_reloc.specs.declared.kind.RelocKind.TheVariants as kind
-use Rattle.psabi_sym.specs.Blocks.{aligned_up, end_from}
-use Rattle.psabi_sym.specs.Data.{address_in, blocks_in, blocks_of, class_end, class_start, data_address, data_end, has_class, role_of}
-use Rattle.psabi_sym.specs.Classes.{classes_before, same_class}
+use Rattle.psabi_sym.specs.Data.{address_in, data_address, data_end, role_of}
 use Rattle.psabi_sym.specs.Inputs.{ParsedInputs}
-use Rattle.psabi_sym.specs.Indexed.{IndexedSection, all_sections, section_at, sections_before}
-use Rattle.psabi_sym.specs.declared.block.Block.{Block}
+use Rattle.psabi_sym.specs.Indexed.{IndexedSection, all_sections, section_at}
 use Rattle.psabi_sym.specs.declared.data_class.DataClass.{DataClass}
-use Rattle.psabi_sym.specs.declared.data_class.DataClass.TheVariants.{ReadOnly, Data, SmallData, SmallZero, Zero, Common}
 use Rattle.psabi_sym.specs.declared.section_row.SectionRole.TheVariants.{Code, InClass, Dropped}
 use Rattle.psabi_sym.specs.declared.section_row.SectionRole.{SectionRole}
-use Rattle.psabi_sym.proofs.BlockLaws.{aligned_up-ge, end_from-ge}
-use Rattle.psabi_sym.proofs.ContentLaws.{address_of_data, end_after, ends-ge, none_of_code, none_of_dropped}
-use Rattle.psabi_sym.proofs.PlaceLaws.{not_common}
+use Rattle.psabi_sym.proofs.ContentLaws.{address_of_data, none_of_code, none_of_dropped}
+use Rattle.psabi_sym.proofs.EndLaws.{ends_in_data}
 use Rattle.block_cut.specs.Faults.{has_bad_target, if_so, is_stray, lacks_pcrel_hi, reloc_fault, section_fault}
 use Rattle.block_cut.specs.Relocs.{is_bad_kind, is_bad_place, overlaps_another, is_ignored, is_placed, is_word}
 use Rattle.block_cut.specs.DataWords.{data_word, data_words, held_address, resolved_word, data_words_in}
@@ -37,83 +31,8 @@ use Rattle.block_cut.specs.Resolved.{asks, resolved_reloc, resolved_relocs}
 use Rattle.block_cut.specs.declared.data_word.DataWord.{DataWord}
 use Rattle.block_cut.specs.declared.resolved_reloc.ResolvedReloc.{ResolvedReloc}
 use Rattle.block_cut.proofs.FirstLaws.{none_at}
-use Rattle.block_cut.proofs.ListedLaws.{cut_at, listed}
+use Rattle.block_cut.proofs.ListedLaws.{listed}
 use Rattle.block_cut.proofs.TakeLaws.{take_next}
-
--- ---- where data end
-
-end_from-append : (at : ℕ) (bs cs : List Block) → end_from at (bs ++ cs) ≡ end_from (end_from at bs) cs
-end_from-append at [] cs = refl
-end_from-append at (b ∷ bs) cs = end_from-append (aligned_up b.align at + b.size) bs cs
-
-same_as_itself : (class : DataClass) → same_class class class ≡ true
-same_as_itself ReadOnly = refl
-same_as_itself Data = refl
-same_as_itself SmallData = refl
-same_as_itself SmallZero = refl
-same_as_itself Zero = refl
-same_as_itself Common = refl
-
--- the classes after one, before the common symbols
-abbrev later : DataClass → List DataClass
-later ReadOnly = Data ∷ SmallData ∷ SmallZero ∷ Zero ∷ []
-later Data = SmallData ∷ SmallZero ∷ Zero ∷ []
-later SmallData = SmallZero ∷ Zero ∷ []
-later SmallZero = Zero ∷ []
-later Zero = []
-later Common = []
-
-all_classes : (class : DataClass) → same_class class Common ≡ false → classes_before class ++ class ∷ later class ≡ classes_before Common
-all_classes ReadOnly other = refl
-all_classes Data other = refl
-all_classes SmallData other = refl
-all_classes SmallZero other = refl
-all_classes Zero other = refl
-all_classes Common other = absurd cc
-
--- the common symbols come last, so all data end no earlier than a class. What is said of any class says so at once: by each class,
--- the check would compare chains of ends
-class_end-le : (inputs : ParsedInputs) (class : DataClass) → same_class class Common ≡ false → class_end inputs class ≤ data_end inputs
-unfolding class_end class_start
-class_end-le inputs class other =
-    let after = end_after inputs.objects in
-    let end = fold after inputs.map.data_low (classes_before Common) in
-    let same : fold after (class_end inputs class) (later class) ≡ end =
-    sym (fold-append after inputs.map.data_low (classes_before class) (class ∷ later class))
-    ∙ ap (fold after inputs.map.data_low) (all_classes class other) in
-    omega (
-      arith,
-      same,
-      ends-ge inputs.objects (class_end inputs class) (later class),
-      aligned_up-ge 16 end,
-      end_from-ge (aligned_up 16 end) (blocks_of inputs.objects Common),
-    )
-
--- a class of sections has their room
-class_blocks : (objects : List ObjectParts) (class : DataClass) → same_class class Common ≡ false → blocks_of objects class ≡ blocks_in class (all_sections objects)
-class_blocks objects ReadOnly other = refl
-class_blocks objects Data other = refl
-class_blocks objects SmallData other = refl
-class_blocks objects SmallZero other = refl
-class_blocks objects Zero other = refl
-class_blocks objects Common other = absurd cc
-
--- the room of sections in two parts
-blocks_in-append : (class : DataClass) (ls ms : List IndexedSection) → blocks_in class (ls ++ ms) ≡ blocks_in class ls ++ blocks_in class ms
-blocks_in-append class ls ms = ap (map block) (filter-append own ls ms) ∙ map-append block (filter own ls) (filter own ms)
-  where
-    own : IndexedSection → Bool
-    own l = has_class class (role_of l.section)
-
-    block : IndexedSection → Block
-    block l = record { align = l.section.align; size = l.section.size }
-
--- a section of a class has its room
-blocks_in-own : (class : DataClass) (l : IndexedSection) (ls : List IndexedSection) → has_class class (role_of l.section) ≡ true
-    → blocks_in class (l ∷ ls) ≡ record { align = l.section.align; size = l.section.size } ∷ blocks_in class ls
-blocks_in-own class l ls own =
-    ap (λ b. map (λ m. record { align = m.section.align; size = m.section.size }) (cond b (l ∷ filter (λ m. has_class class (role_of m.section)) ls) (filter (λ m. has_class class (role_of m.section)) ls)))
-    own
 
 -- what holds of neither of two tests, and isn't the first
 second : (a b c : Bool) (f g : Fault) (x : Option Fault) → option_or (if_so a f) (option_or (if_so (b || c) g) x) ≡ None → b ≡ false
@@ -129,30 +48,6 @@ word_fits None size start addend rest word fine = absurd cc
 word_fits (Some k) size start addend rest word fine = absurd cc
 
 module _ (inputs : ParsedInputs) (o i : ℕ) (s : SectionParts) (found : section_at inputs.objects o i ≡ Some s) where
-  -- a section of a class lies in it
-  pub in_class : (class : DataClass) → role_of s ≡ InClass class → address_in inputs o i s class + s.size ≤ class_end inputs class
-  unfolding class_end
-  in_class class role =
-      let cut = cut_at inputs.objects o i s found in
-      let own = blocks_in-own class (listed o i s) cut.rest (ap (has_class class) role ∙ same_as_itself class) in
-      let start = class_start inputs class in
-      let before = blocks_in class (sections_before inputs.objects o i) in
-      let rest = blocks_in class cut.rest in
-      let block : Block = record { align = s.align; size = s.size } in
-      let blocks : blocks_of inputs.objects class ≡ before ++ block ∷ rest =
-      class_blocks inputs.objects class (not_common s class role) ∙ ap (blocks_in class) cut.all_are
-      ∙ blocks_in-append class (sections_before inputs.objects o i) (listed o i s ∷ cut.rest) ∙ ap (λ bs. before ++ bs) own in
-      omega (
-        arith,
-        ap (end_from start) blocks,
-        end_from-append start before (block ∷ rest),
-        end_from-ge (aligned_up s.align (end_from start before) + s.size) rest,
-      )
-
-  -- no data lie after the end of all data
-  pub data_fits : (class : DataClass) → role_of s ≡ InClass class → address_in inputs o i s class + s.size ≤ data_end inputs
-  data_fits class role = omega (arith, in_class class role, class_end-le inputs class (not_common s class role))
-
   -- ---- relocations without a fault
 
   none_mapped : (x : Option Fault) → option_map {U = ℕ × Fault} (λ fault. (o, fault)) x ≡ None → x ≡ None
@@ -249,7 +144,7 @@ module _ (inputs : ParsedInputs) (l : IndexedSection) where
       (λ k d lt word.
       let r = get_or l.section.relocs k d in
       let fine = reloc_none inputs l.object l.index l.section found none k r (slice_get-get_or l.section.relocs k d lt) in
-      omega (arith, is.at_is, data_fits inputs l.object l.index l.section found is.class is.role, word_inside inputs l.object l.index l.section found r fine word)))
+      omega (arith, is.at_is, ends_in_data inputs l.object l.index l.section found is.class is.role, word_inside inputs l.object l.index l.section found r fine word)))
 
 -- ---- one section after another
 

@@ -1,5 +1,6 @@
 -- What the item at a place is: it is that of a start of the section, and takes the bytes that its step goes, or it is padding.
 use Rattle.std.proofs.Common.{◌≡◌, ℕ, zero, suc, ◌+◌, ◌%◌, ◌<◌, ◌≤◌, ℤ, pos, negsuc, List, Bool, true, false, cond, Option, Some, None, refl, sym, ap, subst, ◌∙◌, arith, eqb, ltb, eq-eqb}
+use Rattle.std.specs.Prelude.{◌+ℤ◌}
 use Rattle.std.specs.Option.{option_and_then, option_map_or}
 use Rattle.std.proofs.lemmas.Bool.{and_parts, eqb-true, lt-ltb, ltb-true}
 use Rattle.zc_base.specs.declared.place.Place.{Place}
@@ -17,7 +18,7 @@ use Rattle.rv_decode.specs.declared.instr.Instr.{Instr}
 use Rattle.rv_decode.specs.declared.instr.Instr.TheVariants as instr
 use Rattle.block_cut.specs.declared.item.Item.{Item}
 use Rattle.block_cut.specs.declared.item.Item.TheVariants.{Branch, Jump, Align}
-use Rattle.block_cut.specs.Items.{call_item, code_at, instr_item, item_at, item_in, item_under, known_item, raw_in, raw_pair, size_on, spelled_item, starts_on, target_away, target_of, to_place, transfer_item, transfer_under}
+use Rattle.block_cut.specs.Items.{call_item, code_at, instr_item, is_target_at, item_at, item_in, item_under, known_item, place_on, raw_in, raw_pair, size_on, spelled_item, starts_on, target_away, target_of, to_place, transfer_item, transfer_under}
 use Rattle.block_cut.specs.PlainLayout.{after_item, padding_of}
 use Rattle.block_cut.specs.CodeSizes.{own_size, code_step}
 use Rattle.block_cut.specs.Relocs.{field_of, fits_at, instr_in, is_bad_kind, is_ignored, is_padding, reloc_on}
@@ -59,6 +60,20 @@ item_at-code inputs q s at = ap (option_and_then (λ s. cond (starts_on s q.offs
 pub item_at-none : (inputs : ParsedInputs) (q : Place) → code_at inputs.objects q ≡ None → item_at inputs q ≡ None
 unfolding item_at
 item_at-none inputs q at = ap (option_and_then (λ s. cond (starts_on s q.offset) (Some (item_in inputs s q)) None)) at
+
+-- ---- the place where an item leads
+
+-- a place at a distance from another, if there is one, is where code may lead
+pub away_target : (objects : List ObjectParts) (q to : Place) (distance : ℤ) → target_away objects q distance ≡ Some to → is_target_at objects to ≡ true
+away_target objects q to distance = from (place_on q (pos q.offset +ℤ distance))
+  where
+    only : (r : Place) (b : Bool) → is_target_at objects r ≡ b → cond b (Some r) None ≡ Some to → is_target_at objects to ≡ true
+    only r true is h = let same : r ≡ to = cc in ap (is_target_at objects) (sym same) ∙ is
+    only r false is h = absurd cc
+
+    from : (o : Option Place) → option_and_then (λ r. cond (is_target_at objects r) (Some r) None) o ≡ Some to → is_target_at objects to ≡ true
+    from None h = absurd cc
+    from (Some r) h = only r (is_target_at objects r) refl h
 
 -- ---- padding
 

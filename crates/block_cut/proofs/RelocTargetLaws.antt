@@ -5,7 +5,7 @@ use Rattle.std.specs.List.{list_any}
 use Rattle.block_cut.specs.Invariants.Led.{is_marked, mark_in, section_number}
 use Rattle.std.specs.Option.{option_map_or, option_map}
 use Rattle.std.proofs.Math.Bool.{or-false, or_assoc}
-use Rattle.std.proofs.lemmas.Bool.{cases_lt, eq-eqb, eqb-true, false≢true, or_parts}
+use Rattle.std.proofs.lemmas.Bool.{cases_lt, eqb-true, false≢true, or_parts}
 use Rattle.std.proofs.lemmas.List.{get_or_past}
 use Rattle.std.proofs.lemmas.List.Folds.{list_any-append, list_any_at}
 use Rattle.std.proofs.lemmas.Option.{get_or_from_slice_get, slice_get_within}
@@ -17,8 +17,8 @@ use Rattle.psabi_sym.specs.Inputs.{Inputs, ParsedInputs, parsed}
 use Rattle.psabi_sym.specs.Indexed.{IndexedSection, section_at}
 use Rattle.psabi_sym.specs.declared.target.Target.{Target}
 use Rattle.psabi_sym.specs.declared.target.Target.TheVariants.{Code, Number, Absent, Nowhere}
-use Rattle.zc_base.specs.Places.{same_place}
 use Rattle.zc_base.specs.declared.place.Place.{Place}
+use Rattle.zc_base.proofs.PlaceLaws.{same_place-refl}
 use Rattle.block_cut.specs.Invariants.CodeTargets.{code_leads, is_wrong, is_wrong_target}
 use Rattle.block_cut.specs.Faults.{if_so, is_bad_target, section_fault}
 use Rattle.block_cut.specs.Items.{is_target_at, place_of}
@@ -60,15 +60,12 @@ any_weaker p q weaker (x ∷ xs) is = by (p x) refl is (any_weaker p q weaker xs
 
 -- ---- faults
 
-same_self : (p : Place) → same_place p p ≡ true
-same_self p = λ j. eq-eqb p.object p.object refl j && (eq-eqb p.section p.section refl j && eq-eqb p.offset p.offset refl j)
-
 -- a relocation that isn't wrong has no fault if code may lead where it leads
 fine_one : (objects : List ObjectParts) (i : ℕ) (d : ResolvedReloc) → is_wrong d ≡ false → ((q : Place) → is_place q d.target ≡ true → is_target_at objects q ≡ true) → resolved_fault objects i d ≡ None
 fine_one objects i d right leads = by d.fault refl right
   where
     target : (t : Target) → d.target ≡ t → is_wrong_target (is_transfer d.kind) t ≡ false → ((q : Place) → is_place q t ≡ true → is_target_at objects q ≡ true) → is_bad_target objects (is_transfer d.kind) t ≡ false
-    target (Code to) is right leads = ap not (leads to (same_self to))
+    target (Code to) is right leads = ap not (leads to (same_place-refl to))
     target (Number n) is right leads = right
     target (Absent n) is right leads = refl
     target Nowhere is right leads = absurd cc

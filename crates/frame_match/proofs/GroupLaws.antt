@@ -7,6 +7,7 @@ use Rattle.std.specs.List.{fold, slice_get}
 use Rattle.std.specs.Option.{is_some, option_map, option_to_list}
 use Rattle.std.proofs.lemmas.Bool.{and_parts}
 use Rattle.std.proofs.lemmas.Option.{none-some, same_Some}
+use Rattle.zc_base.proofs.ListLaws.{get_map}
 use Rattle.elf32_read.specs.Parts.{is_code_section}
 use Rattle.psabi_sym.specs.Inputs.{ParsedInputs}
 use Rattle.psabi_sym.specs.Indexed.{IndexedSection}
@@ -31,7 +32,6 @@ use Rattle.frame_match.specs.declared.slot.Slot.{Slot}
 use Rattle.frame_match.proofs.FoundLaws.{pop_known, push_known}
 use Rattle.frame_match.proofs.ListLaws.{known_facts}
 use Rattle.frame_match.proofs.MemberLaws.{in_cases, In}
-use Rattle.frame_match.proofs.RunLaws.{get_map}
 use Rattle.frame_match.proofs.TailLaws.{if_known}
 
 -- ---- the instructions of a group exist

@@ -9,6 +9,7 @@ use Rattle.std.proofs.lemmas.List.{length-map}
 use Rattle.std.proofs.lemmas.Option.{none-some, same_Some}
 use Rattle.std.specs.Prelude.{◌⊎◌}
 use Rattle.std.proofs.Common.{inl, inr}
+use Rattle.zc_base.proofs.ListLaws.{get_map}
 use Rattle.psabi_sym.specs.Inputs.{ParsedInputs}
 use Rattle.psabi_sym.specs.Indexed.{IndexedSection}
 use Rattle.rv_decode.specs.declared.instr.Instr.{Instr}
@@ -28,11 +29,6 @@ pub map_get : {X Y : Type 0} (f : X → Y) (xs : List X) (k : ℕ) (y : Y) → s
 map_get f [] k y h = absurd (none-some y h)
 map_get f (x ∷ xs) zero y h = (x, refl, same_Some (f x) y h)
 map_get f (x ∷ xs) (suc k) y h = map_get f xs k y h
-
-pub get_map : {X Y : Type 0} (f : X → Y) (xs : List X) (k : ℕ) (x : X) → slice_get xs k ≡ Some x → slice_get (map f xs) k ≡ Some (f x)
-get_map f [] k x h = absurd (none-some x h)
-get_map f (y ∷ ys) zero x h = ap (λ z. Some (f z)) (same_Some y x h)
-get_map f (y ∷ ys) (suc k) x h = get_map f ys k x h
 
 -- ---- the code's loop
 

@@ -13,6 +13,7 @@ use Rattle.std.proofs.lemmas.List.Sums.{sum_by-append}
 use Rattle.std.proofs.lemmas.Option.{get_or_from_slice_get, slice_get-map}
 use Rattle.zc_base.specs.MemMap.{standard_map}
 use Rattle.zc_base.specs.declared.place.Place.{Place}
+use Rattle.zc_base.proofs.ListLaws.{get_map}
 use Rattle.elf32_read.specs.Parts.{ObjectParts, SectionParts, SymbolParts}
 use Rattle.psabi_sym.specs.Data.{role_of}
 use Rattle.psabi_sym.specs.Indexed.{IndexedSection, IndexedSymbol, section_at, symbol_at}
@@ -50,9 +51,6 @@ use Rattle.load_maker.proofs.NamedLaws.{HasNumber, called_has}
 use Rattle.load_maker.proofs.SymbolLaws.{function_at, function_there, length-function_symbols}
 use Rattle.load_maker.proofs.StartLaws.{start_right}
 use Rattle.load_maker.proofs.WrittenLaws.{group_right, group_written, names_more, start_written}
-
-slice_map : {X Y : Type 0} (f : X → Y) (xs : List X) (k : ℕ) (x : X) → slice_get xs k ≡ Some x → slice_get (map f xs) k ≡ Some (f x)
-slice_map f xs k x at = slice_get-map f xs k ∙ ap (option_map f) at
 
 -- a statement that stands among others with a property has it
 at_split : (P : Statement → Type 0) (statements before after : List Statement) (s : Statement) → statements ≡ before ++ s ∷ after → All P statements → P s
@@ -180,7 +178,7 @@ module _ (number n : ℕ) (few : n ≤ FUNCTION_LIMIT) where
   -- the calls of the first object lead somewhere
   start_call : (i : ℕ) → i < n → HasNumber start_named i → is_bad_target made.objects true (resolved made 0 (symbol_of 2 start_named i) (pos 0)) ≡ false
   start_call i lt has =
-      call_target 0 i (suc (suc has.0)) (undefined_symbol i) lt (slice_map undefined_symbol start_named has.0 i has.1) refl (symbol_of 2 start_named i) (omega (arith, has.2))
+      call_target 0 i (suc (suc has.0)) (undefined_symbol i) lt (get_map undefined_symbol start_named has.0 i has.1) refl (symbol_of 2 start_named i) (omega (arith, has.2))
 
   -- `result` is a number
   result_target : (transfers : Bool) → transfers ≡ false → is_bad_target made.objects transfers (resolved made 0 1 (pos 0)) ≡ false
@@ -227,7 +225,7 @@ module _ (number n : ℕ) (few : n ≤ FUNCTION_LIMIT) where
             symbol = undefined_symbol i;
             at = in_group m (undefined_symbol i)
                 (slice_right own called m j (undefined_symbol i) (omega (arith, e, length-function_symbols (8 * k) 0 (bodies_of number n k)))
-                (slice_map undefined_symbol (drop (length (bodies_of number n k)) (named_in k)) j i (slice_drop (length (bodies_of number n k)) (named_in k) m j i e has)));
+                (get_map undefined_symbol (drop (length (bodies_of number n k)) (named_in k)) j i (slice_drop (length (bodies_of number n k)) (named_in k) m j i e has)));
             leads = refl;
           }
     ]

@@ -1,19 +1,20 @@
 -- What leads to a place makes it the beginning of a basic block: a relocation that asks for something, an item that goes there, one
 -- before it that ends a block, and a section that starts there. A program may name each such place where an item starts or a section of code ends.
-use Rattle.std.proofs.Common.{◌≡◌, ◌⊎◌, [], map, Option, Some, None, Bool, true, false, cond, refl, sym, ap, ◌∙◌, inl, inr, eqb, List}
-use Rattle.std.specs.Prelude.{ℕ, ℤ, pos, ◌+ℤ◌, ◌&&◌, ◌||◌, not}
+use Rattle.std.proofs.Common.{◌≡◌, ◌⊎◌, [], map, Option, Some, None, Bool, true, false, cond, refl, ap, ◌∙◌, inl, inr, eqb}
+use Rattle.std.specs.Prelude.{ℕ, ◌&&◌, ◌||◌, not}
 use Rattle.std.specs.List.{flat_map, list_any}
-use Rattle.std.specs.Option.{option_and_then, option_map_or}
+use Rattle.std.specs.Option.{option_map_or}
 use Rattle.std.proofs.lemmas.Bool.{and_from, eq-eqb, or_cases, or_left, or_right}
 use Rattle.zc_base.specs.Places.{same_place}
 use Rattle.zc_base.specs.declared.place.Place.{Place}
-use Rattle.elf32_read.specs.Parts.{ObjectParts, SectionParts}
+use Rattle.zc_base.proofs.PlaceLaws.{same_place-refl}
+use Rattle.elf32_read.specs.Parts.{SectionParts}
 use Rattle.elf32_read.specs.declared.reloc.Reloc.{Reloc}
 use Rattle.psabi_reloc.specs.Kinds.{kind_of}
 use Rattle.psabi_sym.specs.Indexed.{all_sections, section_at, sections_before}
 use Rattle.psabi_sym.specs.Inputs.{ParsedInputs}
 use Rattle.psabi_sym.specs.declared.target.Target.TheVariants.{Code}
-use Rattle.block_cut.specs.Items.{all_places, code_at, is_end_at, is_start_at, is_target_at, item_at, next_at, place_of, place_on, places_of, starts_in, starts_on, target_away, target_of}
+use Rattle.block_cut.specs.Items.{all_places, code_at, is_end_at, is_start_at, is_target_at, item_at, next_at, place_of, places_of, starts_in, starts_on, target_of}
 use Rattle.block_cut.specs.Leaders.{ends_block, goes_to, is_leader_at, is_place, item_leads, reloc_leads, section_leads}
 use Rattle.block_cut.specs.Relocs.{is_ignored, reloc_on}
 use Rattle.block_cut.specs.declared.item.Item.{Item}
@@ -22,7 +23,6 @@ use Rattle.block_cut.proofs.ListedLaws.{cut_at, listed}
 use Rattle.block_cut.proofs.WholeLaws.{code_is_section}
 use Rattle.moved_runs.specs.Leads.{IsNamed}
 use Rattle.moved_runs.proofs.Elements.{any_flat, any_found, any_offset, any_there}
-use Rattle.moved_runs.proofs.Words.{same-refl}
 
 -- a relocation of a section that asks for something
 pub record AsksIn (p : ParsedInputs) (o i : ℕ) (s : SectionParts) (r : Reloc) : Type 0 where
@@ -36,7 +36,7 @@ module _ (p : ParsedInputs) where
   reloc_leader {o} {i} {s} {r} to by leads =
       let asks = by.asks in
       let cut = cut_at p.objects o i s by.found in
-      let mine : reloc_leads p to o r ≡ true = (λ j. not (asks j) && is_place to (leads j)) ∙ same-refl to in
+      let mine : reloc_leads p to o r ≡ true = (λ j. not (asks j) && is_place to (leads j)) ∙ same_place-refl to in
       let own : section_leads p to (listed o i s) ≡ true = by.among (reloc_leads p to o) mine in
       let some : list_any (section_leads p to) (all_sections p.objects) ≡ true =
       ap (list_any (section_leads p to)) cut.all_are ∙ any_there (section_leads p to) (sections_before p.objects o i) cut.rest (listed o i s) own in
@@ -90,15 +90,3 @@ module _ (p : ParsedInputs) where
       by : (is_start_at p.objects to ≡ true) ⊎ (is_end_at p.objects to ≡ true) → IsNamed p to
       by (inl start) = starts (code_at p.objects to) refl start
       by (inr end) = inr (rw end refl)
-
--- a place at a distance from another, if there is one, is where code may lead
-pub away_target : (objects : List ObjectParts) (q to : Place) (distance : ℤ) → target_away objects q distance ≡ Some to → is_target_at objects to ≡ true
-away_target objects q to distance = from (place_on q (pos q.offset +ℤ distance))
-  where
-    only : (r : Place) (b : Bool) → is_target_at objects r ≡ b → cond b (Some r) None ≡ Some to → is_target_at objects to ≡ true
-    only r true is h = let same : r ≡ to = cc in ap (is_target_at objects) (sym same) ∙ is
-    only r false is h = absurd cc
-
-    from : (o : Option Place) → option_and_then (λ r. cond (is_target_at objects r) (Some r) None) o ≡ Some to → is_target_at objects to ≡ true
-    from None h = absurd cc
-    from (Some r) h = only r (is_target_at objects r) refl h

@@ -7,6 +7,7 @@ use Rattle.std.specs.Option.{option_map_or}
 use Rattle.std.proofs.lemmas.Bool.{and_from, or_left, or_right}
 use Rattle.zc_base.specs.Places.{same_place}
 use Rattle.zc_base.specs.declared.place.Place.{Place}
+use Rattle.zc_base.proofs.PlaceLaws.{same_place-refl}
 use Rattle.elf32_read.specs.Parts.{ObjectParts, SectionParts}
 use Rattle.elf32_read.specs.declared.reloc.Reloc.{Reloc}
 use Rattle.psabi_reloc.specs.Kinds.{kind_of}
@@ -23,19 +24,18 @@ use Rattle.block_cut.specs.Faults.{first_fault}
 use Rattle.block_cut.specs.Items.{call_item, code_at, instr_item, is_end_at, is_start_at, is_target_at, item_at, item_under, known_item, next_at, raw_in, raw_pair, size_on, spelled_item, target_away, target_of, to_place, transfer_item}
 use Rattle.block_cut.specs.Leaders.{ends_block, goes_to}
 use Rattle.block_cut.specs.Relocs.{instr_in, is_ignored, reloc_on}
-use Rattle.block_cut.proofs.ItemLaws.{item_found}
+use Rattle.block_cut.proofs.ItemLaws.{away_target, item_found}
 use Rattle.block_cut.proofs.ListedLaws.{listed}
 use Rattle.block_cut.proofs.PlainLaws.{next_start}
 use Rattle.block_cut.proofs.RawLaws.{raw_by}
 use Rattle.block_cut.proofs.SoundLaws.{sound_at}
 use Rattle.block_cut.proofs.WholeLaws.{code_is_section}
-use Rattle.moved_runs.proofs.Words.{same-refl}
 use Rattle.sym_machine.specs.Objects.{program_of}
 use Rattle.sym_machine.specs.Program.{Program}
 use Rattle.moved_runs.specs.Leads.{IsNamed, Leads, NamesItem}
 use Rattle.moved_runs.specs.Named.{IsNamedTarget}
 use Rattle.moved_runs.proofs.Faultless.{all_none, reloc_good, target_good}
-use Rattle.moved_runs.proofs.Led.{asks_at, away_target, item_leader, leader_named, reloc_leader}
+use Rattle.moved_runs.proofs.Led.{asks_at, item_leader, leader_named, reloc_leader}
 
 module _ (inputs : Inputs) (none : first_fault inputs ≡ None) where
   abbrev objects : List ObjectParts
@@ -134,7 +134,7 @@ module _ (inputs : Inputs) (none : first_fault inputs ≡ None) where
           (o : Option Place) → target_away objects q distance ≡ o → item_at (parsed inputs) q ≡ Some (option_map_or (Jump rd) o other)
           → NamesItem Named (option_map_or (Jump rd) o other)
       by None away here = stays
-      by (Some to) away here = going_named q to (Jump rd to) here (same-refl to) (away_target objects q to distance away)
+      by (Some to) away here = going_named q to (Jump rd to) here (same_place-refl to) (away_target objects q to distance away)
   instr_item_named q (instr.Jalr rd base imm) other stays is = tt
   instr_item_named q (instr.Branch op first second distance) other stays is = by (target_away objects q distance) refl is
     where
@@ -142,7 +142,7 @@ module _ (inputs : Inputs) (none : first_fault inputs ≡ None) where
           (o : Option Place) → target_away objects q distance ≡ o
           → item_at (parsed inputs) q ≡ Some (option_map_or (Branch op first second) o other) → NamesItem Named (option_map_or (Branch op first second) o other)
       by None away here = stays
-      by (Some to) away here = going_named q to (Branch op first second to) here (same-refl to) (away_target objects q to distance away)
+      by (Some to) away here = going_named q to (Branch op first second to) here (same_place-refl to) (away_target objects q to distance away)
   instr_item_named q (instr.Load op rd base imm) other stays is = tt
   instr_item_named q (instr.Store op source base imm) other stays is = tt
   instr_item_named q (instr.WithImm op rd first imm) other stays is = tt
@@ -185,7 +185,7 @@ module _ (inputs : Inputs) (none : first_fault inputs ≡ None) where
   after_named q i is ends =
       let next = next_at objects q in
       let leads : (goes_to next i || (ends_block i && same_place next next)) ≡ true =
-      or_right (goes_to next i) (ends_block i && same_place next next) (and_from (ends_block i) (same_place next next) ends (same-refl next)) in
+      or_right (goes_to next i) (ends_block i && same_place next next) (and_from (ends_block i) (same_place next next) ends (same_place-refl next)) in
       leader_named (parsed inputs) next (target (next_start inputs (all_none inputs none).gathered q i is)) (item_leader (parsed inputs) q next i is leads)
     where
       target : (is_start_at objects (next_at objects q) ≡ true) ⊎ (is_end_at objects (next_at objects q) ≡ true) → is_target_at objects (next_at objects q) ≡ true

@@ -6,6 +6,7 @@ use Rattle.std.specs.Option.{option_map, option_map_or, option_or}
 use Rattle.std.proofs.lemmas.Bool.{and_from, and_parts, eqb-true, or_cases, or_left, or_right}
 use Rattle.zc_base.specs.Places.{same_place}
 use Rattle.zc_base.specs.declared.place.Place.{Place}
+use Rattle.zc_base.proofs.PlaceLaws.{same_place-refl}
 use Rattle.elf32_read.specs.Parts.{SectionParts, is_code_section}
 use Rattle.psabi_sym.specs.Data.{common_address, is_code_role, role_of}
 use Rattle.psabi_sym.specs.Indexed.{IndexedSymbol, all_sections, all_symbols, section_at}
@@ -18,7 +19,6 @@ use Rattle.psabi_sym.specs.declared.target.Target.TheVariants.{Code, Nowhere}
 use Rattle.psabi_sym.proofs.PlaceLaws.{code_is}
 use Rattle.block_cut.specs.Items.{all_places, is_target_at}
 use Rattle.block_cut.specs.Leaders.{is_leader_at, item_leads, section_leads, symbol_leads}
-use Rattle.moved_runs.proofs.Words.{same-refl}
 use Rattle.moved_runs.proofs.Elements.{any_found, found_passes}
 
 module _ (p : ParsedInputs) (q : Place) where
@@ -61,7 +61,7 @@ module _ (p : ParsedInputs) (q : Place) where
         found (Some s) at h =
             let is = in_code s (role_of s) refl h in
             and_from (same_place place q) (option_map_or is_code_section (section_at p.objects l.object l.symbol.home) false)
-            (ap (same_place place) (sym is.same) ∙ same-refl place)
+            (ap (same_place place) (sym is.same) ∙ same_place-refl place)
             (ap (λ o. option_map_or is_code_section o false) at ∙ is.code)
 
         by :

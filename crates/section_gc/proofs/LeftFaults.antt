@@ -1,6 +1,6 @@
 -- Which faults the result can have at all, where the given objects have none: an object or a sum of files that is too large, and a
 -- branch that doesn't reach.
-use Rattle.std.proofs.Common.{◌≡◌, ℕ, zero, suc, ◌+◌, ◌<◌, ◌≤◌, List, [], ◌∷◌, length, take, map, refl, sym, ap, ap₂, ◌∙◌, arith, Bool, true, false, cond, Option, Some, None, subst, take_all}
+use Rattle.std.proofs.Common.{◌≡◌, ℕ, suc, ◌+◌, ◌≤◌, List, [], ◌∷◌, length, take, map, refl, sym, ap, ap₂, ◌∙◌, arith, Bool, false, cond, Option, Some, None, subst, take_all}
 use Rattle.std.specs.Prelude.{All, nat_lt}
 use Rattle.std.specs.List.{AllZip, enumerate_from, find, range_with_len, sum_by}
 use Rattle.std.specs.Option.{option_map, option_map_or, option_or}
@@ -19,6 +19,7 @@ use Rattle.elf32_write.proofs.FileHeaderBack.{length-object_bytes}
 use Rattle.psabi_sym.specs.Faults.{count_fault, duplicate_fault, fault_from, first_some, gather_fault, most_objects, undefined_fault}
 use Rattle.psabi_sym.specs.Inputs.{Inputs, parsed}
 use Rattle.psabi_sym.proofs.Gathered.{all_none}
+use Rattle.psabi_sym.proofs.RangeLaws.{none_found_in_range}
 use Rattle.block_cut.specs.Faults.{first_fault, is_out_of_reach, range_fault}
 use Rattle.block_cut.specs.Items.{all_places}
 use Rattle.block_cut.proofs.FaultLaws.{faultless}
@@ -120,31 +121,13 @@ file-bytes : (parts : List ObjectParts) → sum_by length (map object_bytes part
 file-bytes [] = refl
 file-bytes (p ∷ parts) = omega (arith, file-bytes parts, sum_by-cons length (object_bytes p) (map object_bytes parts), sum_by-cons object_size p parts, length-object_bytes p)
 
--- if a search over a range finds nothing, no number of it passes the test
-find_none : (p : ℕ → Bool) (a n k : ℕ) → find p (range_with_len a n) ≡ None → k < n → p (a + k) ≡ false
-find_none p a zero k none lt = absurd (omega (arith, lt))
-find_none p a (suc n) zero none lt =
-    let same : a + 0 ≡ a = omega arith in
-    ap p same ∙ first_none (p a) refl
-  where
-    first_none : (b : Bool) → p a ≡ b → p a ≡ false
-    first_none true is = absurd (cc (none, ap (λ t. cond t (Some a) (find p (range_with_len (a + 1) n))) is))
-    first_none false is = is
-find_none p a (suc n) (suc k) none lt =
-    let same : a + suc k ≡ a + 1 + k = omega arith in
-    ap p same ∙ find_none p (a + 1) n k (rest_none (p a) none) (omega arith)
-  where
-    rest_none : (b : Bool) → cond b (Some a) (find p (range_with_len (a + 1) n)) ≡ None → find p (range_with_len (a + 1) n) ≡ None
-    rest_none true h = absurd cc
-    rest_none false h = h
-
 no-sum : (objects : List ObjectParts) → first_oversized objects ≡ None → sum_by object_size objects ≤ 0x200_0000
 no-sum [] none = omega arith
 no-sum (p ∷ parts) none =
     let objects = p ∷ parts in
     let n : ℕ = length parts in
-    let fine : passes_sum objects (0 + n) ≡ false = find_none (passes_sum objects) 0 (length objects) n (second (first_large objects) none) (omega arith) in
-    let all : take (0 + n + 1) objects ≡ objects = take_all (0 + n + 1) objects (omega arith) in
+    let fine : passes_sum objects n ≡ false = none_found_in_range (passes_sum objects) 0 (length objects) n (second (first_large objects) none) (omega arith) (omega arith) in
+    let all : take (n + 1) objects ≡ objects = take_all (n + 1) objects (omega arith) in
     ltb-false 0x200_0000 (sum_by object_size objects) (sym (ap (λ l. nat_lt 0x200_0000 (sum_by object_size l)) all) ∙ fine)
   where
     second : (o : Option ℕ) → option_or o (find (passes_sum (p ∷ parts)) (range_with_len 0 (length (p ∷ parts)))) ≡ None → find (passes_sum (p ∷ parts)) (range_with_len 0 (length (p ∷ parts))) ≡ None

@@ -7,12 +7,13 @@ use Rattle.std.specs.Option.{option_map}
 use Rattle.std.proofs.lemmas.Bool.{eq-eqb, false≢true, ne_eqb, or_parts}
 use Rattle.zc_base.specs.Places.{same_place}
 use Rattle.zc_base.specs.declared.place.Place.{Place}
+use Rattle.zc_base.proofs.PlaceLaws.{same_place-refl}
 use Rattle.pick_check.specs.Saved.{has_slot, saved_from}
 use Rattle.pick_check.specs.declared.saving.Saving.{Saving}
 use Rattle.shrink_layout.specs.Savings.{saving_of, sites_to}
 use Rattle.shrink_layout.specs.Units.{is_slot_of}
 use Rattle.shrink_layout.proofs.PremiseLaws.{Each}
-use Rattle.shrink_layout.proofs.PlaceLaws.{same_place-refl, same_place-true}
+use Rattle.shrink_layout.proofs.PlaceLaws.{same_place-true}
 
 -- ---- places apart
 

@@ -1,13 +1,10 @@
 -- When two places are the same.
-use Rattle.std.proofs.Common.{◌≡◌, true, false, refl, sym, ap, ◌∙◌}
-use Rattle.std.specs.Prelude.{◌&&◌}
-use Rattle.std.proofs.lemmas.Bool.{eq-eqb, false≢true}
+use Rattle.std.proofs.Common.{◌≡◌, true, false, sym, ap, ◌∙◌}
+use Rattle.std.proofs.lemmas.Bool.{false≢true}
 use Rattle.zc_base.specs.Places.{same_place}
 use Rattle.zc_base.specs.declared.place.Place.{Place}
+use Rattle.zc_base.proofs.PlaceLaws.{same_place-refl}
 use Rattle.block_cut.proofs.LedLaws.{same_is}
-
-pub same_place-refl : (q : Place) → same_place q q ≡ true
-same_place-refl q = λ j. eq-eqb q.object q.object refl j && (eq-eqb q.section q.section refl j && eq-eqb q.offset q.offset refl j)
 
 pub same_place-true : (q r : Place) → same_place q r ≡ true → q ≡ r
 same_place-true q r is =

@@ -11,6 +11,7 @@ use Rattle.std.proofs.lemmas.List.Sums.{sum_by-cons}
 use Rattle.std.proofs.lemmas.Option.{get_or_from_slice_get, none-some, same_Some, slice_get-map, slice_get_within}
 use Rattle.zc_base.specs.Places.{same_place}
 use Rattle.zc_base.specs.declared.place.Place.{Place}
+use Rattle.zc_base.proofs.PlaceLaws.{same_place-refl}
 use Rattle.elf32_read.specs.Parts.{ObjectParts, is_code_section}
 use Rattle.psabi_sym.specs.Faults.{gather_fault}
 use Rattle.psabi_sym.specs.Inputs.{Inputs, ParsedInputs, parsed}
@@ -27,7 +28,7 @@ use Rattle.shrink_layout.specs.Savings.{HasFewSites, has_sites, saving_of, savin
 use Rattle.shrink_layout.proofs.PremiseLaws.{Each, all_of}
 use Rattle.shrink_layout.proofs.SectionLaws.{count_few, count_next, flat_next, held_all, places_count}
 use Rattle.shrink_layout.proofs.SiteLaws.{site_found}
-use Rattle.shrink_layout.proofs.PlaceLaws.{same_place-refl, same_place-true}
+use Rattle.shrink_layout.proofs.PlaceLaws.{same_place-true}
 use Rattle.shrink_layout.proofs.TargetLaws.{number_some}
 use Rattle.shrink_layout.proofs.TargetNumbers.{all_targets_count, got_target, target_got}
 

@@ -3,11 +3,12 @@
 use Rattle.std.proofs.Common.{◌≡◌, ◌∙◌, ℕ, ◌+◌, ◌<◌, zero, suc, List, [], ◌∷◌, drop, length, replicate, set, get_or, get_or-set_same, get_or-set_other, Bool, true, false, cond, Option, Some, None, slice_index, refl, sym, ap, subst, arith, eqb, ltb}
 use Rattle.std.specs.Prelude.{◌&&◌, pos}
 use Rattle.std.specs.Option.{is_some, option_and_then}
-use Rattle.std.proofs.lemmas.Bool.{eq-eqb, le-ltb, lt-ltb, ne_eqb}
+use Rattle.std.proofs.lemmas.Bool.{le-ltb, lt-ltb, ne_eqb}
 use Rattle.std.proofs.lemmas.List.{drop_more}
 use Rattle.std.proofs.lemmas.Option.{none-some, same_Some}
 use Rattle.zc_base.specs.Places.{same_place}
 use Rattle.zc_base.specs.declared.place.Place.{Place}
+use Rattle.zc_base.proofs.PlaceLaws.{same_place-refl}
 use Rattle.elf32_read.specs.Parts.{ObjectParts}
 use Rattle.psabi_sym.specs.Faults.{gather_fault}
 use Rattle.psabi_sym.specs.Inputs.{Inputs, ParsedInputs, parsed}
@@ -32,9 +33,6 @@ use Rattle.shrink_layout.proofs.UnitLaws.{unit_item}
 
 -- ---- the first slot of each place
 
-same_self : (p : Place) → same_place p p ≡ true
-same_self p = λ j. eq-eqb p.object p.object refl j && (eq-eqb p.section p.section refl j && eq-eqb p.offset p.offset refl j)
-
 -- one slot more at the front is the first slot of its place, and of no other
 pub slot_noted : (inputs : Inputs) → gather_fault inputs ≡ None → (firsts : List (Option ℕ)) (n : ℕ) (part : List (Option Place)) (p : Place)
     → is_target_at (parsed inputs).objects p ≡ true → piece_number_at (parsed inputs).objects p < length firsts → AreFirstSlots (parsed inputs).objects (n + 1) part firsts
@@ -57,7 +55,7 @@ slot_noted inputs none firsts n part p target within are q = by (same_place p q)
         ap (λ k. get_or new k None) (sym (ap number is)) ∙ get_or-set_same firsts (number p) (Some n) None within
     by false other =
         get_or-set_other firsts (number p) (number q) (Some n) None
-        (λ same. let is = numbers_apart inputs none p q target (sym same) in cc (other, ap (λ r. same_place p r) (sym is), same_self p))
+        (λ same. let is = numbers_apart inputs none p q target (sym same) in cc (other, ap (λ r. same_place p r) (sym is), same_place-refl p))
         ∙ are q
 
 -- before any is noted there is none

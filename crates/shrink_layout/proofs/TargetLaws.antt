@@ -1,9 +1,9 @@
 -- Where items lead: in inputs without a fault, a branch, a jump or a call leads to a place where an item starts or a section of code ends
 -- (`item_leads`). Such a place has a number behind that of the front (`number_some`).
-use Rattle.std.proofs.Common.{◌≡◌, ℕ, ◌+◌, ◌≤◌, List, map, Bool, true, false, cond, Option, Some, None, refl, sym, ap, ◌∙◌, subst, arith}
-use Rattle.std.specs.Prelude.{ℤ, pos, ◌+ℤ◌, ◌==◌, ◌&&◌, ◌||◌, not}
+use Rattle.std.proofs.Common.{◌≡◌, ℕ, ◌+◌, ◌≤◌, List, map, Bool, true, false, Option, Some, None, refl, sym, ap, ◌∙◌, subst, arith}
+use Rattle.std.specs.Prelude.{ℤ, ◌==◌, ◌&&◌, ◌||◌, not}
 use Rattle.std.specs.List.{position_or_len}
-use Rattle.std.specs.Option.{option_and_then, option_map, option_map_or}
+use Rattle.std.specs.Option.{option_map, option_map_or}
 use Rattle.std.proofs.lemmas.Bool.{not-false}
 use Rattle.std.proofs.lemmas.List.Folds.{find_at}
 use Rattle.zc_base.specs.declared.place.Place.{Place}
@@ -23,12 +23,12 @@ use Rattle.psabi_sym.proofs.FaultLaws.{neither}
 use Rattle.rv_decode.specs.declared.instr.Instr.{Instr}
 use Rattle.rv_decode.specs.declared.instr.Instr.TheVariants as instr
 use Rattle.block_cut.specs.Faults.{first_fault, has_bad_target, if_so, is_bad_target, is_stray, lacks_pcrel_hi, reloc_fault, relocs_fault, section_fault}
-use Rattle.block_cut.specs.Items.{call_item, code_at, is_target_at, item_at, item_under, known_item, place_on, raw_in, raw_pair, size_on, spelled_item, target_away, target_of, to_place, transfer_item}
+use Rattle.block_cut.specs.Items.{call_item, code_at, is_target_at, item_at, item_under, known_item, raw_in, raw_pair, size_on, spelled_item, target_away, target_of, to_place, transfer_item}
 use Rattle.block_cut.specs.Relocs.{instr_in, is_bad_kind, is_bad_place, is_ignored, is_sound, is_transfer, reloc_on}
 use Rattle.block_cut.specs.declared.item.Item.{Item}
 use Rattle.block_cut.specs.declared.item.Item.TheVariants as item
 use Rattle.block_cut.proofs.FirstLaws.{none_at, none_within}
-use Rattle.block_cut.proofs.ItemLaws.{item_found}
+use Rattle.block_cut.proofs.ItemLaws.{away_target, item_found}
 use Rattle.block_cut.proofs.ListedLaws.{cut_at, listed}
 use Rattle.block_cut.proofs.RawLaws.{raw_by}
 use Rattle.block_cut.proofs.SoundLaws.{sound_at}
@@ -52,18 +52,6 @@ LeadsWell objects (item.Branch op first second to) = is_target_at objects to ≡
 LeadsWell objects (item.Jump rd to) = is_target_at objects to ≡ true
 LeadsWell objects (item.Call rd temp to) = is_target_at objects to ≡ true
 LeadsWell objects _ = Unit {0}
-
--- a place at a distance from another, if there is one, is where code may lead
-pub away_target : (objects : List ObjectParts) (q to : Place) (distance : ℤ) → target_away objects q distance ≡ Some to → is_target_at objects to ≡ true
-away_target objects q to distance = from (place_on q (pos q.offset +ℤ distance))
-  where
-    only : (r : Place) (b : Bool) → is_target_at objects r ≡ b → cond b (Some r) None ≡ Some to → is_target_at objects to ≡ true
-    only r true is h = let same : r ≡ to = cc in ap (is_target_at objects) (sym same) ∙ is
-    only r false is h = absurd cc
-
-    from : (o : Option Place) → option_and_then (λ r. cond (is_target_at objects r) (Some r) None) o ≡ Some to → is_target_at objects to ≡ true
-    from None h = absurd cc
-    from (Some r) h = only r (is_target_at objects r) refl h
 
 -- ---- relocations without a fault
 

@@ -1,7 +1,6 @@
 -- Runs of the symbolic machine, one step at a time.
 use Rattle.std.proofs.Common.{◌≡◌, ℕ, zero, suc, ◌+◌, ◌-◌, ◌<◌, ◌≤◌, List, [], ◌∷◌, ◌++◌, Option, Some, None, Ok, Err, refl, ap, sym, ◌∙◌, arith}
 use Rattle.std.proofs.lemmas.List.{append-nil}
-use Rattle.std.proofs.lemmas.List.Concat.{flat_map-append}
 use Rattle.zc_base.specs.declared.mem_map.MemMap.{MemMap}
 use Rattle.zc_base.specs.declared.place.Place.{Place}
 use Rattle.block_cut.specs.declared.item.Item.{Item}
@@ -11,6 +10,7 @@ use Rattle.rv_decode.specs.Run.{iterate, ◌>>=◌}
 use Rattle.rv_decode.specs.State.{Event, Exit, Read, Write}
 use Rattle.rv_decode.specs.EventBytes.{bytes_to, written_to}
 use Rattle.rv_decode.proofs.RunLaws.{bind_ok, iterate-add, iterate-one}
+use Rattle.rv_decode.proofs.EventLaws.{written_to-more}
 use Rattle.zc_outside.specs.Course.{EndsAfter, EndsEarly, WrotePart, WroteTo}
 use Rattle.zc_outside.specs.Desk.{Desk, WriteCause, Wrote}
 use Rattle.zc_outside.specs.declared.console.ConsoleFault.{ConsoleFault}
@@ -143,10 +143,6 @@ plain_stuck p input n s stop before turn =
     ∙ ap (λ r. r >>= iterate (plain_turn p) 1) before ∙ ap (λ r. r >>= iterate (plain_turn p) 0) turn
 
 -- ---- what events write
-
--- with one event more, what it writes comes after what the events before it write
-written_to-more : (stream : ℕ) (events : List Event) (e : Event) → written_to stream (events ++ e ∷ []) ≡ written_to stream events ++ bytes_to stream e
-written_to-more stream events e = flat_map-append (bytes_to stream) events (e ∷ []) ∙ ap (λ xs. written_to stream events ++ xs) (append-nil (bytes_to stream e))
 
 wrote_more : (events : List Event) (e : Event) (a b c : Desk) → Wrote (written_to 1 events) (written_to 2 events) a b → Wrote (bytes_to 1 e) (bytes_to 2 e) b c
     → Wrote (written_to 1 (events ++ e ∷ [])) (written_to 2 (events ++ e ∷ [])) a c

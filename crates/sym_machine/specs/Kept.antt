@@ -46,8 +46,9 @@ regions_of k =
 abbrev pub kept_from : Kept → ℕ
 kept_from k = k.from
 
--- the stack is as long as the map says, its bytes below the address are undefined, and data lie below it and above where a frame
--- would end that goes on at address 0
+-- the stack isn't empty, ends below 2^32, and is as long as the map says. What is kept of it begins in it or at its end, and its
+-- bytes below are undefined. Data lie below it, and at 112 or above, where no frame ends that goes on at address 0: the largest
+-- frame has 112 bytes, 64 for ra and s0 to s11 and 48 more (Zcmp, cm.push)
 pub record IsKept (k : Kept) : Type 0 where
   pub some : k.map.stack_low < k.map.stack_high
   pub top : k.map.stack_high < 2 ^ 32

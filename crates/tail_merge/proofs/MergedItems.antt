@@ -1,13 +1,13 @@
 -- The items of a section whose tails are shared: outside of the removed tails the same stand, with their places moved, and at each
 -- removed tail's start a jump to its host.
 use Rattle.std.proofs.Common.{◌≡◌, ℕ, ◌≤◌, ◌⊎◌, inl, inr, ℤ, pos, negsuc, ◌+ℤ◌, ◌-ℤ◌, List, [], length, Bool, true, false, cond, eqb, Option, Some, None, refl, sym, ap, ◌∙◌, subst, arith, eq-eqb}
-use Rattle.std.specs.Prelude.{◌&&◌, ◌||◌}
+use Rattle.std.specs.Prelude.{◌||◌}
 use Rattle.std.specs.List.{find}
 use Rattle.std.specs.Option.{option_and_then, option_map, option_map_or}
-use Rattle.std.proofs.lemmas.Bool.{and_from, eqb-true}
+use Rattle.std.proofs.lemmas.Bool.{eqb-true}
 use Rattle.zc_base.specs.Fields.{half_in, word_in}
-use Rattle.zc_base.specs.Places.{same_place}
 use Rattle.zc_base.specs.declared.place.Place.{Place}
+use Rattle.zc_base.proofs.PlaceLaws.{same_place-refl}
 use Rattle.elf32_read.specs.Parts.{ObjectParts, SectionParts, is_code_section}
 use Rattle.elf32_read.specs.declared.reloc.Reloc.{Reloc}
 use Rattle.psabi_sym.specs.Indexed.{IndexedSection, section_at}
@@ -122,11 +122,6 @@ away-found inputs q d to found = by (pos q.offset +ℤ d) refl found
 
 -- ---- branches and jumps
 
-pub place-self : (p : Place) → same_place p p ≡ true
-place-self p =
-    and_from (eqb p.object p.object) (eqb p.section p.section && eqb p.offset p.offset) (eq-eqb p.object p.object refl)
-    (and_from (eqb p.section p.section) (eqb p.offset p.offset) (eq-eqb p.section p.section refl) (eq-eqb p.offset p.offset refl))
-
 -- an item that goes to a place, and the instruction that goes a distance
 record IsTransfer (M : Place → Place) (f : Place → Item) (g : ℤ → Instr) : Type 0 where
   reads : (objects : List ObjectParts) (q : Place) (d : ℤ) (raw : Item)
@@ -142,7 +137,7 @@ branch-transfer : (M : Place → Place) (op : BranchOp) (first second : ℕ) →
 branch-transfer M op first second = record {
   reads = λ objects q d raw. refl;
   transfers = λ distance p. refl;
-  goes = place-self;
+  goes = same_place-refl;
   moves = λ p. refl;
   solid = λ p. (refl, refl);
   back = λ size sizes bytes n d e is less. branch-back size sizes bytes n op first second d e is less;
@@ -152,7 +147,7 @@ jump-transfer : (M : Place → Place) (rd : ℕ) → IsTransfer M (item.Jump rd)
 jump-transfer M rd = record {
   reads = λ objects q d raw. refl;
   transfers = λ distance p. refl;
-  goes = place-self;
+  goes = same_place-refl;
   moves = λ p. refl;
   solid = λ p. (refl, refl);
   back = λ size sizes bytes n d e is less. jump-back size sizes bytes n rd d e is less;

@@ -14,6 +14,7 @@ use Rattle.std.proofs.lemmas.List.Folds.{list_any_at}
 use Rattle.std.proofs.lemmas.List.Sorted.{list_any-IsPermutation}
 use Rattle.zc_base.specs.Fields.{word_bytes}
 use Rattle.zc_base.specs.declared.place.Place.{Place}
+use Rattle.zc_base.proofs.PlaceLaws.{same_place-refl}
 use Rattle.elf32_read.specs.Parts.{SectionParts}
 use Rattle.elf32_read.specs.declared.reloc.Reloc.{Reloc}
 use Rattle.elf32_read.proofs.Listed.{list_any-filter}
@@ -60,7 +61,7 @@ use Rattle.tail_merge.proofs.FoundLaws.{HasItems, leader-found, removed-here, re
 use Rattle.tail_merge.proofs.HostLaws.{over-before}
 use Rattle.tail_merge.proofs.InstrLaws.{even-tails, held-at}
 use Rattle.tail_merge.proofs.ItemsLaws.{removed-apart}
-use Rattle.tail_merge.proofs.MergedItems.{away-found, place-self}
+use Rattle.tail_merge.proofs.MergedItems.{away-found}
 use Rattle.tail_merge.proofs.MergedPrograms.{code-short}
 use Rattle.tail_merge.proofs.MergedRelocs.{IsGoodCode, decides, good-code}
 use Rattle.tail_merge.proofs.MovedTailLaws.{down-most, section-table, table-over}
@@ -375,7 +376,7 @@ module _ (inputs : Inputs) (l : IndexedSection) (tails : List MovedTail) (relocs
         branch op first second d reads (Some to) leads =
             let is-given : given n ≡ item.Branch op first second to =
             spelled ∙ ap (λ x. spelled_item p.objects (place_of l n) x raw) reads ∙ ap (λ o. option_map_or (item.Branch op first second) o raw) leads in
-            let f = far d to leads (λ k at. ap (goes_to (place_of l k)) is-given ∙ ap (λ q. goes_to q (item.Branch op first second to)) (sym at) ∙ place-self to) in
+            let f = far d to leads (λ k at. ap (goes_to (place_of l k)) is-given ∙ ap (λ q. goes_to q (item.Branch op first second to)) (sym at) ∙ same_place-refl to) in
             let range = in_range_in (size_on s n) s.bytes n (instr.Branch op first second d) reads in
             record {
               low = f.low;
@@ -388,7 +389,7 @@ module _ (inputs : Inputs) (l : IndexedSection) (tails : List MovedTail) (relocs
         jump rd d reads (Some to) leads =
             let is-given : given n ≡ item.Jump rd to =
             spelled ∙ ap (λ x. spelled_item p.objects (place_of l n) x raw) reads ∙ ap (λ o. option_map_or (item.Jump rd) o raw) leads in
-            let f = far d to leads (λ k at. ap (goes_to (place_of l k)) is-given ∙ ap (λ q. goes_to q (item.Jump rd to)) (sym at) ∙ place-self to) in
+            let f = far d to leads (λ k at. ap (goes_to (place_of l k)) is-given ∙ ap (λ q. goes_to q (item.Jump rd to)) (sym at) ∙ same_place-refl to) in
             let range = in_range_in (size_on s n) s.bytes n (instr.Jal rd d) reads in
             record {
               low = f.low;

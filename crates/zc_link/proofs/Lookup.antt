@@ -8,6 +8,7 @@ use Rattle.std.proofs.lemmas.List.Elements.{All-cons, All-head, All-nil, All-tai
 use Rattle.std.proofs.lemmas.List.Folds.{list_any-append}
 use Rattle.zc_base.specs.Places.{same_place}
 use Rattle.zc_base.specs.declared.place.Place.{Place}
+use Rattle.zc_base.proofs.PlaceLaws.{same_place-refl}
 use Rattle.elf32_read.specs.Parts.{ObjectParts, SectionParts}
 use Rattle.psabi_sym.specs.Inputs.{parsed}
 use Rattle.psabi_sym.specs.Indexed.{sections_before}
@@ -15,7 +16,7 @@ use Rattle.block_cut.specs.Items.{all_targets, code_at, is_target_at, place_of, 
 use Rattle.block_cut.proofs.ListedLaws.{cut_at, listed}
 use Rattle.block_cut.proofs.PlainLaws.{target_on}
 use Rattle.block_cut.proofs.WholeLaws.{code_is_section}
-use Rattle.shrink_layout.proofs.PlaceLaws.{same_place-refl, same_place-true}
+use Rattle.shrink_layout.proofs.PlaceLaws.{same_place-true}
 use Rattle.zc_link.specs.Places.{listed_address}
 use Rattle.zc_link.specs.ImageParts.{listed_places, with_address}
 use Rattle.zc_link.specs.TextLayout.{TextLayout}

@@ -5,6 +5,7 @@ use Rattle.std.specs.Prelude.{◌&&◌, not}
 use Rattle.std.specs.Option.{option_map_or}
 use Rattle.std.proofs.lemmas.Bool.{eqb-true, not-false, or_left, or_right}
 use Rattle.zc_base.specs.declared.place.Place.{Place}
+use Rattle.zc_base.proofs.PlaceLaws.{same_place-refl}
 use Rattle.elf32_read.specs.Parts.{SectionParts}
 use Rattle.elf32_read.specs.declared.reloc.Reloc.{Reloc}
 use Rattle.psabi_reloc.specs.Kinds.{field_length, is_auipc, is_call, is_lui, is_store, is_sum, kind_of}
@@ -26,11 +27,10 @@ use Rattle.block_cut.specs.declared.item.Item.{Item}
 use Rattle.block_cut.specs.declared.item.Item.TheVariants.{Hi, Lo, PcHi, PcLo, Branch, Jump}
 use Rattle.block_cut.proofs.CodeSizeLaws.{OwnSize, own_is}
 use Rattle.block_cut.proofs.CodeSizeLaws.OwnSize.{Two, Four}
+use Rattle.block_cut.proofs.ItemLaws.{away_target}
 use Rattle.block_cut.proofs.PlainLaws.{item_here}
 use Rattle.block_cut.proofs.SoundLaws.{sound_at}
 use Rattle.block_cut.proofs.WholeLaws.{code_is_section}
-use Rattle.shrink_layout.proofs.PlaceLaws.{same_place-refl}
-use Rattle.shrink_layout.proofs.TargetLaws.{away_target}
 use Rattle.zc_link.specs.LaidOut.{ListsLeaders}
 use Rattle.zc_link.specs.Standing.{HasOwnSize, HasValue, HasWay, IsInstrSize, IsReady, ItemStands, SpellsKind, SpellsWay, is_lower}
 use Rattle.moved_runs.proofs.Faultless.{all_none, reloc_good}

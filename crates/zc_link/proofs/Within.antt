@@ -23,12 +23,12 @@ use Rattle.psabi_sym.specs.declared.section_row.SectionRole.{SectionRole}
 use Rattle.psabi_sym.specs.declared.section_row.SectionRole.TheVariants.{Code, InClass, Dropped}
 use Rattle.psabi_sym.proofs.BlockLaws.{aligned_up-ge, end_from-ge}
 use Rattle.psabi_sym.proofs.ContentLaws.{address_in-ge}
+use Rattle.psabi_sym.proofs.EndLaws.{in_class}
 use Rattle.psabi_sym.proofs.FaultLaws.{neither}
 use Rattle.block_cut.specs.DataWords.{data_word, data_words, data_words_in}
 use Rattle.block_cut.specs.Faults.{first_fault, reloc_fault}
 use Rattle.block_cut.specs.Relocs.{overlaps_another, is_ignored, is_placed, is_word}
 use Rattle.block_cut.specs.declared.data_word.DataWord.{DataWord}
-use Rattle.block_cut.proofs.DataLaws.{in_class}
 use Rattle.block_cut.proofs.ListedLaws.{listed}
 use Rattle.zc_link.proofs.ListedLaws.{all_listed}
 use Rattle.moved_runs.proofs.Faultless.{IsGood, good, section_none}

@@ -3,6 +3,7 @@ use Rattle.std.proofs.Common.{◌≡◌, ℕ, ◌+◌, ◌<◌, List, [], ◌∷
 use Rattle.rv_decode.specs.State as event
 use Rattle.rv_decode.specs.State.{Event, ZcCore, ZcState}
 use Rattle.rv_decode.specs.EventBytes.{written_to}
+use Rattle.rv_decode.proofs.EventLaws.{written_to-more}
 use Rattle.zc_outside.specs.Course.{EndsEarly, WrotePart, WroteTo}
 use Rattle.zc_outside.specs.Desk.{Desk, OnlyWrites, WriteCause, Wrote}
 use Rattle.zc_outside.specs.declared.console.ConsoleFault.{ConsoleFault}
@@ -19,7 +20,7 @@ use Rattle.zc_machine.specs.Buffer.{bytes_at}
 use Rattle.zc_machine.specs.Run.{committed, first_state, machine_after, turn}
 use Rattle.zc_machine.specs.RunEnd.{Ran, course_of}
 use Rattle.zc_machine.specs.Step.{ZcStep, Committed, Wants, Ended, Stopped, zc_step}
-use Rattle.zc_machine.proofs.OutputLaws.{Wrote-event, written_to-more}
+use Rattle.zc_machine.proofs.OutputLaws.{Wrote-event}
 use Rattle.zc_machine.proofs.StepLaws.{Shows, step_shows}
 use Rattle.zc_machine.proofs.TurnLaws.{turn-running, turns-more, turns-stop}
 
