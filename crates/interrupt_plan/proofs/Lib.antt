@@ -1,9 +1,12 @@
 pub mod EntryLaws
 pub mod FaultLaws
+pub mod GrammarLaws
 pub mod LineLaws
 pub mod MadeLaws
+pub mod OrderLaws
 pub mod PlainLaws
 pub mod PlanLaws
+pub mod ReadLaws
 pub mod SpellLaws
 pub mod TextLaws
 pub mod WordLaws

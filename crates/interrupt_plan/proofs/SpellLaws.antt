@@ -1,92 +1,123 @@
 -- The words of an entry spell it, and no others do.
-use Rattle.std.proofs.Common.{◌≡◌, ℕ, ◌<◌, Some, None, Option, List, [], ◌∷◌, ◌++◌, map, get_or, refl, ap, ap₂, subst, ◌∙◌, arith, lit<}
+use Rattle.std.proofs.Common.{◌≡◌, ◌≢◌, ℕ, ◌<◌, Some, None, Option, List, [], ◌∷◌, ◌++◌, map, get_or, refl, ap, ap₂, sym, subst, ◌∙◌, append-nil, arith, lit<}
 use Rattle.std.specs.Prelude.{All, bytes_eq, codes}
 use Rattle.std.specs.Fmt.{decimal}
-use Rattle.std.specs.Option.{option_and_then, option_map}
+use Rattle.std.specs.Option.{option_and_then}
 use Rattle.std.proofs.lemmas.List.Elements.{All-cons, All-head, All-nil, All-tail}
 use Rattle.std.proofs.lemmas.Option.{none-some, option_and_then_some, same_Some}
 use Rattle.std.proofs.lemmas.Slice.Eq.{bytes_eq-Decides}
 use Rattle.text_lines.specs.Number.{decimal_of}
 use Rattle.text_lines.proofs.NumberLaws.{decimal_of-Some, number_of_is}
-use Rattle.text_lines.proofs.OptionLaws.{mapped, picked}
-use Rattle.interrupt_plan.specs.Plan.{Entry, Interrupt}
-use Rattle.interrupt_plan.specs.Text.{FitsByte, FitsEntry, access_of, access_or_bytes, access_word, dirt_of, dirt_word, dirt_in, entry, entry_of_words, entry_words, interrupt, interrupt_of, interrupt_words, with_access}
-use Rattle.interrupt_plan.proofs.WordLaws.{access_of-None, access_of-Some, access_of_is, dirt_of-Some, byte_of_is}
+use Rattle.text_lines.proofs.OptionLaws.{picked}
+use Rattle.interrupt_plan.specs.SharedPlan.{SharedEntry}
+use Rattle.interrupt_plan.specs.Text.{FitsByte, FitsEntry, access_of, access_word, before_others, entry_from, entry_of_parts, entry_of_words, entry_words, if_none_left, leading, part_words, written_of, written_word}
+use Rattle.interrupt_plan.proofs.LineLaws.{parts_read}
+use Rattle.interrupt_plan.proofs.WordLaws.{access_of-None, access_of-Some, access_of_is, written_of-None, written_of-Some, written_of_is}
+
+-- ---- what the first words spell
+
+module _ {A : Type 0} (spelled : List ℕ → Option A) (text : A → List ℕ) (Fits : A → Type 0) where
+  -- words are the texts of what the first of them spell, and the others
+  AreLeading : List (List ℕ) → List A × List (List ℕ) → Type 0
+  AreLeading words r = (words ≡ map text r.0 ++ r.1) × All Fits r.0
+
+  pub leading_is : ((word : List ℕ) (x : A) → spelled word ≡ Some x → Fits x × (word ≡ text x)) → (words : List (List ℕ)) → (words ≡ map text (leading spelled words).0 ++ (leading spelled words).1) × All Fits (leading spelled words).0
+  unfolding AreLeading
+  leading_is is [] = (refl, All-nil Fits)
+  leading_is is (word ∷ words) = either (leading_is is words) (spelled word) refl
+    where
+      either : AreLeading words (leading spelled words) → (o : Option A) → spelled word ≡ o → AreLeading (word ∷ words) (before_others o (word ∷ words) (leading spelled words))
+      either there None first = (refl, All-nil Fits)
+      either there (Some x) first =
+          let here = is word x first in
+          (ap₂ (λ w ws. w ∷ ws) here.1 there.0, All-cons Fits x (leading spelled words).0 here.0 there.1)
+
+  -- the texts of values spell them, up to words of which the first spells nothing
+  pub leading_back : ((x : A) → Fits x → spelled (text x) ≡ Some x) → (xs : List A) (rest : List (List ℕ)) → All Fits xs → leading spelled rest ≡ ([], rest) → leading spelled (map text xs ++ rest) ≡ (xs, rest)
+  leading_back back [] rest fits stops = stops
+  leading_back back (x ∷ xs) rest fits stops =
+      ap (λ o. before_others o (text x ∷ (map text xs ++ rest)) (leading spelled (map text xs ++ rest))) (back x (All-head Fits x xs fits))
+      ∙ ap (λ r. (x ∷ r.0, r.1)) (leading_back back xs rest (All-tail Fits x xs fits) stops)
+
+-- texts of other values spell nothing
+leading_none : {A B : Type 0} (spelled : List ℕ → Option A) (text : B → List ℕ) → ((y : B) → spelled (text y) ≡ None) → (ys : List B) (rest : List (List ℕ)) → leading spelled rest ≡ ([], rest) → leading spelled (map text ys ++ rest) ≡ ([], map text ys ++ rest)
+leading_none spelled text none [] rest stops = stops
+leading_none spelled text none (y ∷ ys) rest stops =
+    ap (λ o. before_others o (text y ∷ (map text ys ++ rest)) (leading spelled (map text ys ++ rest))) (none y)
+
+leading_none_last : {A B : Type 0} (spelled : List ℕ → Option A) (text : B → List ℕ) → ((y : B) → spelled (text y) ≡ None) → (ys : List B) → leading spelled (map text ys) ≡ ([], map text ys)
+leading_none_last spelled text none ys =
+    let P : List (List ℕ) → Type 0 = λ words. leading spelled words ≡ ([], words) in
+    subst P (append-nil (map text ys)) (leading_none spelled text none ys [] refl)
 
 -- ---- if words spell an entry, they are the entry's words
 
-ReadBytes : List (List ℕ) → List (ℕ × ℕ) → Type 0
-ReadBytes words dirt = (words ≡ map dirt_word dirt) × All FitsByte dirt
+none_left_is : (e f : SharedEntry) (left : List (List ℕ)) → if_none_left e left ≡ Some f → (left ≡ []) × (e ≡ f)
+none_left_is e f [] is = (refl, same_Some e f is)
+none_left_is e f (word ∷ words) is = absurd (none-some f is)
 
-bytes_of_is : (words : List (List ℕ)) (dirt : List (ℕ × ℕ)) → dirt_in words ≡ Some dirt → ReadBytes words dirt
-unfolding ReadBytes
-bytes_of_is [] dirt is = subst (ReadBytes []) (same_Some [] dirt is) (refl, All-nil FitsByte)
-bytes_of_is (word ∷ words) dirt is =
-    option_and_then_some (λ d. option_map (λ more. d ∷ more) (dirt_in words)) (dirt_of word) dirt is (λ d first rest.
-    mapped (λ more. d ∷ more) (dirt_in words) dirt rest (λ more others same.
-    let here = byte_of_is word d first in
-    let there = bytes_of_is words more others in
-    subst (ReadBytes (word ∷ words)) same (ap₂ (λ w ws. w ∷ ws) here.2 there.0, All-cons FitsByte d more (here.0, here.1) there.1)))
+ReadParts : ℕ → List (List ℕ) → SharedEntry → Type 0
+ReadParts at words e =
+    (at ≡ e.entry.at) × (words ≡ part_words e) × All (λ n. n < 256) e.entry.cut.done × All FitsByte e.entry.cut.dirt × All FitsByte e.cells
 
-ReadInterrupt : List (List ℕ) → Interrupt → Type 0
-ReadInterrupt words c = (words ≡ interrupt_words c) × All (λ n. n < 256) c.done × All FitsByte c.dirt
+parts_are : (at : ℕ) (words : List (List ℕ)) (e : SharedEntry) → entry_of_parts at words ≡ Some e → ReadParts at words e
+unfolding ReadParts
+parts_are at words e is =
+    let done = leading access_of words in
+    let dirt = leading (written_of (codes "d")) done.1 in
+    let cells = leading (written_of (codes "s")) dirt.1 in
+    let first = leading_is access_of access_word (λ n. n < 256) access_of_is words in
+    let second = leading_is (written_of (codes "d")) (written_word (codes "d")) FitsByte (written_of_is 100) done.1 in
+    let third = leading_is (written_of (codes "s")) (written_word (codes "s")) FitsByte (written_of_is 115) dirt.1 in
+    let last = none_left_is (entry_from at done.0 dirt.0 cells.0) e cells.1 is in
+    let end : dirt.1 ≡ map (written_word (codes "s")) cells.0 = third.0 ∙ ap (λ ws. map (written_word (codes "s")) cells.0 ++ ws) last.0 ∙ append-nil (map (written_word (codes "s")) cells.0) in
+    subst (ReadParts at words) last.1 (
+      refl,
+      first.0 ∙ ap (λ ws. map access_word done.0 ++ ws) (second.0 ∙ ap (λ ws. map (written_word (codes "d")) dirt.0 ++ ws) end),
+      first.1,
+      second.1,
+      third.1,
+    )
 
-interrupt_of_is : (words : List (List ℕ)) (c : Interrupt) → interrupt_of words ≡ Some c → ReadInterrupt words c
-unfolding ReadInterrupt ReadBytes
-interrupt_of_is [] c is = subst (ReadInterrupt []) (same_Some (interrupt [] []) c is) (refl, All-nil (λ n. n < 256), All-nil FitsByte)
-interrupt_of_is (word ∷ words) c is = either (λ d h. interrupt_of_is words d h) (access_of word) refl is
-  where
-    either : ((d : Interrupt) → interrupt_of words ≡ Some d → ReadInterrupt words d) → (o : Option ℕ) → access_of word ≡ o → access_or_bytes o (interrupt_of words) (dirt_in (word ∷ words)) ≡ Some c → ReadInterrupt (word ∷ words) c
-    either later (Some n) first rest =
-        mapped (with_access n) (interrupt_of words) c rest (λ d others same.
-        let here = access_of_is word n first in
-        let there = later d others in
-        subst (ReadInterrupt (word ∷ words)) same (ap₂ (λ w ws. w ∷ ws) here.1 there.0, All-cons (λ n. n < 256) n d.done here.0 there.1, there.2))
-    either later None first rest =
-        mapped (interrupt []) (dirt_in (word ∷ words)) c rest (λ dirt bytes same.
-        let there = bytes_of_is (word ∷ words) dirt bytes in
-        subst (ReadInterrupt (word ∷ words)) same (there.0, All-nil (λ n. n < 256), there.1))
-
-ReadEntry : List (List ℕ) → Entry → Type 0
-ReadEntry words e = (words ≡ entry_words e) × FitsEntry e
-
-pub entry_of_is : (words : List (List ℕ)) (e : Entry) → entry_of_words words ≡ Some e → (words ≡ entry_words e) × FitsEntry e
-unfolding entry_of_words ReadEntry ReadInterrupt
+pub entry_of_is : (words : List (List ℕ)) (e : SharedEntry) → entry_of_words words ≡ Some e → (words ≡ entry_words e) × FitsEntry e
+unfolding entry_of_words ReadParts
 entry_of_is [] e is = absurd (none-some e is)
 entry_of_is (first ∷ []) e is = absurd (none-some e is)
 entry_of_is (first ∷ (number ∷ words)) e is =
-    let parts = picked (bytes_eq first (codes "cut")) (option_and_then (λ at. option_map (entry at) (interrupt_of words)) (decimal_of 0xFFFF_FFFF_FFFF_FFFF number)) e is in
-    option_and_then_some (λ at. option_map (entry at) (interrupt_of words)) (decimal_of 0xFFFF_FFFF_FFFF_FFFF number) e parts.1 (λ at second rest.
-    mapped (entry at) (interrupt_of words) e rest (λ c others same.
+    let parts = picked (bytes_eq first (codes "cut")) (option_and_then (λ at. entry_of_parts at words) (decimal_of 0xFFFF_FFFF_FFFF_FFFF number)) e is in
+    option_and_then_some (λ at. entry_of_parts at words) (decimal_of 0xFFFF_FFFF_FFFF_FFFF number) e parts.1 (λ at second rest.
     let cut = (bytes_eq-Decides first (codes "cut")).0 parts.0 in
     let n = number_of_is 0xFFFF_FFFF_FFFF_FFFF number at second in
-    let there = interrupt_of_is words c others in
-    subst (ReadEntry (first ∷ (number ∷ words))) same (ap₂ (λ w ws. w ∷ ws) cut (ap₂ (λ w ws. w ∷ ws) n.1 there.0), (omega (arith, n.0), there.1, there.2))))
+    let there = parts_are at words e rest in
+    (ap₂ (λ w ws. w ∷ ws) cut (ap₂ (λ w ws. w ∷ ws) (n.1 ∙ ap decimal there.0) there.1), (omega (arith, n.0, there.0), there.2, there.3, there.4)))
 
 -- ---- the words of an entry spell it
 
-bytes_back : (dirt : List (ℕ × ℕ)) → All FitsByte dirt → dirt_in (map dirt_word dirt) ≡ Some dirt
-bytes_back [] fits = refl
-bytes_back (d ∷ dirt) fits =
-    let here = All-head FitsByte d dirt fits in
-    ap (option_and_then (λ b. option_map (λ more. b ∷ more) (dirt_in (map dirt_word dirt)))) (dirt_of-Some d (dirt_word d) here.0 here.1 refl)
-    ∙ ap (option_map (λ more. d ∷ more)) (bytes_back dirt (All-tail FitsByte d dirt fits))
+no_access : (c : ℕ) → c ≢ 97 → (d : ℕ × ℕ) → access_of (written_word (c ∷ []) d) ≡ None
+no_access c other d = access_of-None (written_word (c ∷ []) d) (λ n lt same. other (ap (λ w. get_or w 0 0) same))
 
-no_access : (d : ℕ × ℕ) → access_of (dirt_word d) ≡ None
-no_access d = access_of-None (dirt_word d) (λ n lt same. let letters : 100 ≡ 97 = ap (λ w. get_or w 0 0) same in absurd (omega (arith, letters)))
+no_byte : (b c : ℕ) → c ≢ b → (d : ℕ × ℕ) → written_of (b ∷ []) (written_word (c ∷ []) d) ≡ None
+no_byte b c other d = written_of-None b (written_word (c ∷ []) d) (λ x fits same. other (ap (λ w. get_or w 0 0) same))
 
-interrupt_back : (done : List ℕ) (dirt : List (ℕ × ℕ)) → All (λ n. n < 256) done → All FitsByte dirt → interrupt_of (map access_word done ++ map dirt_word dirt) ≡ Some (interrupt done dirt)
-interrupt_back [] [] small fits = refl
-interrupt_back [] (d ∷ dirt) small fits =
-    ap (λ o. access_or_bytes o (interrupt_of (map dirt_word dirt)) (dirt_in (map dirt_word (d ∷ dirt)))) (no_access d)
-    ∙ ap (option_map (interrupt [])) (bytes_back (d ∷ dirt) fits)
-interrupt_back (n ∷ done) dirt small fits =
-    let others : List (List ℕ) = map access_word done ++ map dirt_word dirt in
-    ap (λ o. access_or_bytes o (interrupt_of others) (dirt_in (access_word n ∷ others))) (access_of-Some n (access_word n) (All-head (λ n. n < 256) n done small) refl)
-    ∙ ap (option_map (with_access n)) (interrupt_back done dirt (All-tail (λ n. n < 256) n done small) fits)
+byte_back : (c : ℕ) (d : ℕ × ℕ) → FitsByte d → written_of (c ∷ []) (written_word (c ∷ []) d) ≡ Some d
+byte_back c d fits = written_of-Some c d (written_word (c ∷ []) d) fits refl
 
-pub entry_back : (e : Entry) → FitsEntry e → entry_of_words (entry_words e) ≡ Some e
+parts_back : (e : SharedEntry) → FitsEntry e → entry_of_parts e.entry.at (part_words e) ≡ Some e
+parts_back e fits =
+    let dirt_words = map (written_word (codes "d")) e.entry.cut.dirt in
+    let cell_words = map (written_word (codes "s")) e.cells in
+    let first = leading_back access_of access_word (λ n. n < 256) (λ n lt. access_of-Some n (access_word n) lt refl) e.entry.cut.done (dirt_words ++ cell_words) fits.1
+    (leading_none access_of (written_word (codes "d")) (no_access 100 (λ same. absurd (omega (arith, same)))) e.entry.cut.dirt cell_words
+    (leading_none_last access_of (written_word (codes "s")) (no_access 115 (λ same. absurd (omega (arith, same)))) e.cells)) in
+    let second = leading_back (written_of (codes "d")) (written_word (codes "d")) FitsByte (byte_back 100) e.entry.cut.dirt cell_words fits.2
+    (leading_none_last (written_of (codes "d")) (written_word (codes "s")) (no_byte 100 115 (λ same. absurd (omega (arith, same)))) e.cells) in
+    let third : leading (written_of (codes "s")) cell_words ≡ (e.cells, []) =
+    ap (leading (written_of (codes "s"))) (sym (append-nil cell_words))
+    ∙ leading_back (written_of (codes "s")) (written_word (codes "s")) FitsByte (byte_back 115) e.cells [] fits.3 refl in
+    parts_read e.entry.at (part_words e) (dirt_words ++ cell_words) cell_words [] e.entry.cut.done e.entry.cut.dirt e.cells first second third
+
+pub entry_back : (e : SharedEntry) → FitsEntry e → entry_of_words (entry_words e) ≡ Some e
 unfolding entry_of_words
 entry_back e fits =
-    ap (option_and_then (λ at. option_map (entry at) (interrupt_of (interrupt_words e.cut)))) (decimal_of-Some 0xFFFF_FFFF_FFFF_FFFF e.at (decimal e.at) (lit< tt) (omega (arith, fits.0)) refl)
-    ∙ ap (option_map (entry e.at)) (interrupt_back e.cut.done e.cut.dirt fits.1 fits.2)
+    ap (option_and_then (λ at. entry_of_parts at (part_words e))) (decimal_of-Some 0xFFFF_FFFF_FFFF_FFFF e.entry.at (decimal e.entry.at) (lit< tt) (omega (arith, fits.0)) refl)
+    ∙ parts_back e fits

@@ -1,11 +1,15 @@
 -- Plans whose interrupts also write data that the program reads: each interrupt is followed by its cells, bytes with their addresses.
-use Rattle.std.specs.Prelude.{ℕ, ◌<◌, ◌==◌, List, filter, All}
+use Rattle.std.specs.Prelude.{ℕ, ◌<◌, ◌==◌, List, [], filter, All}
 use Rattle.interrupt_plan.specs.Plan.{Entry, IsInterrupt}
 
 -- an interrupt before a commit, and the cells that it then writes
 pub record SharedEntry : Type 0 where
   pub entry : Entry
   pub cells : List (ℕ × ℕ)
+
+-- an interrupt that writes no cells
+abbrev pub without_cells : Entry → SharedEntry
+without_cells e = record { entry = e; cells = [] }
 
 -- the entries before the commit with this number, in order
 abbrev pub shared_at : List SharedEntry → ℕ → List SharedEntry

@@ -2,9 +2,11 @@
 #![tactic(auto)]
 
 pub mod fault;
+mod from_line;
 mod line;
 pub mod make_plan;
 pub mod plan;
+mod read_lines;
 pub mod read_plan;
 pub mod read_shared;
 pub mod shared_plan;

@@ -2,12 +2,12 @@
 
 ghost use Rattle.std.specs.Prelude.{◌≡◌, ◌⊎◌, IfOk, IfErr, Ok, Err};
 ghost use Rattle.interrupt_plan.specs.Fault.{IsSharedFault};
-ghost use Rattle.interrupt_plan.specs.Grammar.{ReadsEach};
-ghost use Rattle.interrupt_plan.specs.Text.{IsSharedText, shared_in};
 ghost use Rattle.interrupt_plan.specs.SharedPlan.{IsSharedPlan};
+ghost use Rattle.interrupt_plan.specs.Text.{IsSharedText, ReadsEach, shared_in};
 
 use crate::fault::PlanFault;
-use crate::shared_plan::SharedPlan;
+use crate::read_lines::read_text;
+use crate::shared_plan::{SharedCut, SharedPlan};
 use std::alloc::Global;
 
 /// The plan with cells that a text spells, or the first fault in the text, with the number of its line.
@@ -19,5 +19,6 @@ pub fn read_shared(alloc: Global, text: &[u8]) -> Result<SharedPlan, PlanFault>
     ensures bytes { IfOk result (λ plan. IsSharedPlan plan) }
     ensures complete { ReadsEach (IsSharedText text.now) text.now result }
 {
-    Err(PlanFault::OutOfMemory)
+    let cuts = read_text::<SharedCut>(alloc, text)?;
+    Ok(SharedPlan::new(cuts))
 }

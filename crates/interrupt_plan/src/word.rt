@@ -1,7 +1,7 @@
 // The words of a plan's lines.
 
-ghost use Rattle.std.specs.Prelude.{◌≡◌, ◌↔◌, IsTrue, length, slice_index};
-ghost use Rattle.interrupt_plan.specs.Text.{access_of, dirt_of};
+ghost use Rattle.std.specs.Prelude.{◌≡◌, ◌↔◌, ◌∷◌, [], IsTrue, length, slice_index};
+ghost use Rattle.interrupt_plan.specs.Text.{access_of, written_of};
 
 use text_lines::hex::{read_hex_byte, read_hex_word};
 use text_lines::number::read_number;
@@ -15,11 +15,11 @@ pub fn read_access(word: &[u8]) -> Option<u8>
     Some(number as u8)
 }
 
-/// The address and the byte that a word spells.
-pub fn read_byte(word: &[u8]) -> Option<(u32, u8)>
-    ensures { result ≡ dirt_of word.now }
+/// The address and the byte that a word with this letter spells.
+pub fn read_byte(letter: u8, word: &[u8]) -> Option<(u32, u8)>
+    ensures { result ≡ written_of (letter ∷ []) word.now }
 {
-    if !is_marked(word) {
+    if !is_marked(letter, word) {
         return None;
     }
     let address = read_hex_word(&word[1..9])?;
@@ -27,10 +27,10 @@ pub fn read_byte(word: &[u8]) -> Option<(u32, u8)>
     Some((address, byte))
 }
 
-// Whether a word has the length of a byte and its address, and `d` and `:` in their places.
-fn is_marked(word: &[u8]) -> bool
-    ensures { IsTrue result ↔ ((length word.now ≡ 12) × (slice_index word.now 0 ≡ 100)
+// Whether a word has the length of a byte and its address, and a letter and `:` in their places.
+fn is_marked(letter: u8, word: &[u8]) -> bool
+    ensures { IsTrue result ↔ ((length word.now ≡ 12) × (slice_index word.now 0 ≡ letter)
         × (slice_index word.now 9 ≡ 58)) }
 {
-    word.len() == 12 && word[0] == b'd' && word[9] == b':'
+    word.len() == 12 && word[0] == letter && word[9] == b':'
 }

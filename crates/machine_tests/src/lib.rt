@@ -12,3 +12,5 @@ mod objects;
 mod plans;
 #[cfg(test)]
 mod row;
+#[cfg(test)]
+mod shared_plans;

@@ -16,6 +16,7 @@ zcld plan 1%| = line 1 isn't one of a plan
 zcld plan 01| = line 1 isn't one of a plan
 zcld  plan 1| = line 1 isn't one of a plan
 zcld certificate 1| = line 1 isn't one of a plan
+zcld shared 1| = line 1 isn't one of a plan
 þzcld plan 1| = line 1 isn't one of a plan
 |zcld plan 1| = line 1 isn't one of a plan
 cut 3| = line 1 isn't one of a plan
@@ -63,7 +64,9 @@ cut 3 d0000fff:0a = bad
 cut 3 d000000fff:0a = bad
 cut 3 d00000fff0a = bad
 cut 3 d00000fff:a = bad
-cut 3 d00000fff:00a = bad";
+cut 3 d00000fff:00a = bad
+cut 3 s00100000:07 = bad
+cut 3 d00000fff:0a s00100000:07 = bad";
 
 // The interrupts of a plan, each with its commit, its accesses and its bytes.
 fn told(alloc: Global, plan: &Plan) -> Result<String, AllocError> {
@@ -78,7 +81,8 @@ fn told(alloc: Global, plan: &Plan) -> Result<String, AllocError> {
     Ok(text)
 }
 
-fn answer(alloc: Global, text: &str) -> Result<String, AllocError> {
+// The bytes that a text stands for.
+pub fn bytes_of(alloc: Global, text: &str) -> Result<Vec<u8>, AllocError> {
     let mut bytes = Vec::new(alloc);
     for byte in text.bytes() {
         bytes.push(match byte {
@@ -89,6 +93,11 @@ fn answer(alloc: Global, text: &str) -> Result<String, AllocError> {
             _ => byte,
         })?;
     }
+    Ok(bytes)
+}
+
+fn answer(alloc: Global, text: &str) -> Result<String, AllocError> {
+    let bytes = bytes_of(alloc, text)?;
     read(alloc, bytes.as_slice())
 }
 

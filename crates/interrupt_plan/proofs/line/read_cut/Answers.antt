@@ -1,9 +1,8 @@
 use Rattle.std.proofs.Common.{◌≡◌, ℕ, true, false, List, ap, sym, ◌∙◌}
 use Rattle.std.specs.Prelude.{bytes_eq, codes, not}
-use Rattle.std.specs.Option.{option_copied, option_map}
+use Rattle.std.specs.Option.{option_copied}
 use Rattle.std.proofs.lemmas.Bool.{not-false, not-true}
 use Rattle.text_lines.specs.Lines.{words_in, words_of}
-use Rattle.interrupt_plan.specs.Text.{entry, interrupt}
 use Rattle.interrupt_plan.proofs.LineLaws.{bad_number, numbered, one_word, other_word, two_words}
 use Rattle.interrupt_plan.proofs.line.read_cut.Goals as goal
 
@@ -20,25 +19,16 @@ pub returns-then-ne : goal.returns-then-ne
 returns-then-ne c =
     sym (other_word (words_of c.args.line.now) (words_in (option_copied c.split_word.result.1)) c.split_word.result.0.now c.split_word.ensures.words (differs c.split_word.result.0.now c.as_slice.result.now c.as_slice.ensures c.if-ne.ensures))
 
-pub returns-in_default-read_number : goal.returns-in_default-read_number
-returns-in_default-read_number c =
+pub returns-in-None : goal.returns-in-None
+returns-in-None c =
     sym (bad_number (words_of c.args.line.now) (words_in (option_copied c.split_word-2.result.1)) c.split_word.result.0.now c.split_word-2.result.0.now
     (two_words c.args.line.now c.split_word.result.0.now c.in-Some.rest.now c.split_word-2.result.0.now (option_copied c.split_word.result.1) (option_copied c.split_word-2.result.1) c.split_word.ensures.words (ap option_copied c.in-Some.is) c.split_word-2.ensures.words)
     (agrees c.split_word.result.0.now c.as_slice.result.now c.as_slice.ensures c.if-ne.ensures)
-    (sym c.in_default-read_number.ensures.value))
+    (sym c.in-None.ensures.value))
 
-pub returns-in_default-2 : goal.returns-in_default-2
-returns-in_default-2 c =
-    sym (numbered (words_of c.args.line.now) (words_in (option_copied c.split_word-2.result.1)) c.split_word.result.0.now c.split_word-2.result.0.now c.in-Some-read_number.at
+pub returns-in-Some-read_number : goal.returns-in-Some-read_number
+returns-in-Some-read_number c =
+    rw (numbered (words_of c.args.line.now) (words_in (option_copied c.split_word-2.result.1)) c.split_word.result.0.now c.split_word-2.result.0.now
     (two_words c.args.line.now c.split_word.result.0.now c.in-Some.rest.now c.split_word-2.result.0.now (option_copied c.split_word.result.1) (option_copied c.split_word-2.result.1) c.split_word.ensures.words (ap option_copied c.in-Some.is) c.split_word-2.ensures.words)
     (agrees c.split_word.result.0.now c.as_slice.result.now c.as_slice.ensures c.if-ne.ensures)
-    (sym c.in-Some-read_number.ensures.value)
-    ∙ ap (option_map (entry c.in-Some-read_number.at)) (c.in_ok-done.ensures ∙ ap (option_map (interrupt c.in_ok-done.done.items)) (sym c.in_ok-dirt.ensures ∙ ap (option_map (λ d. d.items)) c.in_default-2.is)))
-
-pub returns : goal.returns
-returns c =
-    sym (numbered (words_of c.args.line.now) (words_in (option_copied c.split_word-2.result.1)) c.split_word.result.0.now c.split_word-2.result.0.now c.in-Some-read_number.at
-    (two_words c.args.line.now c.split_word.result.0.now c.in-Some.rest.now c.split_word-2.result.0.now (option_copied c.split_word.result.1) (option_copied c.split_word-2.result.1) c.split_word.ensures.words (ap option_copied c.in-Some.is) c.split_word-2.ensures.words)
-    (agrees c.split_word.result.0.now c.as_slice.result.now c.as_slice.ensures c.if-ne.ensures)
-    (sym c.in-Some-read_number.ensures.value)
-    ∙ ap (option_map (entry c.in-Some-read_number.at)) (c.in_ok-done.ensures ∙ ap (option_map (interrupt c.in_ok-done.done.items)) (sym c.in_ok-dirt.ensures ∙ ap (option_map (λ d. d.items)) c.in-Some-2.is)))
+    c.in-Some-read_number.at (sym c.in-Some-read_number.ensures.value)) c.read_parts.ensures
