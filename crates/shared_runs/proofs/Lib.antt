@@ -2,3 +2,4 @@ pub mod Regions
 pub mod Cells
 pub mod Written
 pub mod Turns
+pub mod Shares

@@ -1,5 +1,5 @@
 -- Interrupts and commits change what regions hold, but not where they lie; and no interrupt is an exit.
-use Rattle.std.proofs.Common.{◌≡◌, ℕ, ◌%◌, List, [], ◌∷◌, Option, Some, None, Ok, cond, refl, sym, ap, ◌∙◌, subst, eqb, ltb, take, length, slice_index}
+use Rattle.std.proofs.Common.{◌≡◌, ℕ, ◌%◌, List, [], ◌∷◌, Option, Some, None, Result, Ok, cond, refl, sym, ap, ◌∙◌, subst, eqb, ltb, take, length, slice_index}
 use Rattle.std.specs.Prelude.{◌&&◌, ◌||◌, ◌==◌, slice_get}
 use Rattle.std.specs.Option.{option_map_or}
 use Rattle.std.proofs.lemmas.Bool.{cond_both}
@@ -22,6 +22,10 @@ use Rattle.zc_machine.specs.Interrupt.{all_dirtied, all_interrupted, dirtied, do
 use Rattle.zc_machine.specs.Run.{answered, committed, turn, zc_turn}
 use Rattle.zc_machine.specs.Step.{Committed, Ended, Stopped, Wants, ZcStep, buffered, called, effect_step, made, zc_step}
 use Rattle.zc_machine.proofs.TurnLaws.{zc_turn-running}
+
+-- a result has one value
+pub one_result : {A E : Type 0} (r : Result A E) (x y : A) → r ≡ Ok x → r ≡ Ok y → x ≡ y
+one_result r x y one two = cc
 
 -- ---- interrupts
 
@@ -158,18 +162,9 @@ made_leaves (Found s size) z = by (short_effect s size z) (short_leaves s size z
 made_leaves (Missing reason) z = tt
 
 answered_extents : (c : EnvCall) (r r' : ZcState) → answered c r ≡ Ok r' → extents_of r'.core.memory ≡ extents_of r.core.memory
-answered_extents (call.Exit status) r r' h = ap (λ x. extents_of x.core.memory) (sym (is_ok h))
-  where
-    is_ok : {x y : ZcState} → Ok x ≡ Ok y → x ≡ y
-    is_ok e = cc
-answered_extents (call.Read at len) r r' h = ap (λ x. extents_of x.core.memory) (sym (is_ok h)) ∙ extents-changed _ r.core.memory
-  where
-    is_ok : {x y : ZcState} → Ok x ≡ Ok y → x ≡ y
-    is_ok e = cc
-answered_extents (call.Write fd at len) r r' h = ap (λ x. extents_of x.core.memory) (sym (is_ok h))
-  where
-    is_ok : {x y : ZcState} → Ok x ≡ Ok y → x ≡ y
-    is_ok e = cc
+answered_extents (call.Exit status) r r' h = ap (λ (x : ZcState). extents_of x.core.memory) (one_result (answered (call.Exit status) r) r' _ h refl)
+answered_extents (call.Read at len) r r' h = ap (λ (x : ZcState). extents_of x.core.memory) (one_result (answered (call.Read at len) r) r' _ h refl) ∙ extents-changed _ r.core.memory
+answered_extents (call.Write fd at len) r r' h = ap (λ (x : ZcState). extents_of x.core.memory) (one_result (answered (call.Write fd at len) r) r' _ h refl)
 
 committed_extents : (step : ZcStep) (r r' : ZcState) → StepLeaves (extents_of r.core.memory) step → committed step r ≡ Ok r' → extents_of r'.core.memory ≡ extents_of r.core.memory
 committed_extents (Committed y) r r' leaves h = let same : record r { core = y } ≡ r' = cc in ap (λ x. extents_of x.core.memory) (sym same) ∙ leaves

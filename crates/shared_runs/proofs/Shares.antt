@@ -29,7 +29,8 @@ use Rattle.zc_link.specs.Preserves.{Follows}
 use Rattle.zc_link.specs.Sound.{Over, Sound, Together}
 use Rattle.zc_link.specs.Stands.{Stands}
 use Rattle.shared_runs.specs.SharedPlain.{SharedState, Sharing, after_step, cells_from, shared_after, shared_start, shared_step, step_within, stretch_begun}
-use Rattle.shared_runs.specs.SharesCells.{Keeps, SharesCells}
+use Rattle.shared_runs.specs.SharesCells.{KeepsPace, SharesCells}
+use Rattle.shared_runs.proofs.Regions.{one_result}
 use Rattle.shared_runs.proofs.Turns.{AreEntries, IsEntry, IsTame, cells_are, cells_first, cells_in, cells_last, cells_of, cuts_in}
 use Rattle.shared_runs.proofs.Written.{CellsLie, IsWrite, all_written, poked_events, poked_exit, poked_place, written_events, written_sound}
 
@@ -198,8 +199,8 @@ module _ (p : Program) (Named : Place → Type 0) (e : Image) (pace : Pace) (law
               (b : Bool) → eqb s.left 1 ≡ b
               → Reached (suc n) (cond b (record { plain = q; commits = s.after; left = 0; after = s.after }) (record { plain = q; commits = s.commits; left = s.left - 1; after = s.after }))
           by true is = completed n r k s q wi (eqb-true s.left 1 is) turn
-          by false no =
-              let other = eqb-false s.left 1 no in
+          by false not_last =
+              let other = eqb-false s.left 1 not_last in
               let sum = wi.sum in
               let more = wi.more in
               let few = wi.few in
@@ -216,11 +217,8 @@ module _ (p : Program) (Named : Place → Type 0) (e : Image) (pace : Pace) (law
       go_on : (n : ℕ) (r : PlainState) (k : ℕ) (s s' : SharedState) → Within n r k s → step_within p s ≡ Ok s' → Reached (suc n) s'
       go_on n r k s s' wi h =
           let step = bind_ok (plain_turn p s.plain) (λ q. Ok (after_step s q)) s' h in
-          let same : after_step s step.0 ≡ s' = ok_same step.2 in
+          let same = one_result (step_within p s) (after_step s step.0) s' (ap (λ o. o >>= (λ q. Ok (after_step s q))) step.1) h in
           subst (Reached (suc n)) same (step_on n r k s step.0 wi step.1)
-        where
-          ok_same : {x y : SharedState} → Ok x ≡ Ok y → x ≡ y
-          ok_same is = cc
 
       advance : (n : ℕ) (s s' : SharedState) → Reached n s → shared_step w s ≡ Ok s' → Reached (suc n) s'
       unfolding shared_step
@@ -238,10 +236,7 @@ module _ (p : Program) (Named : Place → Type 0) (e : Image) (pace : Pace) (law
           (ap (λ x. step_within p x) (sym (cond-false (eqb s.left 0) (stretch_begun w s) s (ne_eqb s.left 0 (λ is. omega (arith, is, more))))) ∙ sym (cond-false (is_some s.plain.core.exit) (Ok s) _ running) ∙ h)
       advance n s s' (Ended ex few) h =
           let exited : is_some s.plain.core.exit ≡ true = ap is_some ex.over.exited in
-          subst (Reached (suc n)) (ok_same (sym (cond-true (is_some s.plain.core.exit) (Ok s) _ exited) ∙ h)) (Ended ex (omega (arith, few)))
-        where
-          ok_same : {x y : SharedState} → Ok x ≡ Ok y → x ≡ y
-          ok_same is = cc
+          subst (Reached (suc n)) (one_result (shared_step w s) s s' (cond-true (is_some s.plain.core.exit) (Ok s) _ exited) h) (Ended ex (omega (arith, few)))
 
       advance_all : (m n : ℕ) (s s' : SharedState) → Reached n s → iterate (shared_step w) m s ≡ Ok s' → Reached (n + m) s'
       advance_all zero n s s' at h = let same : s ≡ s' = cc in let sum : n ≡ n + 0 = omega arith in subst (Reached (n + 0)) same (subst (λ k. Reached k s) sum at)
@@ -280,7 +275,7 @@ module _ (p : Program) (Named : Place → Type 0) (e : Image) (pace : Pace) (law
       sound_stands : (s : PlainCore) (z : ZcState) → Sound p Named e s z → Stands p e.address s z
       sound_stands s z so = record { registers = so.alike.registers; memory = so.alike.memory; input = so.input; place = λ _. so.place }
 
-      claims : (n : ℕ) (s : SharedState) → Reached n s → Keeps w input n s
+      claims : (n : ℕ) (s : SharedState) → Reached n s → KeepsPace w input n s
       claims n s (Between pair left few) =
           record { state = pair.z; runs = pair.runs; follows = record { events = pair.events; stands = λ _. sound_stands s.plain.core pair.z pair.sound }; few = few }
       claims n s (Inside r k some wi) =
@@ -297,8 +292,8 @@ module _ (p : Program) (Named : Place → Type 0) (e : Image) (pace : Pace) (law
           }
       claims n s (Ended ex few) = record { state = ex.z; runs = ex.runs; follows = record { events = ex.events; stands = λ _. ex.over.stands }; few = few }
 
-      kept : (n : ℕ) (s : SharedState) → shared_after w input n ≡ Ok s → Keeps w input n s
-      kept n s h = let sum : 0 + n ≡ n = omega arith in subst (λ k. Keeps w input k s) sum (claims (0 + n) s (advance_all n 0 (shared_start w input) s started h))
+      kept : (n : ℕ) (s : SharedState) → shared_after w input n ≡ Ok s → KeepsPace w input n s
+      kept n s h = let sum : 0 + n ≡ n = omega arith in subst (λ k. KeepsPace w input k s) sum (claims (0 + n) s (advance_all n 0 (shared_start w input) s started h))
 
   pub shares_cells : SharesCells p e pace ranges
   shares_cells input plan n s bytes is h = kept plan is input bytes n s h

@@ -21,7 +21,7 @@ use Rattle.zc_machine.specs.Step.{zc_step}
 use Rattle.zc_machine.proofs.TurnLaws.{turn-running, zc_turn-running}
 use Rattle.zc_link.specs.DataApart.{CommitsApart, Cuts, CutsApart, IsCell, OnWay, Pokes, Turns, poked}
 use Rattle.zc_link.specs.Image.{Image, loaded_core}
-use Rattle.shared_runs.proofs.Regions.{all_interrupted_stays, interrupted_stays, turn_extents}
+use Rattle.shared_runs.proofs.Regions.{all_interrupted_stays, interrupted_stays, one_result, turn_extents}
 use Rattle.shared_runs.proofs.Written.{CellsLie, IsWrite, all_written, all_written-append, byte_there, poked_back, poked_there, small_there, written_exit, written_extents}
 
 -- what an entry's values must be
@@ -222,55 +222,50 @@ module _ {p : Program} {e : Image} (lie : CellsLie p e) (ranges : List (ℕ × �
       commit_back :
           {k : ℕ} (a b : ℕ) (z v : ZcState) → IsCell p a → b < 256 → OnWay p From (suc k) z → IsTame z → zc_turn [] (poked a b z) ≡ Ok v
           → (y : ZcState) × (zc_turn [] z ≡ Ok y) × (v ≡ poked a b y)
-      commit_back {k} a b z v cell small way tame turn =
+      commit_back {k} a b z v cell small way tame made =
           let o = byte_in z.core a in
-          let back = commits.same k (poked a b z) v (Pokes k z a b cell small way) turn a o cell (tame.bytes a cell) in
+          let back = commits.same k (poked a b z) v (Pokes k z a b cell small way) made a o cell (tame.bytes a cell) in
           let here : zc_turn [] z ≡ Ok (poked a o v) = ap (zc_turn []) (sym (poked_back lie a b cell small z tame.regions)) ∙ back in
-          let again : Ok v ≡ Ok (poked a b (poked a o v)) = sym turn ∙ commits.same k z (poked a o v) way here a b cell small in
-          (poked a o v, here, ok_same again)
-        where
-          ok_same : {x y : ZcState} → Ok x ≡ Ok y → x ≡ y
-          ok_same is = cc
+          let again = commits.same k z (poked a o v) way here a b cell small in
+          (poked a o v, here, one_result (zc_turn [] (poked a b z)) v (poked a b (poked a o v)) made again)
 
       commits_back :
           {k : ℕ} (cs : List (ℕ × ℕ)) (z v : ZcState) → All (IsWrite p) cs → OnWay p From (suc k) z → IsTame z → zc_turn [] (all_written cs z) ≡ Ok v
           → (y : ZcState) × (zc_turn [] z ≡ Ok y) × (v ≡ all_written cs y)
-      commits_back [] z v are way tame turn = (v, turn, refl)
-      commits_back {k} (c ∷ cs) z v are way tame turn =
+      commits_back [] z v are way tame made = (v, made, refl)
+      commits_back {k} (c ∷ cs) z v are way tame made =
           let first = All-head (IsWrite p) c cs are in
-          let rest = commits_back cs (poked c.0 c.1 z) v (All-tail (IsWrite p) c cs are) (Pokes k z c.0 c.1 first.0 first.1 way) (tame_poked c.0 c.1 z first.0 first.1 tame) turn in
+          let rest = commits_back cs (poked c.0 c.1 z) v (All-tail (IsWrite p) c cs are) (Pokes k z c.0 c.1 first.0 first.1 way) (tame_poked c.0 c.1 z first.0 first.1 tame) made in
           let one = commit_back c.0 c.1 z rest.0 first.0 first.1 way tame rest.1 in
           (one.0, one.1, rest.2 ∙ ap (all_written cs) one.2)
 
       -- a commit leaves the byte of a cell
       tame_commit : {k : ℕ} (z y : ZcState) → OnWay p From (suc k) z → IsTame z → zc_turn [] z ≡ Ok y → IsTame y
-      tame_commit {k} z y way tame turn = record { regions = regions; bytes = bytes }
+      tame_commit {k} z y way tame made = record { regions = regions; bytes = bytes }
         where
           regions : HasRegions y
-          regions = turn_extents z y turn ∙ tame.regions
-
-          ok_same : {x y : ZcState} → Ok x ≡ Ok y → x ≡ y
-          ok_same is = cc
+          regions = turn_extents z y made ∙ tame.regions
 
           bytes : (a : ℕ) → IsCell p a → byte_in y.core a < 256
           bytes a cell =
               let o = byte_in z.core a in
               let small = tame.bytes a cell in
               let none : 0 < 256 = omega arith in
-              let other = commits.same k z y way turn a 0 cell none in
+              let other = commits.same k z y way made a 0 cell none in
               let back = commits.same k (poked a 0 z) (poked a 0 y) (Pokes k z a 0 cell none way) other a o cell small in
-              let same : y ≡ poked a o (poked a 0 y) = ok_same (sym turn ∙ ap (zc_turn []) (sym (poked_back lie a 0 cell none z tame.regions)) ∙ back) in
+              let here : zc_turn [] z ≡ Ok (poked a o (poked a 0 y)) = ap (zc_turn []) (sym (poked_back lie a 0 cell none z tame.regions)) ∙ back in
+              let same = one_result (zc_turn [] z) y (poked a o (poked a 0 y)) made here in
               let at : byte_in y.core a ≡ o = ap (λ (s : ZcState). byte_in s.core a) same ∙ byte_there lie a o cell small (poked a 0 y).core (regions_poked a 0 y regions) in
               omega (arith, at, small)
 
       commits_forward :
           {k : ℕ} (cs : List (ℕ × ℕ)) (z y : ZcState) → All (IsWrite p) cs → OnWay p From (suc k) z → zc_turn [] z ≡ Ok y
           → zc_turn [] (all_written cs z) ≡ Ok (all_written cs y)
-      commits_forward [] z y are way turn = turn
-      commits_forward {k} (c ∷ cs) z y are way turn =
+      commits_forward [] z y are way made = made
+      commits_forward {k} (c ∷ cs) z y are way made =
           let first = All-head (IsWrite p) c cs are in
           commits_forward cs (poked c.0 c.1 z) (poked c.0 c.1 y) (All-tail (IsWrite p) c cs are) (Pokes k z c.0 c.1 first.0 first.1 way)
-          (commits.same k z y way turn c.0 c.1 first.0 first.1)
+          (commits.same k z y way made c.0 c.1 first.0 first.1)
 
       -- ---- all cells at the end
 

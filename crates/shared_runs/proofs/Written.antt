@@ -79,9 +79,9 @@ module _ {X : Type 0} (a : ℕ) (b : X) (rs : List (Region X)) where
 
   -- it is there if a region has the address
   there_or_not : (d : X) (P : X → Type 0) → P b → P d → P (cell_at d (changed (written a 1 (λ _. b)) rs) a)
-  there_or_not d P yes no = ⊎_elim
-      (λ here. subst P (sym (there d here)) yes)
-      (λ none. subst P (sym (cell-uncovered (changed (written a 1 (λ _. b)) rs) a d (ap (λ es. is_covered es a) (extents-changed (written a 1 (λ _. b)) rs) ∙ none))) no)
+  there_or_not d P is none = ⊎_elim
+      (λ here. subst P (sym (there d here)) is)
+      (λ no. subst P (sym (cell-uncovered (changed (written a 1 (λ _. b)) rs) a d (ap (λ es. is_covered es a) (extents-changed (written a 1 (λ _. b)) rs) ∙ no))) none)
       (cases_Bool (is_covered (extents_of rs) a))
 
 small_written : (a b x c : ℕ) → b < 256 → c < 256 → written a 1 (λ _. b) x c < 256
