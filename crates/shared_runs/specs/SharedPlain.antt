@@ -1,8 +1,9 @@
 -- The program under a plan whose interrupts write shared data: its steps are counted in commits of the image, and before a stretch of
 -- steps begins, the cells of all commits that the stretch takes are written.
-use Rattle.std.specs.Prelude.{ℕ, ◌+◌, ◌-◌, ◌==◌, ◌&&◌, nat_le, nat_lt, if◌then◌else◌, is_some, List, [], filter, flat_map, Result, Ok}
+use Rattle.std.specs.Prelude.{ℕ, zero, suc, ◌+◌, ◌-◌, ◌==◌, if◌then◌else◌, List, [], ◌++◌, filter, flat_map, Result, Ok}
+use Rattle.std.specs.Option.{is_some}
 use Rattle.zc_base.specs.declared.place.Place.{Place}
-use Rattle.interrupt_plan.specs.SharedPlan.{SharedEntry}
+use Rattle.interrupt_plan.specs.SharedPlan.{SharedEntry, shared_at}
 use Rattle.rv_decode.specs.Run.{◌>>=◌, iterate}
 use Rattle.shared_cells.specs.SharedRun.{in_ranges}
 use Rattle.sym_machine.specs.declared.why.Why.{Why}
@@ -13,11 +14,14 @@ use Rattle.zc_link.specs.DataApart.{all_poked}
 use Rattle.zc_link.specs.Image.{Image}
 use Rattle.zc_link.specs.Pace.{Pace, lead_of}
 
--- the cells of the entries before the commits from `low` on, up to `high`, as far as they lie in the ranges, in order
-abbrev pub cells_between : List (ℕ × ℕ) → List SharedEntry → ℕ → ℕ → List (ℕ × ℕ)
-cells_between ranges plan low high =
-    filter (λ c. in_ranges ranges c.0)
-    (flat_map (λ e. e.cells) (filter (λ e. nat_le low e.entry.at && nat_lt e.entry.at high) plan))
+-- the cells of the entries before the commit with this number, as far as they lie in the ranges, in order
+abbrev pub cells_at : List (ℕ × ℕ) → List SharedEntry → ℕ → List (ℕ × ℕ)
+cells_at ranges plan k = filter (λ c. in_ranges ranges c.0) (flat_map (λ e. e.cells) (shared_at plan k))
+
+-- the cells before each of `count` commits, from commit k on, commit after commit
+abbrev pub cells_from : List (ℕ × ℕ) → List SharedEntry → ℕ → ℕ → List (ℕ × ℕ)
+cells_from ranges plan k zero = []
+cells_from ranges plan k (suc count) = cells_at ranges plan k ++ cells_from ranges plan (suc k) count
 
 -- a state of the program; the commits that its steps take, apart from a stretch that isn't over; and of that stretch the number of
 -- steps that are left, 0 outside one, and the commits after it
@@ -38,7 +42,7 @@ pub record Sharing : Type 0 where
 -- the first state: the cells of the commits before the program's start are written
 abbrev pub shared_start : Sharing → List ℕ → SharedState
 shared_start w input = let lead = lead_of w.program w.image in record {
-  plain = all_poked (cells_between w.ranges w.plan 0 lead) (record { core = first_plain w.program input; events = [] });
+  plain = all_poked (cells_from w.ranges w.plan 0 lead) (record { core = first_plain w.program input; events = [] });
   commits = lead;
   left = 0;
   after = lead;
@@ -46,11 +50,11 @@ shared_start w input = let lead = lead_of w.program w.image in record {
 
 -- a stretch begins: the cells of its commits are written
 abbrev pub stretch_begun : Sharing → SharedState → SharedState
-stretch_begun w s = let after = s.commits + w.pace.weight s.plain.core in record {
-  plain = all_poked (cells_between w.ranges w.plan s.commits after) s.plain;
+stretch_begun w s = let weight = w.pace.weight s.plain.core in record {
+  plain = all_poked (cells_from w.ranges w.plan s.commits weight) s.plain;
   commits = s.commits;
   left = w.pace.span s.plain.core.place;
-  after = after;
+  after = s.commits + weight;
 }
 
 -- the state after a step within a stretch: the last step takes all its commits

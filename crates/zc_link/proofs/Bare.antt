@@ -176,4 +176,7 @@ module _ {p : Program} {e : Image} (room : Room p e) where
     bares_no_access k z way = bare_here (on_way way)
 
     pub bare_apart : CommitsApart p From
-    bare_apart k z z' way turn a b cell small = (turned k z z' (on_way way) turn).apart a b cell
+    bare_apart = record {
+      running = λ k z way. (on_way way).going;
+      same = λ k z z' way turn a b cell small. (turned k z z' (on_way way) turn).apart a b cell;
+    }

@@ -293,8 +293,9 @@ module _ {p : Program} {e : Image} (room : Room p e) where
         omega (arith, within.0, same, under))
         ∙ ap (λ f. with_byte a b (all_dirtied c.dirt (done_of f c.done y))) (sym fetch)
 
-    pub group_commits_apart : CommitsApart p From
-    group_commits_apart k z z' way turn a b cell small =
+    group_commit_same :
+        (k : ℕ) (z z' : ZcState) → OnWay p From (suc k) z → zc_turn [] z ≡ Ok z' → (a b : ℕ) → IsCell p a → b < 256 → zc_turn [] (poked a b z) ≡ Ok (poked a b z')
+    group_commit_same k z z' way turn a b cell small =
         let y = z.core in
         let on = on_way way (omega arith) in
         let s = on.left.0 in
@@ -304,3 +305,6 @@ module _ {p : Program} {e : Image} (room : Room p e) where
         group_turn s (poked a b z) on.ready.going other at
         ∙ ap (λ f. committed (effect_step f (with_byte a b y)) (poked a b z)) (stands_with a b s at.size y t.left (sp_small y on.ready) (under_stack a cell) on.left.2 t.does)
         ∙ ap (λ (x : ZcState). Ok (poked a b x)) (sym t.is)
+
+    pub group_commits_apart : CommitsApart p From
+    group_commits_apart = record { running = λ k z way. (on_way way (omega arith)).ready.going; same = group_commit_same }

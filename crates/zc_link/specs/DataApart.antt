@@ -1,6 +1,6 @@
 -- What a simulation demands of interrupts and commits if others write cells of data between them: from one sound pair to the
 -- next, each does the same whatever data hold.
-use Rattle.std.specs.Prelude.{◌≡◌, ℕ, suc, ◌<◌, ◌≤◌, List, [], ◌∷◌, All, Ok}
+use Rattle.std.specs.Prelude.{◌≡◌, ℕ, suc, ◌<◌, ◌≤◌, List, [], ◌∷◌, All, None, Ok}
 use Rattle.zc_base.specs.declared.place.Place.{Place}
 use Rattle.interrupt_plan.specs.Plan.{Interrupt, IsInterrupt}
 use Rattle.rv_decode.specs.Memory.{changed, written}
@@ -62,8 +62,10 @@ CutsApart p From =
     (k : ℕ) (z : ZcState) → OnWay p From (suc k) z → (c : Interrupt) → IsInterrupt c → (a b : ℕ) → IsCell p a → b < 256
     → interrupted c (poked a b z).core ≡ (poked a b (record z { core = interrupted c z.core })).core
 
--- on the way each commit does the same whatever data hold, and so leaves data as they are
-abbrev pub CommitsApart : Program → (ℕ → ZcState → Type 0) → Type 0
-CommitsApart p From =
-    (k : ℕ) (z z' : ZcState) → OnWay p From (suc k) z → zc_turn [] z ≡ Ok z' → (a b : ℕ) → IsCell p a → b < 256
-    → zc_turn [] (poked a b z) ≡ Ok (poked a b z')
+-- on the way the machine hasn't exited, so only the last commit may be the exit; and each commit does the same whatever data
+-- hold, and so leaves data as they are
+pub record CommitsApart (p : Program) (From : ℕ → ZcState → Type 0) : Type 0 where
+  pub running : (k : ℕ) (z : ZcState) → OnWay p From (suc k) z → z.core.exit ≡ None
+  pub same :
+      (k : ℕ) (z z' : ZcState) → OnWay p From (suc k) z → zc_turn [] z ≡ Ok z' → (a b : ℕ) → IsCell p a → b < 256
+      → zc_turn [] (poked a b z) ≡ Ok (poked a b z')

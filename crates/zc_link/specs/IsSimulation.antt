@@ -48,7 +48,7 @@ pub record IsSimulation (p : Program) (Named : Place → Type 0) (e : Image) (pa
       (input : List ℕ) → All (λ b. b < 256) input → (cuts : ℕ → List Interrupt) → AreInterrupts cuts
       → Comes p Named e cuts (lead_of p e) (first_state (loaded_core e) input) (record { core = first_plain p input; events = [] })
   -- between sound pairs an interrupt does the same whatever data hold; so does each commit, if there are several steps or several
-  -- commits
+  -- commits, and then only the last may be the exit
   pub cuts_apart : (r : PlainState) → CutsApart p (FromPair p Named e pace r)
   pub commits_apart :
       (r : PlainState) → (1 < pace.span r.core.place) ⊎ (1 < pace.weight r.core) → CommitsApart p (FromPair p Named e pace r)

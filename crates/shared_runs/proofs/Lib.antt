@@ -1,0 +1,5 @@
+pub mod Regions
+pub mod Cells
+pub mod Written
+pub mod Turns
+pub mod Shares
