@@ -8,7 +8,8 @@ use Rattle.text_lines.specs.Lines.{lines_of, words_of}
 use Rattle.text_lines.specs.Number.{decimal_of, if_text_of}
 use Rattle.interrupt_plan.specs.Plan.{Entry, Interrupt}
 use Rattle.interrupt_plan.specs.SharedPlan.{SharedEntry}
-pub use Rattle.interrupt_plan.specs.Grammar.{FitsByte, access_of, access_word}
+pub use Rattle.interrupt_plan.specs.Grammar.{FitsByte, access_word}
+unfoldable pub use Rattle.interrupt_plan.specs.Grammar.{access_of}
 use Rattle.interrupt_plan.specs.Grammar.{Grammar, IsTextBy, entries_by}
 use Rattle.interrupt_plan.specs.Order.{IsInOrder}
 use Rattle.interrupt_plan.specs.declared.fault.PlanFault.{PlanFault}
