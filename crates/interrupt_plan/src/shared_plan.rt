@@ -20,8 +20,8 @@ impl Model for SharedCut {
     ghost Value = { SharedEntry };
 
     ghost view = { λ e. record {
-        entry = record { at = e.at; cut = record { done = e.done.items; dirt = e.dirt.items } };
-        cells = e.cells.items;
+      entry = record { at = e.at; cut = record { done = e.done.items; dirt = e.dirt.items } };
+      cells = e.cells.items;
     } };
 }
 
