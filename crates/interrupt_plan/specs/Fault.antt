@@ -2,7 +2,8 @@
 use Rattle.std.specs.Prelude.{◌≡◌, ◌≢◌, ℕ, ◌+◌, ◌<◌, List, [], ◌∷◌, ◌++◌, length, All, codes}
 use Rattle.interrupt_plan.specs.Plan.{Entry}
 use Rattle.interrupt_plan.specs.Order.{IsInOrder}
-use Rattle.interrupt_plan.specs.Text.{FitsEntry, entry_line, plan_text}
+use Rattle.interrupt_plan.specs.FaultBy.{IsFaultBy}
+use Rattle.interrupt_plan.specs.Text.{FitsEntry, entry_line, plan_text, shared_grammar}
 use Rattle.interrupt_plan.specs.declared.fault.PlanFault.{PlanFault}
 use Rattle.interrupt_plan.specs.declared.fault.PlanFault.TheVariants.{BadLine, OutOfMemory, OutOfOrder, TooLarge}
 
@@ -27,3 +28,7 @@ pub data IsPlanFault (text : List ℕ) : PlanFault → Type 0 where
   earlier : (before : List Entry) (e : Entry) (more : List ℕ) → BeginsAsPlan text before (entry_line e ++ 10 ∷ more) → FitsEntry e → IsEarlier before e → IsPlanFault text (OutOfOrder (length before + 2))
   large : 8388608 < length text → IsPlanFault text TooLarge
   memory : IsPlanFault text OutOfMemory
+
+-- the fault of a text of a plan with cells
+abbrev pub IsSharedFault : List ℕ → PlanFault → Type 0
+IsSharedFault = IsFaultBy shared_grammar

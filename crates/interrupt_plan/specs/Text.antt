@@ -1,5 +1,5 @@
 -- The text of a plan: the line `zcld plan 1`, and then a line for each interrupt. A line feed ends each line.
-use Rattle.std.specs.Prelude.{◌≡◌, ◌≤◌, ◌⊎◌, ℕ, ◌+◌, ◌^◌, ◌<◌, ◌&&◌, nat_lt, bytes_eq, if◌then◌else◌, List, [], ◌∷◌, ◌++◌, length, drop, map, flat_map, slice_range, All, codes, decimal, Option, Some, None, Result, Ok, Err}
+use Rattle.std.specs.Prelude.{true, ◌≡◌, ◌≤◌, ◌⊎◌, ℕ, ◌+◌, ◌^◌, ◌<◌, ◌&&◌, nat_lt, bytes_eq, if◌then◌else◌, List, [], ◌∷◌, ◌++◌, length, drop, map, flat_map, slice_range, All, codes, decimal, Option, Some, None, Result, Ok, Err}
 use Rattle.std.specs.List.{join_with_byte}
 use Rattle.std.specs.Option.{option_and_then, option_map}
 use Rattle.std.specs.Str.Parse.{digits_value}
@@ -7,15 +7,15 @@ use Rattle.text_lines.specs.Hex.{hex_byte, hex_word}
 use Rattle.text_lines.specs.Lines.{lines_of, words_of}
 use Rattle.text_lines.specs.Number.{decimal_of, if_text_of}
 use Rattle.interrupt_plan.specs.Plan.{Entry, Interrupt}
+use Rattle.interrupt_plan.specs.SharedPlan.{SharedEntry}
+pub use Rattle.interrupt_plan.specs.Grammar.{FitsByte, access_word}
+unfoldable pub use Rattle.interrupt_plan.specs.Grammar.{access_of}
+use Rattle.interrupt_plan.specs.Grammar.{Grammar, IsTextBy, entries_by}
 use Rattle.interrupt_plan.specs.Order.{IsInOrder}
 use Rattle.interrupt_plan.specs.declared.fault.PlanFault.{PlanFault}
 use Rattle.interrupt_plan.specs.declared.fault.PlanFault.TheVariants.{BadLine, OutOfMemory, OutOfOrder, TooLarge}
 
 -- ---- the text that spells a plan
-
--- an access: `a` and its number
-abbrev pub access_word : ℕ → List ℕ
-access_word n = codes "a" ++ decimal n
 
 -- a byte: `d`, its address, `:` and the byte
 abbrev pub dirt_word : ℕ × ℕ → List ℕ
@@ -35,10 +35,6 @@ entry_line e = join_with_byte 32 (entry_words e)
 unfoldable pub plan_text : List Entry → List ℕ
 plan_text plan = codes "zcld plan 1" ++ 10 ∷ flat_map (λ e. entry_line e ++ 10 ∷ []) plan
 
--- the numbers of a byte that is written fit their types
-abbrev pub FitsByte : ℕ × ℕ → Type 0
-FitsByte d = (d.0 < 2 ^ 32) × (d.1 < 256)
-
 abbrev pub FitsEntry : Entry → Type 0
 FitsEntry e = (e.at < 2 ^ 64) × All (λ n. n < 256) e.cut.done × All FitsByte e.cut.dirt
 
@@ -49,10 +45,6 @@ pub record IsPlanText (text : List ℕ) (plan : List Entry) : Type 0 where
   pub in_order : IsInOrder plan
 
 -- ---- the plan that a text spells
-
--- the access, or the byte with its address, that a word spells
-unfoldable pub access_of : List ℕ → Option ℕ
-access_of word = let n = digits_value 10 (drop 1 word) in if_text_of (nat_lt n 256) access_word n word
 
 unfoldable pub dirt_of : List ℕ → Option (ℕ × ℕ)
 dirt_of word =
@@ -129,3 +121,16 @@ plan_in text = if nat_lt 8388608 (length text) then Err TooLarge else entries_be
 abbrev pub ReadsEachPlan : List ℕ → Result (List Entry) PlanFault → Type 0
 ReadsEachPlan text result =
     (plan : List Entry) → IsPlanText text plan → length text ≤ 8388608 → (result ≡ Ok plan) ⊎ (result ≡ Err OutOfMemory)
+
+-- ---- texts with cells
+
+abbrev pub shared_grammar : Grammar
+shared_grammar = record { title = codes "zcld shared 1"; cells = true }
+
+-- the text spells this plan with cells, whose numbers fit their types and which is in order
+abbrev pub IsSharedText : List ℕ → List SharedEntry → Type 0
+IsSharedText = IsTextBy shared_grammar
+
+-- the plan with cells that a text spells, or the first fault in it
+abbrev pub shared_in : List ℕ → Result (List SharedEntry) PlanFault
+shared_in = entries_by shared_grammar

@@ -6,4 +6,6 @@ mod line;
 pub mod make_plan;
 pub mod plan;
 pub mod read_plan;
+pub mod read_shared;
+pub mod shared_plan;
 mod word;
