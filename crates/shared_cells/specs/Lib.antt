@@ -1,1 +1,2 @@
 pub mod SharedRun
+pub mod Ascending

@@ -6,9 +6,13 @@ use Rattle.rv_decode.specs.State.{ZcCore}
 use Rattle.zc_machine.specs.Interrupt.{interrupted}
 use Rattle.zc_machine.specs.Poked.{poked_core}
 
--- an address lies in one of these ranges, each a first address and a size
+-- an address lies in this range, a first address and a size
+abbrev pub in_range : ℕ × ℕ → ℕ → Bool
+in_range r a = nat_le r.0 a && nat_lt a (r.0 + r.1)
+
+-- an address lies in one of these ranges
 abbrev pub in_ranges : List (ℕ × ℕ) → ℕ → Bool
-in_ranges ranges a = list_any (λ r. nat_le r.0 a && nat_lt a (r.0 + r.1)) ranges
+in_ranges ranges a = list_any (λ r. in_range r a) ranges
 
 -- the state after a cell was written if it lies in one of the ranges; otherwise it is passed over
 abbrev pub cell_written : List (ℕ × ℕ) → ℕ × ℕ → ZcCore → ZcCore

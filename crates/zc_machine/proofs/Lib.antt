@@ -14,5 +14,6 @@ pub mod StepLaws
 pub mod FrameLaws
 pub mod TurnLaws
 pub mod OutputLaws
+pub mod ScheduleLaws
 pub mod RunLaws
 pub mod CountLaws

@@ -122,6 +122,9 @@ part_reached access.Data Stack a cells fits small = refl
 part_reached access.Interrupt Text a cells fits small = absurd cc
 part_reached access.Interrupt Data a cells fits small = absurd cc
 part_reached access.Interrupt Stack a cells fits small = refl
+part_reached access.Poke Text a cells fits small = absurd cc
+part_reached access.Poke Data a cells fits small = refl
+part_reached access.Poke Stack a cells fits small = absurd cc
 
 -- an access reaches the rest of the region, as far as it may reach at once
 reached :
@@ -277,6 +280,9 @@ writes_data access.Data kind none is = is
 writes_data access.Interrupt Text none is = absurd cc
 writes_data access.Interrupt Data none is = absurd cc
 writes_data access.Interrupt Stack none is = refl
+writes_data access.Poke Text none is = absurd cc
+writes_data access.Poke Data none is = refl
+writes_data access.Poke Stack none is = absurd cc
 
 -- ---- changes that are the same
 

@@ -14,7 +14,7 @@ use Rattle.zc_machine.specs.declared.answer.Step.{Step}
 use Rattle.zc_machine.specs.declared.answer.Step.TheVariants as answer
 use Rattle.zc_machine.specs.declared.reason.Reason.{Reason}
 use Rattle.zc_machine.specs.declared.run.RunEnd.TheVariants as end
-use Rattle.zc_machine.specs.Advance.{CameToCommit, RunsToMachine}
+use Rattle.zc_machine.specs.Advance.{AdvancesTo, CommitsTo}
 use Rattle.zc_machine.specs.Answer.{answer_of, core_after, exited, has_read, has_written}
 use Rattle.zc_machine.specs.Buffer.{bytes_at}
 use Rattle.zc_machine.specs.Run.{committed, first_state, machine_after, turn}
@@ -67,6 +67,12 @@ committed_step z (Wants c) h e = absurd cc
 committed_step z (Ended status) h e = absurd cc
 committed_step z (Stopped reason) h e = absurd cc
 
+pub commits_to : (z z2 : ZcCore) (s : ZcStep) → answer.Committed ≡ answer_of s → z2 ≡ core_after s z → s ≡ Committed z2
+commits_to z z2 (Committed z') answers is = ap Committed (sym is)
+commits_to z z2 (Wants c) answers is = absurd cc
+commits_to z z2 (Ended status) answers is = absurd cc
+commits_to z z2 (Stopped reason) answers is = absurd cc
+
 -- ---- how far a run has come
 
 machine_after-none : (first : ZcCore) (input : List ℕ) (happens : ℕ → ZcCore → ZcCore) → machine_after first input happens 0 ≡ Ok (first_state first input)
@@ -102,83 +108,6 @@ pub record Happened (happens : ℕ → ZcCore → ZcCore) (z z' : ZcCore) : Type
   pub made : z' ≡ happens z.commits z
   pub commits : z'.commits ≡ z.commits
   pub exit : z'.exit ≡ z.exit
-
-pub happened :
-    {made happens : ℕ → ZcCore → ZcCore} {z z' : ZcCore} → made ≡ happens → z' ≡ made z.commits z → z'.commits ≡ z.commits → z'.exit ≡ z.exit → Happened happens z z'
-happened {z = z} same here commits exit = record { made = here ∙ ap (λ h. h z.commits z) same; commits = commits; exit = exit }
-
--- ---- commits alone
-
--- a machine comes to itself
-pub RunsTo-refl : (happens : ℕ → ZcCore → ZcCore) (z : ZcCore) → RunsToMachine happens z z
-RunsTo-refl happens z = record { exit = refl; on = omega arith; runs = λ first input left events so_far. so_far }
-
--- one commit more, from wherever a run came to
-pub RunsTo-more :
-    (happens : ℕ → ZcCore → ZcCore) (z0 z z' z2 : ZcCore) → z0.exit ≡ None → RunsToMachine happens z0 z → Happened happens z z' → answer.Committed ≡ answer_of (zc_step z')
-    → z2 ≡ core_after (zc_step z') z' → RunsToMachine happens z0 z2 × (z2.commits ≡ z.commits + 1)
-unfolding machine_after
-RunsTo-more happens z0 z z' z2 running so_far had answers is =
-    let q = committed_step z' (zc_step z') (step_shows z') answers in
-    let counts : z2.commits ≡ z.commits + 1 = ap (λ y. y.commits) is ∙ q.counts ∙ ap (λ k. k + 1) had.commits in (
-      record {
-        exit = ap (λ y. y.exit) is ∙ q.exit ∙ had.exit ∙ so_far.exit;
-        on = omega (arith, counts, so_far.on);
-        runs = λ first input left events came.
-            let here : ZcState = record { core = z; input = left; events = events } in
-            let turned : turn (happens z.commits) here ≡ Ok (record { core = z2; input = left; events = events }) =
-            turn-running (happens z.commits) here (so_far.exit ∙ running)
-            ∙ sym (ap (λ y. committed (zc_step y) (record { core = y; input = left; events = events })) had.made)
-            ∙ q.made (record { core = z'; input = left; events = events })
-            ∙ sym (ap (λ y. Ok (record { core = y; input = left; events = events })) is) in
-            ap (machine_after first input happens) counts
-            ∙ turns-more happens z.commits (first_state first input) here (record { core = z2; input = left; events = events }) (so_far.runs first input left events came) turned;
-      },
-      counts,
-    )
-
--- a run that has come to a machine comes to where that comes by commits alone, and has written no more
-pub Came-on :
-    (first : ZcCore) (input : List ℕ) (happens : ℕ → ZcCore → ZcCore) (z z2 : ZcCore) (left : List ℕ) (before now : Desk) → Came first input happens z left before now
-    → RunsToMachine happens z z2 → Came first input happens z2 left before now
-Came-on first input happens z z2 left before now came on = record {
-  events = came.events;
-  so_far = on.runs first input left came.events came.so_far;
-  running = on.exit ∙ came.running;
-  wrote = came.wrote;
-  only = came.only;
-}
-
--- what a run of commits says of its last step
-pub record Stepped (first : ZcCore) (input : List ℕ) (happens : ℕ → ZcCore → ZcCore) (z z2 : ZcCore) (left : List ℕ) (before now : Desk) (k steps : ℕ) (step : Step) : Type 0 where
-  pub last : ZcCore
-  pub acted : ZcCore
-  pub came : Came first input happens last left before now
-  pub had : Happened happens last acted
-  pub count : last.commits ≡ k
-  pub on : z.commits ≤ last.commits
-  pub within : last.commits < steps
-  pub answers : step ≡ answer_of (zc_step acted)
-  pub left_as : z2 ≡ core_after (zc_step acted) acted
-  pub all : step ≡ answer.Committed → steps ≤ z2.commits
-
-pub stepped :
-    {first : ZcCore} {input : List ℕ} {made happens : ℕ → ZcCore → ZcCore} {z z2 : ZcCore} {left : List ℕ} {before now : Desk} {k steps : ℕ} {step : Step} → made ≡ happens
-    → Came first input happens z left before now → CameToCommit made z z2 k steps step → Stepped first input happens z z2 left before now k steps step
-stepped {first = first} {input = input} {happens = happens} {z = z} {z2 = z2} {left = left} {before = before} {now = now} {k = k} {steps = steps} {step = step} same came by =
-    let adv : CameToCommit happens z z2 k steps step = subst (λ h. CameToCommit h z z2 k steps step) same by in
-    record {
-      last = adv.last;
-      acted = adv.acted;
-      came = Came-on first input happens z adv.last left before now came adv.runs;
-      had = record { made = adv.made ∙ ap (λ n. happens n adv.last) (sym adv.count); commits = adv.commits ∙ sym adv.count; exit = adv.exit };
-      count = adv.count;
-      on = adv.runs.on;
-      within = subst (λ n. n < steps) (sym adv.count) adv.within;
-      answers = adv.answers;
-      left_as = adv.left;
-      all = adv.all;
-    }
 
 -- ---- a turn from there, where what happens leads to z'
 
@@ -305,6 +234,72 @@ module _
           wrote = part;
           cause = WriteCause-after before now desk fault came.only cause;
         }
+
+-- ---- commits alone
+
+-- the run has come to a machine, from this commit on, and what happens before its next commit leads to z2
+record Stands (first : ZcCore) (input : List ℕ) (happens : ℕ → ZcCore → ZcCore) (from : ℕ) (z2 : ZcCore) (left : List ℕ) (before now : Desk) : Type 0 where
+  last : ZcCore
+  came : Came first input happens last left before now
+  had : Happened happens last z2
+  on : from ≤ last.commits
+
+-- commits between which nothing happens lead a run on
+stands_on :
+    {first : ZcCore} {input : List ℕ} {happens : ℕ → ZcCore → ZcCore} {z z' : ZcCore} {left : List ℕ} {before now : Desk} (until : ℕ) → Came first input happens z left before now
+    → Happened happens z z' → ((k : ℕ) (y : ZcCore) → z.commits < k → k < until → happens k y ≡ y) → (n : ℕ) (last : ZcCore) → CommitsTo n z' last → last.commits < until
+    → Stands first input happens z.commits last left before now
+stands_on {happens = happens} {z = z} until came had quiet zero last made within = record {
+  last = z;
+  came = came;
+  had = subst (Happened happens z) (sym made) had;
+  on = omega arith;
+}
+stands_on {first = first} {input = input} {happens = happens} {z = z} {left = left} {before = before} {now = now} until came had quiet (suc n) last (y, (some, step)) within =
+    let counts = (subst (λ s. Shows y s) step (step_shows y)).0 in
+    let so_far : Stands first input happens z.commits y left before now = stands_on until came had quiet n y some (omega (arith, counts)) in
+    let next = committed_next so_far.came so_far.had last (sym (ap answer_of step)) (sym (ap (λ s. core_after s y) step)) in
+    record {
+      last = last;
+      came = next.came;
+      had = record { made = sym (quiet last.commits last (omega (arith, next.counts, so_far.on)) within); commits = refl; exit = refl };
+      on = omega (arith, next.counts, so_far.on);
+    }
+
+-- what a turn of the run's loop says of its last step: `later` is what is still to happen
+pub record Stepped (first : ZcCore) (input : List ℕ) (happens later : ℕ → ZcCore → ZcCore) (z2 : ZcCore) (left : List ℕ) (before now : Desk) (from until : ℕ) (step : Step) : Type 0 where
+  pub last : ZcCore
+  pub acted : ZcCore
+  pub came : Came first input happens last left before now
+  pub had : Happened happens last acted
+  pub on : from ≤ last.commits
+  pub within : last.commits < until
+  pub answers : step ≡ answer_of (zc_step acted)
+  pub left_as : z2 ≡ core_after (zc_step acted) acted
+  pub all : step ≡ answer.Committed → z2.commits ≡ until
+  pub goes_on : (k : ℕ) → last.commits < k → later k ≡ happens k
+
+pub stepped :
+    {first : ZcCore} {input : List ℕ} {happens made later : ℕ → ZcCore → ZcCore} {z z' z2 : ZcCore} {left : List ℕ} {before now : Desk} {next until : ℕ} {step : Step}
+    → Came first input happens z left before now → ((k : ℕ) → z.commits ≤ k → made k ≡ happens k) → z' ≡ made z.commits z → z'.commits ≡ z.commits → z'.exit ≡ z.exit
+    → ((k : ℕ) → z.commits < k → later k ≡ made k) → ((k : ℕ) (y : ZcCore) → k < next → later k y ≡ y) → until ≤ next → AdvancesTo z' z2 until step
+    → Stepped first input happens later z2 left before now z.commits until step
+stepped {happens = happens} {later = later} {z = z} {next = next} {until = until} came same here commits exit after none few adv =
+    let goes_on : (k : ℕ) → z.commits < k → later k ≡ happens k = λ k lt. after k lt ∙ same k (omega arith) in
+    let had : Happened happens z z' = record { made = here ∙ ap (λ h. h z) (same z.commits (omega arith)); commits = commits; exit = exit } in
+    let s = stands_on until came had (λ k y lt below. sym (ap (λ h. h y) (goes_on k lt)) ∙ none k y (omega arith)) adv.count adv.last adv.commits adv.within in
+    record {
+      last = s.last;
+      acted = adv.last;
+      came = s.came;
+      had = s.had;
+      on = s.on;
+      within = omega (arith, s.had.commits, adv.within);
+      answers = adv.answers;
+      left_as = adv.left;
+      all = adv.all;
+      goes_on = λ k lt. goes_on k (omega (arith, s.on));
+    }
 
 -- all steps were made
 pub spent_ran :

@@ -1,32 +1,23 @@
--- How far a machine comes by commits alone.
-use Rattle.std.specs.Prelude.{◌≡◌, ℕ, ◌<◌, ◌≤◌, List, Ok}
-use Rattle.rv_decode.specs.State.{Event, ZcCore}
+-- How far a machine comes by its own steps.
+use Rattle.std.specs.Prelude.{◌≡◌, ℕ, zero, suc, ◌<◌}
+use Rattle.rv_decode.specs.State.{ZcCore}
 use Rattle.zc_machine.specs.Answer.{answer_of, core_after}
-use Rattle.zc_machine.specs.Run.{machine_after}
-use Rattle.zc_machine.specs.Step.{zc_step}
+use Rattle.zc_machine.specs.Step.{Committed, zc_step}
 use Rattle.zc_machine.specs.declared.answer.Step.{Step}
 use Rattle.zc_machine.specs.declared.answer.Step.TheVariants as answer
 
--- whenever a run has come to machine z, it comes to z2 and makes no environment call in between
-pub record RunsToMachine (happens : ℕ → ZcCore → ZcCore) (z z2 : ZcCore) : Type 0 where
-  pub exit : z2.exit ≡ z.exit
-  pub on : z.commits ≤ z2.commits
-  pub runs : (first : ZcCore) (input left : List ℕ) (events : List Event)
-      → machine_after first input happens z.commits ≡ Ok (record { core = z; input = left; events = events })
-      → machine_after first input happens z2.commits ≡ Ok (record { core = z2; input = left; events = events })
+-- n steps lead from machine z to z2, and each of them is a commit
+abbrev pub CommitsTo : ℕ → ZcCore → ZcCore → Type 0
+CommitsTo zero z z2 = z2 ≡ z
+CommitsTo (suc n) z z2 = (y : ZcCore) × CommitsTo n z y × (zc_step y ≡ Committed z2)
 
--- the machine came to its commit with number k, counted from 0, which is one of the first `steps`, and made the step there, after
--- what happens before it: this is the step's answer, and how it left the machine; if it committed, that was the last of the
--- `steps` commits
-pub record CameToCommit (happens : ℕ → ZcCore → ZcCore) (z z2 : ZcCore) (k steps : ℕ) (given : Step) : Type 0 where
+-- machine z came to z2 by steps, until it had made `until` commits, or up to the first step that is no commit: this is the last
+-- step's answer
+pub record AdvancesTo (z z2 : ZcCore) (until : ℕ) (given : Step) : Type 0 where
+  pub count : ℕ
   pub last : ZcCore
-  pub runs : RunsToMachine happens z last
-  pub count : last.commits ≡ k
-  pub within : k < steps
-  pub acted : ZcCore
-  pub made : acted ≡ happens k last
-  pub commits : acted.commits ≡ k
-  pub exit : acted.exit ≡ last.exit
-  pub answers : given ≡ answer_of (zc_step acted)
-  pub left : z2 ≡ core_after (zc_step acted) acted
-  pub all : given ≡ answer.Committed → steps ≤ z2.commits
+  pub commits : CommitsTo count z last
+  pub within : last.commits < until
+  pub answers : given ≡ answer_of (zc_step last)
+  pub left : z2 ≡ core_after (zc_step last) last
+  pub all : given ≡ answer.Committed → z2.commits ≡ until

@@ -11,7 +11,7 @@ pub mod Answer
 pub mod Buffer
 pub mod Interrupt
 pub mod Poked
-pub mod Cursor
+pub mod Schedule
 pub mod Run
 pub mod Advance
 pub mod RunEnd

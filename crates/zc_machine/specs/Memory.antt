@@ -22,6 +22,7 @@ abbrev pub most_at_once : AccessKind → ℕ → ℕ
 most_at_once access.Fetch a = 2 ^ 32
 most_at_once access.Data a = 4096 - a % 4096
 most_at_once access.Interrupt a = 4096 - a % 4096
+most_at_once access.Poke a = 4096 - a % 4096
 
 -- these are the cells from an address on that such an access reaches at once: as many as lie in one region, and no more than
 -- that

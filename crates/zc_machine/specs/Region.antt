@@ -1,6 +1,7 @@
 -- The regions of an image's memory, and what reaches them.
 use Rattle.std.specs.Prelude.{ℕ, ◌-◌, ◌%◌, ◌&&◌, Bool, List, take}
 use Rattle.rv_decode.specs.Memory.{Kind, Region, Text, Data, Stack, extent_of, is_data, is_stack, is_text, spans}
+use Rattle.zc_machine.specs.Poked.{is_segment}
 use Rattle.zc_machine.specs.declared.region.AccessKind.{AccessKind}
 use Rattle.zc_machine.specs.declared.region.AccessKind.TheVariants as access
 use Rattle.zc_machine.specs.declared.region.RegionKind.{RegionKind}
@@ -12,11 +13,13 @@ kind_of_region region.Text = Text
 kind_of_region region.Data = Data
 kind_of_region region.Stack = Stack
 
--- an instruction is fetched from code, data are loaded and stored in data and stack, and an interrupt writes to the stack
+-- an instruction is fetched from code, data are loaded and stored in data and stack, an interrupt writes to the stack, and what is
+-- written from outside goes to segments of data
 abbrev pub allowed : AccessKind → Kind → Bool
 allowed access.Fetch = is_text
 allowed access.Data = is_data
 allowed access.Interrupt = is_stack
+allowed access.Poke = is_segment
 
 -- whether the cell at an address lies in a region, and the region is one of code
 abbrev pub has_code : Region ℕ → ℕ → Bool

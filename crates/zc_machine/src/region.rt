@@ -24,12 +24,13 @@ pub enum RegionKind {
 }
 
 /// What reaches memory: the fetch of an instruction or of an entry of the jump table, a load, a store
-/// or a call's buffer, or an interrupt that writes.
+/// or a call's buffer, an interrupt that writes, or a write from outside to a segment of data.
 #[derive(Clone, Copy)]
 pub enum AccessKind {
     Fetch,
     Data,
     Interrupt,
+    Poke,
 }
 
 impl RegionKind {
@@ -49,6 +50,10 @@ impl RegionKind {
             AccessKind::Interrupt => match self {
                 RegionKind::Stack => true,
                 RegionKind::Text | RegionKind::Data => false,
+            },
+            AccessKind::Poke => match self {
+                RegionKind::Data => true,
+                RegionKind::Text | RegionKind::Stack => false,
             },
         }
     }

@@ -1,7 +1,7 @@
 // Runs of the machine.
 
-ghost use Rattle.std.specs.Prelude.{◌≡◌, ℕ, ◌+◌, ◌<◌, None};
-ghost use Rattle.zc_machine.specs.Advance.{CameToCommit};
+ghost use Rattle.std.specs.Prelude.{◌≡◌, ◌<◌, None};
+ghost use Rattle.zc_machine.specs.Advance.{AdvancesTo};
 ghost use Rattle.zc_machine.specs.Run.{interrupts_by};
 ghost use Rattle.zc_machine.specs.RunEnd.{Ran, course_of, zc_course};
 ghost use Rattle.zc_outside.specs.Desk.{OnlyWrites};
@@ -10,8 +10,8 @@ use crate::answer::{EnvCall, Step};
 use crate::between::BetweenCommits;
 use crate::machine::Machine;
 use crate::output::write;
-use crate::plan_cursor::PlanCursor;
 use crate::reason::Reason;
+use crate::schedule_cursor::ScheduleCursor;
 use interrupt_plan::plan::Plan;
 use zc_outside::console::{Console, ConsoleFault};
 
@@ -41,7 +41,7 @@ pub fn run<C: Console>(
         (C.shown console.old) (C.shown console.new) }
     ensures writes { OnlyWrites (C.shown console.old) (C.shown console.new) }
 {
-    run_with(machine, PlanCursor::new(plan), input, steps, console)
+    run_with(machine, ScheduleCursor::new(plan), input, steps, console)
 }
 
 /// Runs a machine as `run` does, with whatever happens between its commits.
@@ -54,14 +54,14 @@ pub fn run_with<B: BetweenCommits + Drop, C: Console>(
 ) -> RunEnd
     requires running { machine.old.exit ≡ None }
     requires start { machine.old.commits ≡ 0 }
-    requires first { B.HasComeTo between 0 }
     ensures ran { Ran (B.happens between) (course_of machine.old input.now (B.happens between) steps) result
         machine.new (C.shown console.old) (C.shown console.new) }
     ensures writes { OnlyWrites (C.shown console.old) (C.shown console.new) }
 {
     let mut left = input;
     while machine.commits() < steps {
-        match advance(machine, &mut between, steps) {
+        between.act_on(machine);
+        match advance(machine, between.next_commit().min(steps)) {
             Step::Committed => {}
             Step::Wants(EnvCall::Read { len, .. }) => {
                 let (front, rest) = left.split_at((len as usize).min(left.len()));
@@ -85,22 +85,17 @@ pub fn run_with<B: BetweenCommits + Drop, C: Console>(
     RunEnd::Spent
 }
 
-// Makes steps until `steps` instructions were committed, or up to one that answers something else. A program has this
-// loop once, whatever consoles it runs machines with.
+// Makes steps until the machine has made `until` commits, or up to one that answers something else. A program has
+// this loop once, whatever consoles its runs write to, and whatever happens between their commits.
 #[inline(never)]
-fn advance<B: BetweenCommits>(machine: &mut Machine, between: &mut B, steps: u64) -> Step
-    requires running { machine.old.exit ≡ None }
-    requires below { machine.old.commits < steps }
-    requires at { B.HasComeTo between.old machine.old.commits }
-    ensures advanced { (k : ℕ) × CameToCommit (B.happens between.old) machine.old machine.new k steps result
-        × B.HasComeTo between.new (k + 1) }
-    ensures same { B.happens between.new ≡ B.happens between.old }
+fn advance(machine: &mut Machine, until: u64) -> Step
+    requires { machine.old.commits < until }
+    ensures { AdvancesTo machine.old machine.new until result }
 {
     loop {
-        between.act_on(machine);
         match machine.step() {
             Step::Committed => {
-                if machine.commits() >= steps {
+                if machine.commits() >= until {
                     return Step::Committed;
                 }
             }

@@ -1,4 +1,4 @@
-// Interrupts.
+// Interrupts, and data that are written from outside.
 
 ghost use Rattle.std.specs.Prelude.{◌≡◌, ◌<◌, IfSome, slice_get};
 ghost use Rattle.std.specs.Option.{option_map};
@@ -6,6 +6,7 @@ ghost use Rattle.rv_decode.specs.State.{reg_in};
 ghost use Rattle.zc_decode.specs.Accesses.{accesses_of, words_below};
 ghost use Rattle.zc_decode.specs.Lists.{registers_of};
 ghost use Rattle.zc_machine.specs.Interrupt.{dirtied, done_all, done_one, interrupted};
+ghost use Rattle.zc_machine.specs.Poked.{poked_core};
 
 use super::Machine;
 use crate::region::AccessKind;
@@ -26,6 +27,13 @@ impl Machine {
         for (a, b) in dirt {
             self.dirty(*a, *b);
         }
+    }
+
+    /// Writes a byte between two commits, if the address lies in a segment of data.
+    pub fn poke(&mut self, at: u32, byte: u8)
+        ensures { self.new ≡ poked_core (at, byte) self.old }
+    {
+        self.memory.write(AccessKind::Poke, at, &[byte]);
     }
 
     // Makes the accesses with these numbers of the instruction that stands at pc.

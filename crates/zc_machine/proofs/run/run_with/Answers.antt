@@ -15,8 +15,8 @@ loop-left-init g c =
     let start = c.requires.start in
     record {
       within = omega arith;
-      at = subst (g.B.BetweenCommits.HasComeTo c.args.between) (sym start) c.requires.first;
-      same = refl;
+      not_past = omega arith;
+      goes_on = λ k le. refl;
       came = Came-start c.args.machine.now c.args.input.now _ _ c.requires.running start;
     }
 
@@ -24,23 +24,23 @@ loop-left-init g c =
 
 pub loop-left-smaller-in-Committed : goal.loop-left-smaller-in-Committed
 loop-left-smaller-in-Committed g c =
-    let s = stepped c.loop-left.invariant.same c.loop-left.invariant.came c.advance.ensures.advanced.1 in
+    let s = stepped c.loop-left.invariant.came c.loop-left.invariant.goes_on c.act_on.ensures.made c.act_on.ensures.commits c.act_on.ensures.exit c.act_on.ensures.goes_on c.next_commit.ensures.none_before (omega arith) c.advance.ensures in
     let next = committed_next s.came s.had c.advance.new.machine (cc s.answers) s.left_as in
     let counts = next.counts in
     omega arith
 
 pub loop-left-preserved-in-Committed : goal.loop-left-preserved-in-Committed
 loop-left-preserved-in-Committed g c =
-    let s = stepped c.loop-left.invariant.same c.loop-left.invariant.came c.advance.ensures.advanced.1 in
+    let s = stepped c.loop-left.invariant.came c.loop-left.invariant.goes_on c.act_on.ensures.made c.act_on.ensures.commits c.act_on.ensures.exit c.act_on.ensures.goes_on c.next_commit.ensures.none_before (omega arith) c.advance.ensures in
     let next = committed_next s.came s.had c.advance.new.machine (cc s.answers) s.left_as in
     let counts = next.counts in
-    record { within = omega arith; at = subst (g.B.BetweenCommits.HasComeTo c.advance.new.between) (sym (counts ∙ ap (λ k. k + 1) s.count)) c.advance.ensures.advanced.2; same = c.advance.ensures.same ∙ c.loop-left.invariant.same; came = next.came }
+    record { within = omega arith; not_past = omega arith; goes_on = λ k le. s.goes_on k (omega arith); came = next.came }
 
 -- ---- a read
 
 pub answer_read-requires-clause-room : goal.answer_read-requires-clause-room
 answer_read-requires-clause-room g c =
-    let s = stepped c.loop-left.invariant.same c.loop-left.invariant.came c.advance.ensures.advanced.1 in
+    let s = stepped c.loop-left.invariant.came c.loop-left.invariant.goes_on c.act_on.ensures.made c.act_on.ensures.commits c.act_on.ensures.exit c.act_on.ensures.goes_on c.next_commit.ensures.none_before (omega arith) c.advance.ensures in
     let w = c.in-Wants-Read in
     let asks = wanted s.acted c.advance.new.machine (Read w.field-0-0 w.len) (cc s.answers) s.left_as in
     let same = ap (λ (y : ZcCore). y.commits) asks.stays ∙ s.had.commits in
@@ -48,7 +48,7 @@ answer_read-requires-clause-room g c =
 
 pub loop-left-smaller-in-Wants-Read : goal.loop-left-smaller-in-Wants-Read
 loop-left-smaller-in-Wants-Read g c =
-    let s = stepped c.loop-left.invariant.same c.loop-left.invariant.came c.advance.ensures.advanced.1 in
+    let s = stepped c.loop-left.invariant.came c.loop-left.invariant.goes_on c.act_on.ensures.made c.act_on.ensures.commits c.act_on.ensures.exit c.act_on.ensures.goes_on c.next_commit.ensures.none_before (omega arith) c.advance.ensures in
     let w = c.in-Wants-Read in
     let asks = wanted s.acted c.advance.new.machine (Read w.field-0-0 w.len) (cc s.answers) s.left_as in
     let same = ap (λ (y : ZcCore). y.commits) asks.stays ∙ s.had.commits in
@@ -57,7 +57,7 @@ loop-left-smaller-in-Wants-Read g c =
 
 pub loop-left-preserved-in-Wants-Read : goal.loop-left-preserved-in-Wants-Read
 loop-left-preserved-in-Wants-Read g c =
-    let s = stepped c.loop-left.invariant.same c.loop-left.invariant.came c.advance.ensures.advanced.1 in
+    let s = stepped c.loop-left.invariant.came c.loop-left.invariant.goes_on c.act_on.ensures.made c.act_on.ensures.commits c.act_on.ensures.exit c.act_on.ensures.goes_on c.next_commit.ensures.none_before (omega arith) c.advance.ensures in
     let w = c.in-Wants-Read in
     let left = c.loop-left.left.now in
     let front = c.split_at.result.0.now in
@@ -68,27 +68,27 @@ loop-left-preserved-in-Wants-Read g c =
     read_next s.came s.had c.answer_read.new.self w.field-0-0 w.len front _ asks.wants first others
     (c.answer_read.ensures ∙ ap (has_read front) asks.stays) in
     let counts = next.counts in
-    record { within = omega arith; at = subst (g.B.BetweenCommits.HasComeTo c.advance.new.between) (sym (counts ∙ ap (λ k. k + 1) s.count)) c.advance.ensures.advanced.2; same = c.advance.ensures.same ∙ c.loop-left.invariant.same; came = next.came }
+    record { within = omega arith; not_past = omega arith; goes_on = λ k le. s.goes_on k (omega arith); came = next.came }
 
 -- ---- a write
 
 pub write-requires-clause-stream : goal.write-requires-clause-stream
 write-requires-clause-stream g c =
-    let s = stepped c.loop-left.invariant.same c.loop-left.invariant.came c.advance.ensures.advanced.1 in
+    let s = stepped c.loop-left.invariant.came c.loop-left.invariant.goes_on c.act_on.ensures.made c.act_on.ensures.commits c.act_on.ensures.exit c.act_on.ensures.goes_on c.next_commit.ensures.none_before (omega arith) c.advance.ensures in
     let w = c.in-Wants-Write in
     let asks = wanted s.acted c.advance.new.machine (Write w.fd w.at w.len) (cc s.answers) s.left_as in
     (write_shows s.acted w.fd w.at w.len asks.wants).3
 
 pub write-requires-clause-memory : goal.write-requires-clause-memory
 write-requires-clause-memory g c =
-    let s = stepped c.loop-left.invariant.same c.loop-left.invariant.came c.advance.ensures.advanced.1 in
+    let s = stepped c.loop-left.invariant.came c.loop-left.invariant.goes_on c.act_on.ensures.made c.act_on.ensures.commits c.act_on.ensures.exit c.act_on.ensures.goes_on c.next_commit.ensures.none_before (omega arith) c.advance.ensures in
     let w = c.in-Wants-Write in
     let asks = wanted s.acted c.advance.new.machine (Write w.fd w.at w.len) (cc s.answers) s.left_as in
     subst (λ (y : ZcCore). InMemory y w.at w.len) (sym asks.stays) (write_shows s.acted w.fd w.at w.len asks.wants).2
 
 pub returns-in-Err-clause-ran : goal.returns-in-Err-clause-ran
 returns-in-Err-clause-ran g c =
-    let s = stepped c.loop-left.invariant.same c.loop-left.invariant.came c.advance.ensures.advanced.1 in
+    let s = stepped c.loop-left.invariant.came c.loop-left.invariant.goes_on c.act_on.ensures.made c.act_on.ensures.commits c.act_on.ensures.exit c.act_on.ensures.goes_on c.next_commit.ensures.none_before (omega arith) c.advance.ensures in
     let w = c.in-Wants-Write in
     let asks = wanted s.acted c.advance.new.machine (Write w.fd w.at w.len) (cc s.answers) s.left_as in
     let now = g.C.Console.shown c.loop-left.console in
@@ -98,7 +98,7 @@ returns-in-Err-clause-ran g c =
 
 pub answer_write-requires-clause-room : goal.answer_write-requires-clause-room
 answer_write-requires-clause-room g c =
-    let s = stepped c.loop-left.invariant.same c.loop-left.invariant.came c.advance.ensures.advanced.1 in
+    let s = stepped c.loop-left.invariant.came c.loop-left.invariant.goes_on c.act_on.ensures.made c.act_on.ensures.commits c.act_on.ensures.exit c.act_on.ensures.goes_on c.next_commit.ensures.none_before (omega arith) c.advance.ensures in
     let w = c.in-Wants-Write in
     let asks = wanted s.acted c.advance.new.machine (Write w.fd w.at w.len) (cc s.answers) s.left_as in
     let same = ap (λ (y : ZcCore). y.commits) asks.stays ∙ s.had.commits in
@@ -106,7 +106,7 @@ answer_write-requires-clause-room g c =
 
 pub loop-left-smaller : goal.loop-left-smaller
 loop-left-smaller g c =
-    let s = stepped c.loop-left.invariant.same c.loop-left.invariant.came c.advance.ensures.advanced.1 in
+    let s = stepped c.loop-left.invariant.came c.loop-left.invariant.goes_on c.act_on.ensures.made c.act_on.ensures.commits c.act_on.ensures.exit c.act_on.ensures.goes_on c.next_commit.ensures.none_before (omega arith) c.advance.ensures in
     let w = c.in-Wants-Write in
     let asks = wanted s.acted c.advance.new.machine (Write w.fd w.at w.len) (cc s.answers) s.left_as in
     let same = ap (λ (y : ZcCore). y.commits) asks.stays ∙ s.had.commits in
@@ -115,7 +115,7 @@ loop-left-smaller g c =
 
 pub loop-left-preserved : goal.loop-left-preserved
 loop-left-preserved g c =
-    let s = stepped c.loop-left.invariant.same c.loop-left.invariant.came c.advance.ensures.advanced.1 in
+    let s = stepped c.loop-left.invariant.came c.loop-left.invariant.goes_on c.act_on.ensures.made c.act_on.ensures.commits c.act_on.ensures.exit c.act_on.ensures.goes_on c.next_commit.ensures.none_before (omega arith) c.advance.ensures in
     let w = c.in-Wants-Write in
     let asks = wanted s.acted c.advance.new.machine (Write w.fd w.at w.len) (cc s.answers) s.left_as in
     let now = g.C.Console.shown c.loop-left.console in
@@ -125,13 +125,13 @@ loop-left-preserved g c =
     write_next s.came s.had c.answer_write.new.self w.fd w.at w.len after asks.wants
     (c.answer_write.ensures ∙ ap has_written asks.stays) wrote c.in_default.ensures.writes in
     let counts = next.counts in
-    record { within = omega arith; at = subst (g.B.BetweenCommits.HasComeTo c.advance.new.between) (sym (counts ∙ ap (λ k. k + 1) s.count)) c.advance.ensures.advanced.2; same = c.advance.ensures.same ∙ c.loop-left.invariant.same; came = next.came }
+    record { within = omega arith; not_past = omega arith; goes_on = λ k le. s.goes_on k (omega arith); came = next.came }
 
 -- ---- ends
 
 pub answer_exit-requires-clause-room : goal.answer_exit-requires-clause-room
 answer_exit-requires-clause-room g c =
-    let s = stepped c.loop-left.invariant.same c.loop-left.invariant.came c.advance.ensures.advanced.1 in
+    let s = stepped c.loop-left.invariant.came c.loop-left.invariant.goes_on c.act_on.ensures.made c.act_on.ensures.commits c.act_on.ensures.exit c.act_on.ensures.goes_on c.next_commit.ensures.none_before (omega arith) c.advance.ensures in
     let w = c.in-Wants-Exit in
     let asks = wanted s.acted c.advance.new.machine (Exit w.status) (cc s.answers) s.left_as in
     let same = ap (λ (y : ZcCore). y.commits) asks.stays ∙ s.had.commits in
@@ -139,7 +139,7 @@ answer_exit-requires-clause-room g c =
 
 pub returns-in-Wants-Exit-clause-ran : goal.returns-in-Wants-Exit-clause-ran
 returns-in-Wants-Exit-clause-ran g c =
-    let s = stepped c.loop-left.invariant.same c.loop-left.invariant.came c.advance.ensures.advanced.1 in
+    let s = stepped c.loop-left.invariant.came c.loop-left.invariant.goes_on c.act_on.ensures.made c.act_on.ensures.commits c.act_on.ensures.exit c.act_on.ensures.goes_on c.next_commit.ensures.none_before (omega arith) c.advance.ensures in
     let w = c.in-Wants-Exit in
     let asks = wanted s.acted c.advance.new.machine (Exit w.status) (cc s.answers) s.left_as in
     exit_ran s.came s.had c.answer_exit.new.self c.args.steps (omega arith) w.status asks.wants
@@ -147,12 +147,12 @@ returns-in-Wants-Exit-clause-ran g c =
 
 pub returns-in-Ended-clause-ran : goal.returns-in-Ended-clause-ran
 returns-in-Ended-clause-ran g c =
-    let s = stepped c.loop-left.invariant.same c.loop-left.invariant.came c.advance.ensures.advanced.1 in
+    let s = stepped c.loop-left.invariant.came c.loop-left.invariant.goes_on c.act_on.ensures.made c.act_on.ensures.commits c.act_on.ensures.exit c.act_on.ensures.goes_on c.next_commit.ensures.none_before (omega arith) c.advance.ensures in
     absurd (none_ended s.came s.had c.in-Ended.status (cc s.answers))
 
 pub returns-in-Stopped-clause-ran : goal.returns-in-Stopped-clause-ran
 returns-in-Stopped-clause-ran g c =
-    let s = stepped c.loop-left.invariant.same c.loop-left.invariant.came c.advance.ensures.advanced.1 in
+    let s = stepped c.loop-left.invariant.came c.loop-left.invariant.goes_on c.act_on.ensures.made c.act_on.ensures.commits c.act_on.ensures.exit c.act_on.ensures.goes_on c.next_commit.ensures.none_before (omega arith) c.advance.ensures in
     let z' = s.acted in
     let stops : zc_step z' ≡ Stopped c.in-Stopped.reason = stopped_step (zc_step z') c.in-Stopped.reason (cc s.answers) in
     stop_ran s.came s.had c.advance.new.machine c.args.steps (omega arith) c.in-Stopped.reason stops (s.left_as ∙ ap (λ y. core_after y z') stops)
