@@ -19,8 +19,8 @@ pub fn jal(rd: Reg, distance: i32) -> Option<u16>
     }
 }
 
-// c.j and c.jal
-fn jump(group: u32, distance: i32) -> Option<u16>
+/// The halfword of c.j or c.jal, by its group.
+pub fn jump(group: u32, distance: i32) -> Option<u16>
     requires { group < 2 ^ 5 }
     ensures { result ≡ jump_half group distance }
 {

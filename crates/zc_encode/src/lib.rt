@@ -2,9 +2,9 @@
 #![tactic(auto)]
 
 pub mod encode16;
-mod fields;
-mod jumps;
-mod memory;
-mod with_imm;
-mod with_reg;
-mod zcmp;
+pub mod fields;
+pub mod jumps;
+pub mod memory;
+pub mod with_imm;
+pub mod with_reg;
+pub mod zcmp;

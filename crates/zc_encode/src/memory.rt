@@ -32,8 +32,8 @@ pub fn store(op: StoreOp, source: Reg, base: Reg, imm: i32) -> Option<u16>
     }
 }
 
-// c.lw and c.sw
-fn of_word(group: u32, r: Reg, base: Reg, imm: i32) -> Option<u16>
+/// The halfword of c.lw or c.sw, by its group.
+pub fn of_word(group: u32, r: Reg, base: Reg, imm: i32) -> Option<u16>
     requires { group < 2 ^ 5 }
     ensures { result ≡ word_half group r base imm }
 {
@@ -48,8 +48,8 @@ fn of_word(group: u32, r: Reg, base: Reg, imm: i32) -> Option<u16>
     }
 }
 
-// c.lbu and c.sb
-fn of_byte(which: u32, r: Reg, base: Reg, imm: i32) -> Option<u16>
+/// The halfword of c.lbu or c.sb, by its bits 11 to 10.
+pub fn of_byte(which: u32, r: Reg, base: Reg, imm: i32) -> Option<u16>
     requires { which < 4 }
     ensures { result ≡ byte_half which r base imm }
 {
@@ -67,8 +67,8 @@ fn of_byte(which: u32, r: Reg, base: Reg, imm: i32) -> Option<u16>
     }
 }
 
-// c.lhu, c.lh and c.sh
-fn of_half(which: u32, bit: u32, r: Reg, base: Reg, imm: i32) -> Option<u16>
+/// The halfword of c.lhu, c.lh or c.sh, by its bits 11 to 10 and 6.
+pub fn of_half(which: u32, bit: u32, r: Reg, base: Reg, imm: i32) -> Option<u16>
     requires which { which < 4 }
     requires bit { bit < 2 }
     ensures { result ≡ half_half which bit r base imm }
@@ -86,7 +86,8 @@ fn of_half(which: u32, bit: u32, r: Reg, base: Reg, imm: i32) -> Option<u16>
     }
 }
 
-fn lwsp(rd: Reg, base: Reg, imm: i32) -> Option<u16>
+/// The halfword of c.lwsp.
+pub fn lwsp(rd: Reg, base: Reg, imm: i32) -> Option<u16>
     ensures { result ≡ lwsp_half rd base imm }
 {
     if number(base) == 2 && number(rd) != 0 && is_offset(256, 4, imm) {
@@ -98,7 +99,8 @@ fn lwsp(rd: Reg, base: Reg, imm: i32) -> Option<u16>
     }
 }
 
-fn swsp(source: Reg, base: Reg, imm: i32) -> Option<u16>
+/// The halfword of c.swsp.
+pub fn swsp(source: Reg, base: Reg, imm: i32) -> Option<u16>
     ensures { result ≡ swsp_half source base imm }
 {
     if number(base) == 2 && is_offset(256, 4, imm) {

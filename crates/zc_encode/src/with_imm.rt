@@ -62,7 +62,8 @@ fn sum(rd: Reg, first: Reg, imm: i32) -> Option<u16>
     addi4spn(rd, first, imm).or(nop(rd, first, imm).or(later))
 }
 
-fn addi4spn(rd: Reg, first: Reg, imm: i32) -> Option<u16>
+/// The halfword of c.addi4spn.
+pub fn addi4spn(rd: Reg, first: Reg, imm: i32) -> Option<u16>
     ensures { result ≡ addi4spn_half rd first imm }
 {
     if number(first) == 2 && is_popular(rd) && is_offset(1024, 4, imm) && word(imm) != 0 {
@@ -106,7 +107,8 @@ fn li(rd: Reg, first: Reg, imm: i32) -> Option<u16>
     }
 }
 
-fn addi16sp(rd: Reg, first: Reg, imm: i32) -> Option<u16>
+/// The halfword of c.addi16sp.
+pub fn addi16sp(rd: Reg, first: Reg, imm: i32) -> Option<u16>
     ensures { result ≡ addi16sp_half rd first imm }
 {
     let n = low_bits(10, imm);
@@ -129,8 +131,8 @@ fn mv(rd: Reg, first: Reg, imm: i32) -> Option<u16>
     }
 }
 
-// A halfword with a signed immediate of six bits.
-fn six(group: u32, upper: u32, imm: i32) -> u16
+/// A halfword with a signed immediate of six bits.
+pub fn six(group: u32, upper: u32, imm: i32) -> u16
     requires group { group < 2 ^ 5 }
     requires upper { upper < 2 ^ 5 }
     ensures { result ≡ six_half group upper imm }
@@ -162,7 +164,8 @@ fn slli(rd: Reg, first: Reg, imm: i32) -> Option<u16>
     }
 }
 
-fn andi(rd: Reg, first: Reg, imm: i32) -> Option<u16>
+/// The halfword of c.andi.
+pub fn andi(rd: Reg, first: Reg, imm: i32) -> Option<u16>
     ensures { result ≡ andi_half rd first imm }
 {
     if number(first) == number(rd) && is_popular(rd) && has_bits(6, imm) {
@@ -172,8 +175,8 @@ fn andi(rd: Reg, first: Reg, imm: i32) -> Option<u16>
     }
 }
 
-// c.zext.b and c.not: an operation on one register and this immediate.
-fn unary(wanted: i32, which: u32, rd: Reg, first: Reg, imm: i32) -> Option<u16>
+/// The halfword of c.zext.b or c.not: an operation on one register and this immediate.
+pub fn unary(wanted: i32, which: u32, rd: Reg, first: Reg, imm: i32) -> Option<u16>
     requires { which < 2 ^ 5 }
     ensures { result ≡ unary_half wanted which rd first imm }
 {

@@ -72,8 +72,8 @@ fn either(bit: u32, which: u32, rd: Reg, first: Reg, second: Reg) -> Option<u16>
     }
 }
 
-// An operation on two registers of x8 to x15.
-fn pair(bit: u32, which: u32, rd: Reg, second: Reg) -> Option<u16>
+/// The halfword of an operation on two registers of x8 to x15.
+pub fn pair(bit: u32, which: u32, rd: Reg, second: Reg) -> Option<u16>
     requires bit { bit < 2 }
     requires which { which < 4 }
     ensures { result ≡ pair_half bit which rd second }
