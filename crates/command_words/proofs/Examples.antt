@@ -6,7 +6,7 @@ use Rattle.text_lines.specs.Number.{if_text_of}
 use Rattle.zc_base.specs.MemMap.{checked_map, standard_map}
 use Rattle.zc_base.specs.declared.mem_map.MemMap.{MemMap}
 use Rattle.clap.proofs.OnLiterals.{clap_on_literals}
-use Rattle.command_words.specs.Command.{Check, Command, Gc, Make, Merge, Plain, Run, Trace, Zc, command_of, read_by_clap}
+use Rattle.command_words.specs.Command.{Check, Command, Gc, Listing, Make, Merge, Plain, Run, Share, Trace, Zc, command_of, read_by_clap}
 use Rattle.command_words.specs.Table.{program_app}
 
 -- a byte more at the front of the first word
@@ -34,7 +34,8 @@ none =
     ∷ codes "run" ∷ codes "run i j" ∷ codes "run --steps +5 i" ∷ codes "run --steps -5 i" ∷ codes "run --steps  i" ∷ codes "run --steps 5x i"
     ∷ codes "run --steps 1000000001 i" ∷ codes "run --steps 000000000000000000005 i" ∷ codes "trace --steps 5" ∷ codes "check c d"
     ∷ codes "make 5" ∷ codes "make 5 0 0" ∷ codes "make 18446744073709551616 0" ∷ codes "make 5 1601" ∷ codes "make --steps 5 5 0" ∷ codes "gc x.o" ∷ codes "gc --out p" ∷ codes "gc --out p --out q x.o"
-    ∷ codes "gc --cert c --out p x.o" ∷ codes "gc --out -p x.o" ∷ codes "merge x.o" ∷ codes "merge --out p" ∷ codes "merge --out -p x.o" ∷ []
+    ∷ codes "gc --cert c --out p x.o" ∷ codes "gc --out -p x.o" ∷ codes "merge x.o" ∷ codes "merge --out p" ∷ codes "merge --out -p x.o" ∷ codes "share --out a x.o" ∷ codes "share --plan p x.o"
+    ∷ codes "share --out a --plan p" ∷ codes "share --out a --plan p --steps 1000000001 x.o" ∷ codes "list" ∷ codes "list i j" ∷ codes "list --steps 5 i" ∷ []
 
 -- addresses that have another form, or that give no map, and options that are given twice or that a command doesn't have
 abbrev no_map : List Text
@@ -44,7 +45,7 @@ no_map =
     ∷ codes "run --stack 0FF00000 i" ∷ codes "run --stack +ff00000 i" ∷ codes "run --stack 0xff0000 i" ∷ codes "run --text fff20000 --data 00010000 i"
     ∷ codes "plain --text 0001000 --out a x.o" ∷ codes "zc --data 0010000g --out a --cert c x.o" ∷ codes "trace --stack 00001000 x.o"
     ∷ codes "trace --text 00010000 --text 00010000 x.o" ∷ codes "run --data --stack i" ∷ codes "check --text 00010000 c" ∷ codes "make --data 00100000 5 0" ∷ codes "gc --text 00010000 --out p x.o"
-    ∷ codes "merge --text 00010000 --out p x.o" ∷ []
+    ∷ codes "merge --text 00010000 --out p x.o" ∷ codes "share --data 00100000 --out a --plan p x.o" ∷ codes "list --text 00010000 i" ∷ []
 
 none_spelled : map (λ line. command_of (words_of line)) none ≡ map (λ line. None) none
 unfolding program_app read_by_clap clap_on_literals checked_map if_text_of
@@ -73,7 +74,10 @@ some =
     ∷ (codes "make --out p 18446744073709551615 1600", Make (Some (codes "p")) 18446744073709551615 1600)
     ∷ (codes "gc --out p x.o", Gc (codes "p") (codes "x.o" ∷ []))
     ∷ (codes "gc y.o --out= x.o", Gc [] (codes "y.o" ∷ codes "x.o" ∷ []))
-    ∷ (codes "merge --out p x.o y.o", Merge (codes "p") (codes "x.o" ∷ codes "y.o" ∷ [])) ∷ []
+    ∷ (codes "merge --out p x.o y.o", Merge (codes "p") (codes "x.o" ∷ codes "y.o" ∷ []))
+    ∷ (codes "share --out a --plan p x.o y.o", Share (codes "a") (codes "p") 10000000 (codes "x.o" ∷ codes "y.o" ∷ []))
+    ∷ (codes "share x.o --steps=5 --plan p --out=a", Share (codes "a") (codes "p") 5 (codes "x.o" ∷ []))
+    ∷ (codes "list i", Listing (codes "i")) ∷ []
 
 some_spelled : map (λ row. command_of (words_of row.0)) some ≡ map (λ row. Some row.1) some
 unfolding program_app read_by_clap clap_on_literals checked_map if_text_of

@@ -8,9 +8,9 @@ use Rattle.clap.specs.Lexer.{usize_max}
 use Rattle.clap.specs.Simple.{App, Shape, built, help_shape}
 use Rattle.clap.specs.Walk.{Row, Text, first_of}
 use Rattle.clap.proofs.OnLiterals.{clap_on_literals}
-use Rattle.command_words.specs.Command.{Command, Meaning, Spelled, Words, check_of, command_of, found_in, gc_of, make_of, meaning, meaning_named, meanings, merge_of, plain_of, read_by_clap, run_of, trace_of, values_in, zc_of}
+use Rattle.command_words.specs.Command.{Command, Meaning, Spelled, Words, check_of, command_of, found_in, gc_of, list_of, make_of, meaning, meaning_named, meanings, merge_of, plain_of, read_by_clap, run_of, share_of, trace_of, values_in, zc_of}
 use Rattle.command_words.specs.PlainForm.{IsReadAsPlain, is_plain_form, plain_command_of, spelled_words}
-use Rattle.command_words.specs.Table.{OptionSyntax, Syntax, check_syntax, gc_syntax, make_syntax, merge_syntax, one, plain_syntax, program_app, run_syntax, several, trace_syntax, zc_syntax}
+use Rattle.command_words.specs.Table.{OptionSyntax, Syntax, check_syntax, gc_syntax, list_syntax, make_syntax, merge_syntax, one, plain_syntax, program_app, run_syntax, several, share_syntax, trace_syntax, zc_syntax}
 use Rattle.command_words.proofs.Given.{Given, all_of-given, first_of-given, lookup, rows_for, same_text}
 use Rattle.command_words.proofs.PlainOptions.{Each, values_of}
 use Rattle.command_words.proofs.PlainWords.{Reads, SeveralFits, SingleFits}
@@ -243,10 +243,46 @@ merge_read words few =
     form_read (record { form = merge_syntax; command = merge_of }) words (λ rows. refl)
     (several_read (codes "merge") merge_syntax.options (sub 7) merge_enters words (codes "OBJ") merge_leaf merge_words few) _ refl
 
+-- `share`
+share_enters : Enters built_app (codes "share") (sub 8)
+unfolding built_app sub program_app clap_on_literals
+share_enters = record { named = refl; found = refl; other = refl; same = refl; defaults = (refl, tt); negates = refl; free = refl }
+
+share_leaf : IsLeafOf (sub 8) share_syntax.options (codes "OBJ" ∷ [])
+unfolding built_app sub program_app clap_on_literals
+share_leaf = record { defaults = refl; help = refl; required = refl; negates = refl; written = refl; dashes = refl; by_long = refl; by_id = refl; apart = refl; other = refl; back = refl; rules = refl; rest = refl }
+
+share_words : SeveralFits (sub 8).rules (codes "OBJ")
+unfolding built_app sub program_app clap_on_literals
+share_words = record { by_index = refl; by_id = refl }
+
+share_read : (words : List Text) → length words ≤ usize_max → ReadsForm words (record { form = share_syntax; command = share_of })
+share_read words few =
+    form_read (record { form = share_syntax; command = share_of }) words (λ rows. refl)
+    (several_read (codes "share") share_syntax.options (sub 8) share_enters words (codes "OBJ") share_leaf share_words few) _ refl
+
+-- `list`
+list_enters : Enters built_app (codes "list") (sub 9)
+unfolding built_app sub program_app clap_on_literals
+list_enters = record { named = refl; found = refl; other = refl; same = refl; defaults = (refl, tt); negates = refl; free = refl }
+
+list_leaf : IsLeafOf (sub 9) list_syntax.options (codes "IMAGE" ∷ [])
+unfolding built_app sub program_app clap_on_literals
+list_leaf = record { defaults = refl; help = refl; required = refl; negates = refl; written = refl; dashes = refl; by_long = refl; by_id = refl; apart = refl; other = refl; back = refl; rules = refl; rest = refl }
+
+list_words : SingleFits (sub 9).rules 1 (codes "IMAGE")
+unfolding built_app sub program_app clap_on_literals
+list_words = record { by_index = refl; by_id = refl }
+
+list_read : (words : List Text) → ReadsForm words (record { form = list_syntax; command = list_of })
+list_read words =
+    form_read (record { form = list_syntax; command = list_of }) words (λ rows. refl)
+    (one_read (codes "list") list_syntax.options (sub 9) list_enters words (codes "IMAGE") list_leaf list_words) _ refl
+
 -- ---- all commands
 
 forms_read : (words : List Text) → length words ≤ usize_max → Each (ReadsForm words) meanings
-forms_read words few = (plain_read words few, (zc_read words few, (run_read words, (trace_read words few, (check_read words, (make_read words, (gc_read words few, (merge_read words few, tt))))))))
+forms_read words few = (plain_read words few, (zc_read words few, (run_read words, (trace_read words few, (check_read words, (make_read words, (gc_read words few, (merge_read words few, (share_read words few, (list_read words, tt))))))))))
 
 -- words of a command that is one of these
 module _ (name : Text) (words : List Text) where

@@ -17,11 +17,12 @@ use Rattle.command_words.specs.declared.command_line.MakeArgs.{MakeArgs}
 use Rattle.command_words.specs.declared.command_line.MergeArgs.{MergeArgs}
 use Rattle.command_words.specs.declared.command_line.PlainArgs.{PlainArgs}
 use Rattle.command_words.specs.declared.command_line.RunArgs.{RunArgs}
+use Rattle.command_words.specs.declared.command_line.ShareArgs.{ShareArgs}
 use Rattle.command_words.specs.declared.command_line.TraceArgs.{TraceArgs}
 use Rattle.command_words.specs.declared.command_line.ZcArgs.{ZcArgs}
 use Rattle.command_words.specs.MapWords.{map_given}
 use Rattle.command_words.specs.Number.{number_up_to}
-use Rattle.command_words.specs.Table.{OptionSyntax, PositionalSyntax, Syntax, check_syntax, gc_syntax, make_syntax, merge_syntax, plain_syntax, program_app, run_syntax, trace_syntax, zc_syntax}
+use Rattle.command_words.specs.Table.{OptionSyntax, PositionalSyntax, Syntax, check_syntax, gc_syntax, list_syntax, make_syntax, merge_syntax, plain_syntax, program_app, run_syntax, share_syntax, trace_syntax, zc_syntax}
 
 -- a command, with the memory map that it works in, the names of its files, and its numbers
 pub data Command : Type 0 where
@@ -33,6 +34,8 @@ pub data Command : Type 0 where
   Make : (prefix : Option Text) (number functions : ℕ) → Command
   Gc : (prefix : Text) (objects : List Text) → Command
   Merge : (prefix : Text) (objects : List Text) → Command
+  Share : (out plan : Text) (steps : ℕ) (objects : List Text) → Command
+  Listing : (image : Text) → Command
 
 -- ---- what clap reads
 
@@ -122,6 +125,16 @@ abbrev pub merge_of : Spelled → Option Command
 merge_of (Words (Some prefix ∷ []) objects) = Some (Merge prefix objects)
 merge_of other = None
 
+-- `share` of its objects, under its plan
+abbrev pub share_of : Spelled → Option Command
+share_of (Words (Some out ∷ Some plan ∷ steps ∷ []) objects) = option_map (λ n. Share out plan n objects) (steps_given steps)
+share_of other = None
+
+-- `list` of its image
+abbrev pub list_of : Spelled → Option Command
+list_of (Words [] (image ∷ [])) = Some (Listing image)
+list_of other = None
+
 -- a command's syntax, and which command it is with these words
 pub record Meaning : Type 0 where
   pub form : Syntax
@@ -132,7 +145,8 @@ meanings =
     record { form = plain_syntax; command = plain_of } ∷ record { form = zc_syntax; command = zc_of }
     ∷ record { form = run_syntax; command = run_of } ∷ record { form = trace_syntax; command = trace_of }
     ∷ record { form = check_syntax; command = check_of } ∷ record { form = make_syntax; command = make_of }
-    ∷ record { form = gc_syntax; command = gc_of } ∷ record { form = merge_syntax; command = merge_of } ∷ []
+    ∷ record { form = gc_syntax; command = gc_of } ∷ record { form = merge_syntax; command = merge_of }
+    ∷ record { form = share_syntax; command = share_of } ∷ record { form = list_syntax; command = list_of } ∷ []
 
 -- the meaning of a command's name
 abbrev pub meaning_named : Text → Option Meaning
@@ -180,6 +194,10 @@ gc_meant args = Gc args.prefix.now (texts args.objects.items)
 abbrev pub merge_meant : MergeArgs → Command
 merge_meant args = Merge args.prefix.now (texts args.objects.items)
 
+-- the command that the words of `share` mean
+abbrev pub share_meant : ShareArgs → Command
+share_meant args = Share args.out.now args.plan.now args.steps (texts args.objects.items)
+
 -- a command
 abbrev pub meant_command : CommandLine → Command
 meant_command (line.Plain args) = plain_meant args
@@ -190,6 +208,8 @@ meant_command (line.Check cert) = Check cert.now
 meant_command (line.Make args) = make_meant args
 meant_command (line.Gc args) = gc_meant args
 meant_command (line.Merge args) = merge_meant args
+meant_command (line.Share args) = share_meant args
+meant_command (line.List image) = Listing image.now
 
 -- a command's map, if it has one, is one that a link may be made for
 abbrev pub HasMap : CommandLine → Type 0
@@ -201,3 +221,5 @@ HasMap (line.Check cert) = ⊤
 HasMap (line.Make args) = ⊤
 HasMap (line.Gc args) = ⊤
 HasMap (line.Merge args) = ⊤
+HasMap (line.Share args) = ⊤
+HasMap (line.List image) = ⊤

@@ -97,10 +97,23 @@ gc_syntax = record { name = codes "gc"; options = required (codes "out") ∷ [];
 abbrev pub merge_syntax : Syntax
 merge_syntax = record { name = codes "merge"; options = required (codes "out") ∷ []; positionals = several (codes "OBJ") ∷ [] }
 
+-- `share --out OUT --plan PLAN [--steps N] OBJ...`
+abbrev pub share_syntax : Syntax
+share_syntax = record {
+  name = codes "share";
+  options = required (codes "out") ∷ required (codes "plan") ∷ optional (codes "steps") ∷ [];
+  positionals = several (codes "OBJ") ∷ [];
+}
+
+-- `list IMAGE`
+abbrev pub list_syntax : Syntax
+list_syntax = record { name = codes "list"; options = []; positionals = one (codes "IMAGE") ∷ [] }
+
 -- all commands
 abbrev pub commands : List Syntax
 commands =
-    plain_syntax ∷ zc_syntax ∷ run_syntax ∷ trace_syntax ∷ check_syntax ∷ make_syntax ∷ gc_syntax ∷ merge_syntax ∷ []
+    plain_syntax ∷ zc_syntax ∷ run_syntax ∷ trace_syntax ∷ check_syntax ∷ make_syntax ∷ gc_syntax ∷ merge_syntax
+    ∷ share_syntax ∷ list_syntax ∷ []
 
 -- ---- the `clap` command
 

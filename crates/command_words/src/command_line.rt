@@ -72,6 +72,16 @@ pub struct MergeArgs<'a> {
     pub objects: Vec<String>,
 }
 
+/// What `share` links and runs: the objects, at least one, to an image under the name `out`, under the plan of interrupts
+/// that also write shared data, for at most `steps` commits.
+#[derive(Drop)]
+pub struct ShareArgs<'a> {
+    pub out: &'a str,
+    pub plan: &'a str,
+    pub steps: u64,
+    pub objects: Vec<String>,
+}
+
 /// A command, with the names of its files.
 #[derive(Drop)]
 pub enum CommandLine<'a> {
@@ -83,4 +93,6 @@ pub enum CommandLine<'a> {
     Make(MakeArgs<'a>),
     Gc(GcArgs<'a>),
     Merge(MergeArgs<'a>),
+    Share(ShareArgs<'a>),
+    List { image: &'a str },
 }

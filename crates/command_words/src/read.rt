@@ -5,16 +5,16 @@ ghost use Rattle.std.specs.Option.{option_and_then, option_copied};
 ghost use Rattle.clap.specs.Matches.{found_of};
 ghost use Rattle.clap.specs.Simple.{subcommand_rows_of};
 ghost use Rattle.clap.specs.Walk.{all_of, first_of, rows_of};
-ghost use Rattle.command_words.specs.Command.{HasMap, check_of, command_of, found_in, gc_of, make_of, meaning, meant_command, merge_of, plain_of, read_by_clap, run_of, steps_given, texts, trace_of, zc_of};
+ghost use Rattle.command_words.specs.Command.{HasMap, check_of, command_of, found_in, gc_of, list_of, make_of, meaning, meant_command, merge_of, plain_of, read_by_clap, run_of, share_of, steps_given, texts, trace_of, zc_of};
 ghost use Rattle.command_words.specs.MapWords.{address_given, map_given};
 ghost use Rattle.command_words.specs.PlainForm.{IsReadAsPlain};
-ghost use Rattle.command_words.specs.Table.{check_syntax, gc_syntax, make_syntax, merge_syntax, plain_syntax, program_app, run_syntax, trace_syntax, zc_syntax};
+ghost use Rattle.command_words.specs.Table.{check_syntax, gc_syntax, list_syntax, make_syntax, merge_syntax, plain_syntax, program_app, run_syntax, share_syntax, trace_syntax, zc_syntax};
 ghost use Rattle.zc_base.specs.MemMap.{IsMap};
 
 use crate::app::program_app;
 use crate::command_line::{
     CommandLine, GcArgs, MOST_FUNCTIONS, MOST_STEPS, MakeArgs, MergeArgs, PlainArgs, RunArgs,
-    TraceArgs, USUAL_STEPS, ZcArgs,
+    ShareArgs, TraceArgs, USUAL_STEPS, ZcArgs,
 };
 use crate::number::number_in;
 use clap::ArgMatches;
@@ -83,6 +83,8 @@ fn by_name<'a>(
         "make" => Ok(make(found)),
         "gc" => gc(alloc, found),
         "merge" => merge(alloc, found),
+        "share" => share(alloc, found),
+        "list" => Ok(list(found)),
         _ => Ok(None),
     }
 }
@@ -206,6 +208,37 @@ fn merge<'a>(alloc: Global, found: &ArgMatches<'a>) -> Result<Option<CommandLine
     };
     let objects = object_names(alloc, found)?;
     Ok(Some(CommandLine::Merge(MergeArgs { prefix, objects })))
+}
+
+fn share<'a>(alloc: Global, found: &ArgMatches<'a>) -> Result<Option<CommandLine<'a>>, AllocError>
+    ensures spells { IfOk result (λ c.
+        option_map meant_command c ≡ share_of (found_in share_syntax (rows_of (found_of found.now)))) }
+    ensures maps { IfOk result (λ c. IfSome c HasMap) }
+{
+    let Some(out) = value(found, "out") else {
+        return Ok(None);
+    };
+    let Some(plan) = value(found, "plan") else {
+        return Ok(None);
+    };
+    let Some(steps) = allowed_steps(found) else {
+        return Ok(None);
+    };
+    let objects = object_names(alloc, found)?;
+    Ok(Some(CommandLine::Share(ShareArgs {
+        out,
+        plan,
+        steps,
+        objects,
+    })))
+}
+
+fn list<'a>(found: &ArgMatches<'a>) -> Option<CommandLine<'a>>
+    ensures spells { option_map meant_command result ≡ list_of (found_in list_syntax (rows_of (found_of found.now))) }
+    ensures maps { IfSome result HasMap }
+{
+    let image = value(found, "IMAGE")?;
+    Some(CommandLine::List { image })
 }
 
 // The memory map that the options give: a missing one has the standard map's address.

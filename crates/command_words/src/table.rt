@@ -49,6 +49,11 @@ const PLAN: OptionSyntax = OptionSyntax {
     required: false,
 };
 
+const SHARED_PLAN: OptionSyntax = OptionSyntax {
+    name: "plan",
+    required: true,
+};
+
 const STEPS: OptionSyntax = OptionSyntax {
     name: "steps",
     required: false,
@@ -140,5 +145,19 @@ const MERGE: Syntax = Syntax {
     positionals: &[OBJECTS],
 };
 
+// `share --out OUT --plan PLAN [--steps N] OBJ...`
+const SHARE: Syntax = Syntax {
+    name: "share",
+    options: &[OUT, SHARED_PLAN, STEPS],
+    positionals: &[OBJECTS],
+};
+
+// `list IMAGE`
+const LIST: Syntax = Syntax {
+    name: "list",
+    options: &[],
+    positionals: &[IMAGE],
+};
+
 /// The commands.
-pub static COMMANDS: [Syntax; 8] = [PLAIN, ZC, RUN, TRACE, CHECK, MAKE, GC, MERGE];
+pub static COMMANDS: [Syntax; 10] = [PLAIN, ZC, RUN, TRACE, CHECK, MAKE, GC, MERGE, SHARE, LIST];
