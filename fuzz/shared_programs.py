@@ -18,20 +18,21 @@ import tempfile
 sys.path[:0] = (os.path.join(os.path.dirname(os.path.abspath(__file__)), os.pardir, it) for it in ('scripts', 'models'))
 
 from checks.harness import Folder
+from far_lists import far_list
 from made_objects import made_program
 from object_data import Symbols
 from object_faults import Object
 from object_items import first_fault
 from shared_cells import Cut, Differs, compared, share, shared_plan_of, shared_ranges
+from table_examples import random_program
 from zc_link import link_of
 from zcld_tools import programs
-from zcld_tools.elf import ALLOC, CODE_FLAGS, CONSTANT_FLAGS, DATA_FLAGS, EXECINSTR, PROGBITS
+from zcld_tools.elf import ALLOC, CODE_FLAGS, CONSTANT_FLAGS, DATA_FLAGS, EXECINSTR, NOBITS, PROGBITS
 from zcld_tools.files import random_bytes
 from zcld_tools.images import DATA_AT, STACK_HIGH, TEXT_AT
+from zcld_tools.objects import Written
 
 STEPS = 1500
-# As many commits as an image may need for a step.
-COMMITS_OF_STEP = 64
 
 
 def share_some(rng, objects):
@@ -47,8 +48,19 @@ def share_some(rng, objects):
         rng.choice(objects).section(name, PROGBITS, rng.choice((CONSTANT_FLAGS, DATA_FLAGS)), align=1).content += bytes(rng.randrange(9))
 
 
+def shared_data():
+    """An object that has nothing but shared data."""
+    made = Written()
+    made.section(b'.shared', NOBITS, DATA_FLAGS, size=64)
+    return made.bytes()
+
+
 def shared_list(rng, is_odd):
-    """The files of a list, some of whose data is shared."""
+    """The files of a list, some of whose data is shared. Of six lists one has branches that lead far, and one often a jump table: the
+    program doesn't look at the data of these."""
+    which = rng.randrange(6)
+    if which < 2:
+        return [*(far_list if which else random_program)(rng), shared_data()]
     objects = made_program(rng, is_odd).objects
     share_some(rng, objects)
     return [read.bytes() for read in objects]
@@ -76,8 +88,8 @@ def made_cuts(rng, files):
     return cuts
 
 
-def look(program, place, rng, counts):
-    """Says what differs of a list and a plan, if anything does."""
+def look(folder, rng, counts):
+    """Says what differs of a list and a plan, if anything does. Without a folder only the models are compared."""
     files, given = shared_list(rng, rng.random() < 0.15), random_bytes(rng, rng.choice((0, 5, 40)))
     cuts = made_cuts(rng, files)
     if first_fault(files) is None:
@@ -85,9 +97,10 @@ def look(program, place, rng, counts):
         counts['steps of both models'] += compared(link.code.objects, link, given, cuts, STEPS, 7)
         counts['with a table'] += link.table.size > 0
         counts['with a group'] += bool(link.groups)
-    if program is None:
+        counts['with a branch of 8 bytes'] += link.counts()['long'] > 0
+    if folder is None:
         return None
-    folder, wanted = Folder(program, place), share(files, shared_plan_of(cuts), given, STEPS)
+    wanted = share(files, shared_plan_of(cuts), given, STEPS)
     names = folder.write_list(files)
     folder.write('plan', shared_plan_of(cuts))
     ended = folder.run(('share', '--out', 'out', '--plan', 'plan', '--steps', str(STEPS), *names), given)
@@ -108,7 +121,7 @@ def main():
     for seed in range(given.seed, given.seed + given.count):
         with tempfile.TemporaryDirectory() as place:
             try:
-                wrong = look(program, place, random.Random(f'shared {seed}'), counts)
+                wrong = look(program and Folder(program, place), random.Random(f'shared {seed}'), counts)
             except Differs as why:
                 wrong = f'the models differ {why}'
         if wrong:
