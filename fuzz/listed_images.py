@@ -3,10 +3,11 @@
 
     fuzz/listed_images.py [--seed S] [--count N] [--models] [PROGRAM]
 
-PROGRAM is build/zcld if none is given; with --models there is none. Images are those that both links make of random lists, and of the C
-programs in examples/; and ones that no link makes: with several segments in any order, code that ends inside a word, zeros behind
-code, and empty segments. Of three images one has bytes changed: it may be bad, and else its listing counts. The model
-(models/listing.py) reads each listing back to the segments of the image. It prints counts, and stops at the first difference with status 1.
+PROGRAM is build/zcld if none is given; with --models there is none. Images are those that both links make of random lists, and
+of the C programs in examples/; and ones that no link makes: with several segments in any order, code that ends inside a word,
+zeros behind code, and empty segments. Of three images one has bytes changed: it may be bad, and else its listing counts. The
+model (models/listing.py) reads each listing back to the segments of the image. It prints counts, and stops at the first
+difference with status 1.
 """
 import argparse
 import collections

@@ -1,12 +1,13 @@
 #!/usr/bin/env python3
-"""Compares what `share` does with random lists of objects, some of whose data is shared, under random plans with what the model does.
+"""Compares what `share` does with random lists of objects, some of whose data is shared, under random plans with what the model
+does.
 
     fuzz/shared_programs.py [--seed S] [--count N] [--models] [PROGRAM]
 
-PROGRAM is build/zcld if none is given; with --models there is none. Sections of data are named `.shared`, and plans write to them,
-beside them and to all other data, before commits that are close together. The status, what is written and the image must be the
-model's (models/shared_cells.py). The model's image and its program must come to the same after each step. It prints counts, and
-stops at the first difference with status 1.
+PROGRAM is build/zcld if none is given; with --models there is none. Sections of data are named `.shared`, and plans write to
+them, beside them and to all other data, before commits that are close together. The status, what is written and the image must
+be the model's (models/shared_cells.py). The model's image and its program must come to the same after each step. It prints
+counts, and stops at the first difference with status 1.
 """
 import argparse
 import collections

@@ -4,9 +4,9 @@ Instruction Set Listings" and "RVC Instruction Set Listings"; RISC-V Zc specific
 
     models/listing.py IMAGE | --read LISTING
 
-prints the listing of an image without a fault; or the address, the size, the kind and the bytes of each segment that a listing spells,
-or the number of its first bad line. It is independent of the program, so that both can be compared. The way back goes by the names and
-operands of lines, and asks nothing of what made them.
+prints the listing of an image without a fault; or the address, the size, the kind and the bytes of each segment that a listing
+spells, or the number of its first bad line. It is independent of the program, so that both can be compared. The way back goes
+by the names and operands of lines, and asks nothing of what made them.
 """
 import os
 import re

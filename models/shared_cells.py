@@ -3,11 +3,11 @@
 
     models/shared_cells.py [--steps N] OUT PLAN FILE...
 
-takes standard input, writes the image of the files under OUT and what the program writes, and ends like `share`. It is independent of
-the program, so that both can be compared (docs/FORMATS.md, "Shared plans"). A variable is shared if it lies in a section of data named
-`.shared`. `SharedImage` runs the image: what an interrupt writes there, it writes before its commit. `SharedProgram` runs the objects,
-whose steps it counts in commits of the image: before a step that takes some of these, all that comes before them is written. So
-both come to the same.
+takes standard input, writes the image of the files under OUT and what the program writes, and ends like `share`. It is
+independent of the program, so that both can be compared (docs/FORMATS.md, "Shared plans"). A variable is shared if it lies in a
+section of data named `.shared`. `SharedImage` runs the image: what an interrupt writes there, it writes before its commit.
+`SharedProgram` runs the objects, whose steps it counts in commits of the image: before a step that takes some of these, all
+that comes before them is written. So both come to the same.
 """
 import argparse
 import os
