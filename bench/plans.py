@@ -64,15 +64,17 @@ def shared_plan_of(count, cell):
 
 def shared_loop(turns):
     """The loop of a sum as an object, with a shared word."""
-    made, _ = object_with(*constant(T0, turns), addi(6, 6, 1), addi(T0, T0, -1), branch(BNE, T0, ZERO, -8), addi(A0, ZERO), *EXIT_WORDS)
+    made, _ = object_with(*constant(T0, turns), addi(6, 6, 1), addi(T0, T0, -1), branch(BNE, T0, ZERO, -8), addi(A0, ZERO),
+                          *EXIT_WORDS)
     made.section(b'.shared', NOBITS, DATA_FLAGS, size=4)
     return made.bytes()
 
 
 def running(program, words, repeats):
-    """The seconds that a call takes more than with no commits."""
-    none, all_ = (least([program, *words, '--steps', str(steps)], status, repeats) for steps, status in ((0, SPENT), (2 * COMMITS, 0)))
-    return none, all_ - none
+    """The seconds that a call takes with no commits, and how many more with all."""
+    none, whole = (least([program, *words, '--steps', str(steps)], status, repeats)
+                   for steps, status in ((0, SPENT), (2 * COMMITS, 0)))
+    return none, whole - none
 
 
 def loop(body, turns, before=()):
@@ -126,10 +128,10 @@ def main():
         for count in PLANS:
             write(plan, plan_of(count))
             both = running(program, ['run', '--plan', plan, image], given.repeats)
-            shared = []
+            shared, words = [], ['share', '--out', os.path.join(folder, 'out'), '--plan', plan, obj]
             for cell in (b'', b' s%08x:05' % DATA_AT):
                 write(plan, shared_plan_of(count, cell))
-                shared.append(running(program, ['share', '--out', os.path.join(folder, 'out'), '--plan', plan, obj], given.repeats)[1])
+                shared.append(running(program, words, given.repeats)[1])
             rows.append((count, *(f'{it * 1000:.1f}' for it in (*both, *shared))))
         table((f'interrupts in {COMMITS:,} commits', 'ms to read', 'ms to run', '`share`', '`share`, a cell each'), rows)
         rows = pushes(program, folder)

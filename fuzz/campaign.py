@@ -71,7 +71,8 @@ LINES = ((0, r'', ('plain', 'zc', 'check', 'make', 'list')), (120, r'usage\n', N
          (122, r'read fault\n', (*BY_OBJECTS, 'run', 'check', 'list')), (123, r'write fault\n', None),
          (124, r'out of memory\n', None), (125, r'bad image [1-4]\n', ('run', 'list')),
          (125, r'bad plan (line|order) \d+\n', ('run', 'share')),
-         (125, r'(bad certificate line \d+|rejected)\n', ('check',)), (126, r'stopped [1-5] [A-Z]\w+ [0-9a-f]{8}\n', ('run', 'share')),
+         (125, r'(bad certificate line \d+|rejected)\n', ('check',)),
+         (126, r'stopped [1-5] [A-Z]\w+ [0-9a-f]{8}\n', ('run', 'share')),
          (126, r'stuck \d+ \d+ \d+ [1-9] [A-Z]\w+\n', ('trace', 'make')), (127, r'spent\n', (*RUNS, 'make')))
 
 

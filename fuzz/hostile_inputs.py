@@ -195,8 +195,8 @@ def cells_of(before, behind):
     return bytes(text) + b'\n' * (not behind)
 
 
-SECTIONS = {'837,000 shared sections': lambda: sections_of(b'.shared'), '419,000 of them, apart': lambda: sections_of(b'.shared', b'.bss'),
-            'one shared section': lambda: [object_of_shared()]}
+SECTIONS = {'837,000 shared sections': lambda: sections_of(b'.shared'),
+            '419,000 of them, apart': lambda: sections_of(b'.shared', b'.bss'), 'one shared section': lambda: [object_of_shared()]}
 CELLS = {'645,000 cells': lambda: cells_of(b'', b''), '441,000 interrupts': lambda: cells_of(b'cut 0', b'\n')}
 
 

@@ -45,8 +45,8 @@ def share_some(rng, objects):
     if rng.random() < 0.2:
         rng.choice(objects).section(b'.shared', PROGBITS, rng.choice((0, CODE_FLAGS))).words(0x13, 0x13)
     if rng.random() < 0.2:
-        name = rng.choice((b'.shared', b'.shared.1', b'.share'))
-        rng.choice(objects).section(name, PROGBITS, rng.choice((CONSTANT_FLAGS, DATA_FLAGS)), align=1).content += bytes(rng.randrange(9))
+        name, flags = rng.choice((b'.shared', b'.shared.1', b'.share')), rng.choice((CONSTANT_FLAGS, DATA_FLAGS))
+        rng.choice(objects).section(name, PROGBITS, flags, align=1).content += bytes(rng.randrange(9))
 
 
 def shared_data():
@@ -57,8 +57,8 @@ def shared_data():
 
 
 def shared_list(rng, is_odd):
-    """The files of a list, some of whose data is shared. Of six lists one has branches that lead far, and one often a jump table: the
-    program doesn't look at the data of these."""
+    """The files of a list, some of whose data is shared. Of six lists one has branches that lead far, and one often a jump table:
+    these programs don't look at their data."""
     which = rng.randrange(6)
     if which < 2:
         return [*(far_list if which else random_program)(rng), shared_data()]
@@ -70,7 +70,8 @@ def shared_list(rng, is_odd):
 def addresses(rng, files):
     """Addresses that cells may have: most lie in shared sections, some beside them or where no data is."""
     found = shared_ranges(Symbols([Object(data) for data in files])) if first_fault(files) is None else []
-    others = [DATA_AT + rng.randrange(-4, 2048), STACK_HIGH - rng.randrange(64), TEXT_AT + rng.randrange(256), rng.getrandbits(32)]
+    others = [DATA_AT + rng.randrange(-4, 2048), STACK_HIGH - rng.randrange(64), TEXT_AT + rng.randrange(256)]
+    others.append(rng.getrandbits(32))
     for at, size in found:
         others += [at + rng.randrange(size) if size else at] * 12 + [at, at + size, max(0, at - 1)]
     return others

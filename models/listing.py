@@ -33,9 +33,9 @@ BRANCHES = {0: 'beq', 1: 'bne', 4: 'blt', 5: 'bge', 6: 'bltu', 7: 'bgeu'}
 LOADS, STORES = {0: 'lb', 1: 'lh', 2: 'lw', 4: 'lbu', 5: 'lhu'}, {0: 'sb', 1: 'sh', 2: 'sw'}
 IMMEDIATES = {0: 'addi', 2: 'slti', 3: 'sltiu', 4: 'xori', 6: 'ori', 7: 'andi'}
 SHIFTS = {(0, 1): 'slli', (0, 5): 'srli', (0x20, 5): 'srai'}
-OPERATIONS = {(0, 0): 'add', (0, 1): 'sll', (0, 2): 'slt', (0, 3): 'sltu', (0, 4): 'xor', (0, 5): 'srl', (0, 6): 'or', (0, 7): 'and',
-              (0x20, 0): 'sub', (0x20, 5): 'sra', (1, 0): 'mul', (1, 1): 'mulh', (1, 2): 'mulhsu', (1, 3): 'mulhu', (1, 4): 'div',
-              (1, 5): 'divu', (1, 6): 'rem', (1, 7): 'remu'}
+OPERATIONS = {**{(0, f3): name for f3, name in enumerate(('add', 'sll', 'slt', 'sltu', 'xor', 'srl', 'or', 'and'))},
+              (0x20, 0): 'sub', (0x20, 5): 'sra',
+              **{(1, f3): name for f3, name in enumerate(('mul', 'mulh', 'mulhsu', 'mulhu', 'div', 'divu', 'rem', 'remu'))}}
 
 
 class Segment(NamedTuple):
@@ -70,7 +70,8 @@ def named(word):
         found = {ECALL: ['ecall'], EBREAK: ['ebreak']}.get(word)
         return ['csrrw', rd, first] if f3 == 1 and word >> 20 == JVT else found
     rows = {OPCODE_BRANCH: (BRANCHES.get(f3), first, second, branch_distance(word)),
-            OPCODE_LOAD: (LOADS.get(f3), rd, first, low_part(word)), OPCODE_STORE: (STORES.get(f3), first, second, low_part(word)),
+            OPCODE_LOAD: (LOADS.get(f3), rd, first, low_part(word)),
+            OPCODE_STORE: (STORES.get(f3), first, second, low_part(word)),
             OPCODE_REGISTER: (OPERATIONS.get((f7, f3)), rd, first, second),
             OPCODE_IMMEDIATE: (IMMEDIATES.get(f3), rd, first, low_part(word)) if f3 not in (1, 5) else
                               (SHIFTS.get((f7, f3)), rd, first, word >> 20 & 31)}
@@ -140,8 +141,10 @@ def code_lines(content):
             return
         value, = struct.unpack_from('<I' if is_word else '<H', content, at)
         words = named(value) if is_word else named_short(value)
-        yield 4 if is_word else 2, ' '.join(map(str, words or (('.word', f'{value:08x}') if is_word else ('.half', f'{value:04x}'))))
-        at += 4 if is_word else 2
+        unknown = ('.word', f'{value:08x}') if is_word else ('.half', f'{value:04x}')
+        size = 4 if is_word else 2
+        yield size, ' '.join(map(str, words or unknown))
+        at += size
 
 
 def data_lines(content):
@@ -193,8 +196,8 @@ def registers(numbers, lowest=0):
 
 
 class Number:
-    """A number whose pieces are in the instruction, as in `joined` of expansions.py, with a sign if it has so many bits. It may be
-    among those written as the lower bits of a wider number, and some must not be 0."""
+    """A number whose pieces are in the instruction, as in `joined` of expansions.py. It has a sign if it is told of how many bits;
+    it may be written as the last so many bits of a wider number; and there may be one that it isn't, or few that it is."""
 
     def __init__(self, *pieces, sign=None, wide=None, least=None, values=None):
         self.pieces, self.sign, self.wide, self.least, self.values = pieces, sign, wide, least, values
@@ -272,8 +275,9 @@ UPPER, AMOUNT, REST = Number((0, 31, 12)), Number((0, 24, 20)), Number((5, 31, 1
 
 def word_rows():
     """The words, by their names."""
-    rows = {'lui': Row(0x37, RD, UPPER), 'auipc': Row(0x17, RD, UPPER), 'jal': Row(0x6F, RD, FAR_J), 'jalr': Row(0x67, RD, RS1, LOW_I),
-            'fence': Row(0x0F, REST), 'ecall': Row(0x73), 'ebreak': Row(0x100073), 'csrrw': Row(0x01701073, RD, RS1)}
+    rows = {'lui': Row(0x37, RD, UPPER), 'auipc': Row(0x17, RD, UPPER), 'jal': Row(0x6F, RD, FAR_J),
+            'jalr': Row(0x67, RD, RS1, LOW_I), 'fence': Row(0x0F, REST), 'ecall': Row(0x73), 'ebreak': Row(0x100073),
+            'csrrw': Row(0x01701073, RD, RS1)}
     for opcode, names, operands in ((0x63, BRANCHES, (RS1, RS2, FAR_B)), (0x03, LOADS, (RD, RS1, LOW_I)),
                                     (0x23, STORES, (RS1, RS2, LOW_S)), (0x13, IMMEDIATES, (RD, RS1, LOW_I))):
         rows.update((name, Row(f3 << 12 | opcode, *operands)) for f3, name in names.items())
@@ -310,7 +314,8 @@ def short_rows():
         'c.add': Row(0x9002, AT_7, AT_7, SOME_2), 'c.swsp': Row(0xC002, X2, AT_2, Number((2, 12, 9), (6, 8, 7))),
         'cm.mvsa01': Row(0xAC22, Register(SAVED, 7, 3), Register(SAVED, 2, 3)),
         'cm.mva01s': Row(0xAC62, Register(SAVED, 7, 3), Register(SAVED, 2, 3)),
-        'cm.jt': Row(0xA002, Number((0, 9, 2), values=range(32))), 'cm.jalt': Row(0xA002, Number((0, 9, 2), values=range(32, 256)))}
+        'cm.jt': Row(0xA002, Number((0, 9, 2), values=range(32))),
+        'cm.jalt': Row(0xA002, Number((0, 9, 2), values=range(32, 256)))}
     return rows
 
 

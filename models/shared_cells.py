@@ -19,13 +19,11 @@ sys.path.insert(0, os.path.join(os.path.dirname(os.path.abspath(__file__)), os.p
 
 import symbolic_machine
 import zc_machine
-from object_data import CODE
-from object_faults import Object, told
+from object_faults import told
 from object_items import first_fault
-from symbolic_machine import HIGH, HIGH_FROM, MASK, PLACE, UNDEFINED, holds
+from symbolic_machine import HIGH, MASK, PLACE, UNDEFINED, holds
 from zc_link import link_of
 from zcld_tools.files import read, read_all, write
-from zcld_tools.instructions import SP
 
 SHARED, PLAN_TITLE, SHARED_TITLE = b'.shared', b'zcld plan 1', b'zcld shared 1'
 MOST_TEXT, MOST_INPUT, STUB_COMMITS = 8 << 20, 16 << 20, 3
@@ -279,8 +277,8 @@ def events_of(machine):
 
 
 def compared(objects, link, given, cuts, steps, each=1):
-    """Runs the objects and their image side by side, and gives how many steps were made before the program was stuck, exited or had made
-    all. After each step the events must be the same, and at each place with an address, every so many steps, the states."""
+    """Runs the objects and their image side by side, and gives how many steps were made before the program was stuck, exited or
+    had made all. After each step the events must be the same, and at places with an address, every so many steps, the states."""
     program = SharedProgram(objects, given, cuts, Pace(link))
     machine = SharedImage(link.image(), given, cuts, program.ranges)
     for step in range(steps + 1):
@@ -324,8 +322,8 @@ def status_of(line):
 
 
 def share(files, text, given=b'', steps=10_000_000):
-    """What `share` does with files that can be read, if OUT can be written and no memory is wanting: the objects are judged, and then
-    the plan, the input is taken, and OUT is put before the image runs."""
+    """What `share` does with files that can be read, if OUT can be written and no memory is wanting: the objects are judged, and
+    then the plan; the input is taken; and OUT is put before the image runs."""
     fault = first_fault(files)
     if fault:
         return Ended(121, b'', told(fault) + b'\n')

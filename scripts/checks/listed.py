@@ -228,8 +228,9 @@ def code_rows():
     """What a segment of code ends with, its bytes, the zeros behind them, and its lines."""
     nop, half = '00010000 addi x0 x0 0', '00010000 c.addi x0 x0 0'
     return (
-        ('a word', '13000000', 0, [nop]), ('one byte', '01', 0, ['00010000 .byte 01']), ('one byte of a word', '13', 0, ['00010000 .byte 13']),
-        ('two bytes of a word', '1300', 0, ['00010000 .byte 13 00']), ('three bytes of a word', '130000', 0, ['00010000 .byte 13 00 00']),
+        ('a word', '13000000', 0, [nop]), ('one byte', '01', 0, ['00010000 .byte 01']),
+        ('one byte of a word', '13', 0, ['00010000 .byte 13']), ('two bytes of a word', '1300', 0, ['00010000 .byte 13 00']),
+        ('three bytes of a word', '130000', 0, ['00010000 .byte 13 00 00']),
         ('a halfword', '0100', 0, [half]), ('a halfword and a byte', '010013', 0, [half, '00010002 .byte 13']),
         ('a halfword and another byte', '010000', 0, [half, '00010002 .byte 00']),
         ('a word and three bytes', '13000000ffeedd', 0, [nop, '00010004 .byte ff ee dd']),
@@ -266,11 +267,11 @@ def listed_segments(group):
 
 def several(group):
     """Segments that don't stand in the order of their addresses, that touch, and as many as there may be."""
-    parts = [(READABLE, DATA_AT + 1, b'a', 0), (EXECUTE, TEXT_AT + 2, words_of(0x73), 0), (0, 0x500000, b'', 0), (0, DATA_AT, b'b', 0),
-             (READ_ONLY_CODE, TEXT_AT, halves_of(0x0001), 0), (READ_ONLY_CODE, 0xFFFFD, b'\1\0\2', 0)]
-    wanted = listing_of('segment 00100001 1 data', '00100001 .byte 61', 'segment 00010002 4 code', '00010002 ecall', 'segment 00500000 0 data',
-                        'segment 00100000 1 data', '00100000 .byte 62', 'segment 00010000 2 code', '00010000 c.addi x0 x0 0',
-                        'segment 000ffffd 3 code', '000ffffd c.addi x0 x0 0', '000fffff .byte 02')
+    parts = [(READABLE, DATA_AT + 1, b'a', 0), (EXECUTE, TEXT_AT + 2, words_of(0x73), 0), (0, 0x500000, b'', 0),
+             (0, DATA_AT, b'b', 0), (READ_ONLY_CODE, TEXT_AT, halves_of(0x0001), 0), (READ_ONLY_CODE, 0xFFFFD, b'\1\0\2', 0)]
+    wanted = listing_of('segment 00100001 1 data', '00100001 .byte 61', 'segment 00010002 4 code', '00010002 ecall',
+                        'segment 00500000 0 data', 'segment 00100000 1 data', '00100000 .byte 62', 'segment 00010000 2 code',
+                        '00010000 c.addi x0 x0 0', 'segment 000ffffd 3 code', '000ffffd c.addi x0 x0 0', '000fffff .byte 02')
     prints(group, 'six segments', executable_of(parts, TEXT_AT), wanted)
     prints(group, f'headers of type {OTHER_KIND}', executable_of(parts, TEXT_AT, others=(0, 3, 8)), wanted)
     many = [(READ_ONLY_CODE, TEXT_AT + 4 * k, words_of(0x13), 0) for k in range(16)]
@@ -320,9 +321,11 @@ image list'''.splitlines()[1:]
 
 def listed_files(group):
     """files that are no images, or can't be read, and outputs that can't be written; nothing is put, and no input is taken"""
-    folder = group.folder(image=THREE_IMAGE, over=bytes(8 * MIB + 1), most=bytes(8 * MIB), empty=b'', out=OLD, **{'-image': THREE_IMAGE})
+    folder = group.folder(image=THREE_IMAGE, over=bytes(8 * MIB + 1), most=bytes(8 * MIB), empty=b'', out=OLD,
+                          **{'-image': THREE_IMAGE})
     rows = (('none', 122, 'read fault'), ('.', 122, 'read fault'), ('image/x', 122, 'read fault'), ('n' * 300, 122, 'read fault'),
-            ('over', 122, 'read fault'), ('/dev/zero', 122, 'read fault'), ('', 122, 'read fault'), ('/dev/null', 125, 'bad image 1'),
+            ('over', 122, 'read fault'), ('/dev/zero', 122, 'read fault'), ('', 122, 'read fault'),
+            ('/dev/null', 125, 'bad image 1'),
             ('empty', 125, 'bad image 1'), ('most', 125, 'bad image 1'), ('object', 125, 'bad image 1'))
     for name, status, line in rows:
         group.ends(f'the file {name[:20]!r}', folder.run(('list', name)), status, line)
@@ -346,7 +349,8 @@ def listed_outputs(group, folder):
     large = zc([LARGE])[0]
     folder.write('large', large)
     with open('/dev/full', 'wb') as full, broken_pipe() as broken:
-        for what, how in (('full', {'stdout': full}), ('a broken pipe', {'stdout': broken}), ('closed', {'first': lambda: os.close(1)})):
+        for what, how in (('full', {'stdout': full}), ('a broken pipe', {'stdout': broken}),
+                          ('closed', {'first': lambda: os.close(1)})):
             for name in ('image', 'large'):
                 group.ends(f'output is {what}, {name}', folder.run(('list', name), **how), 123, 'write fault')
     for size in (0, 1, 100, 5000):

@@ -7,11 +7,11 @@ import shared_programs
 from shared_cells import PLAN_TITLE, SHARED_TITLE, Differs, compared, read_plan, share
 from size_report import left_by_zc
 from zc_link import link_of
-from zcld_tools.elf import (ALIGN, BRANCH, CALL, CODE_FLAGS, CONSTANT_FLAGS, DATA_FLAGS, HI20, INIT_ARRAY, LOCAL, NOBITS, PROGBITS,
-                            WRITE, LO12_I)
+from zcld_tools.elf import (ALIGN, BRANCH, CALL, CODE_FLAGS, CONSTANT_FLAGS, DATA_FLAGS, HI20, INIT_ARRAY, LO12_I, LOCAL, NOBITS,
+                            PROGBITS, WRITE)
 from zcld_tools.images import DATA_AT, TEXT_AT
-from zcld_tools.instructions import (A0, A1, A2, A7, CALL_WORDS, EBREAK, ECALL, EXIT_WORDS, NOP, RA, S0, SP, T0, WRITE_CALL, ZERO, addi,
-                                     branch, immediate, jal, load, lui, lw, sw)
+from zcld_tools.instructions import (A0, A1, A2, A7, CALL_WORDS, EBREAK, ECALL, EXIT_CALL, EXIT_WORDS, NOP, RA, READ_CALL, S0, SP,
+                                     T0, WRITE_CALL, ZERO, addi, branch, immediate, jal, load, lui, lw, sw)
 from zcld_tools.objects import Written, object_with
 
 from checks import plans
@@ -33,8 +33,8 @@ def plan_of(lines):
 
 
 def shares(group, what, files, lines, wanted=None, given=b''):
-    """How `share` of files under a plan ends and what stands under OUT, as the model has it; and, if it is known by hand, the status,
-    standard output and the line. The model's program must come to what its image does."""
+    """How `share` of files under a plan ends and what stands under OUT, as the model has it; and, if it is known by hand, the
+    status, standard output and the line. The model's program must come to what its image does."""
     text = lines if isinstance(lines, bytes) else plan_of(lines)
     model = share(files, text, given)
     if wanted:
@@ -88,8 +88,8 @@ def pushing():
 
 
 def with_table():
-    """Twenty jumps to a load of a shared word, of which the first is `_start`. They go through a table, and three commits of the stub
-    come before."""
+    """Twenty jumps to a load of a shared word, of which the first is `_start`. They go through a table, and three commits of the
+    stub come before."""
     made = Written()
     text = made.section(b'.text')
     load_of(made, text, shared_word(made))
@@ -192,27 +192,30 @@ def three_of(kind, flags, names=(b'.first', b'.shared', b'.third')):
     return [(name, kind, flags, 4, 4) for name in names]
 
 
+def data(name, align, size, flags=DATA_FLAGS):
+    """A section of data with bytes."""
+    return name, PROGBITS, flags, align, size
+
+
 def cells_in_place(group):
-    """cells at each byte of data: shared sections of each kind, several ones, empty ones, those beside them, and almost shared ones"""
-    for kind, flags, what in ((PROGBITS, DATA_FLAGS, 'data'), (NOBITS, DATA_FLAGS, 'zeros'), (PROGBITS, CONSTANT_FLAGS, 'constants'),
-                              (INIT_ARRAY, DATA_FLAGS, 'an array')):
+    """cells at each byte of data: shared sections of each kind, several ones, empty ones, and those beside them"""
+    for kind, flags, what in ((PROGBITS, DATA_FLAGS, 'data'), (NOBITS, DATA_FLAGS, 'zeros'),
+                              (PROGBITS, CONSTANT_FLAGS, 'constants'), (INIT_ARRAY, DATA_FLAGS, 'an array')):
         in_place(group, what, [writing(*three_of(kind, flags))], range(4, 8))
     in_place(group, 'data before zeros', [writing((b'.data', PROGBITS, DATA_FLAGS, 1, 1), *three_of(NOBITS, DATA_FLAGS))], ())
-    ones = (b'.shared', PROGBITS, DATA_FLAGS, 1, 1), (b'.shared', PROGBITS, DATA_FLAGS, 8, 1), (b'.data', PROGBITS, DATA_FLAGS, 1, 1)
+    ones, four = (data(b'.shared', 1, 1), data(b'.shared', 8, 1), data(b'.data', 1, 1)), data(b'.shared', 4, 4)
     in_place(group, 'two in an object, with a gap', [writing(*ones)], (0, 8))
-    more = [(b'.data', PROGBITS, DATA_FLAGS, 4, 4), (b'.shared', PROGBITS, DATA_FLAGS, 4, 4)]
-    in_place(group, 'one in each object', [writing((b'.shared', PROGBITS, DATA_FLAGS, 4, 4)), object_of_data(*more)],
-             (*range(4), *range(8, 12)))
-    in_place(group, 'an empty one', [writing((b'.shared', PROGBITS, DATA_FLAGS, 4, 0), (b'.data', PROGBITS, DATA_FLAGS, 4, 4))], ())
+    in_place(group, 'one in each object', [writing(four), object_of_data(data(b'.data', 4, 4), four)], (*range(4), *range(8, 12)))
+    in_place(group, 'an empty one', [writing(data(b'.shared', 4, 0), data(b'.data', 4, 4))], ())
     for name in (b'.shared.more', b'.share', b'.sharedx', b'.Shared', b'shared', b'', b'.bss', b'.sdata'):
-        in_place(group, f'the name {name}', [writing((name, PROGBITS, DATA_FLAGS, 4, 16))], ())
-    in_place(group, 'one that is not kept', [writing((b'.shared', PROGBITS, WRITE, 4, 16), (b'.data', PROGBITS, DATA_FLAGS, 4, 16))], ())
+        in_place(group, f'the name {name}', [writing(data(name, 4, 16))], ())
+    in_place(group, 'one that is not kept', [writing(data(b'.shared', 4, 16, WRITE), data(b'.data', 4, 16))], ())
     outside(group)
 
 
 def outside(group):
-    """Cells in code, on the stack and where there is no memory, which are passed over; so is what is shared by its name and is code."""
-    made, _ = object_with(addi(A7, ZERO, 93), load(4, A0, SP, -1), ECALL)
+    """Cells in code, on the stack and where there is no memory, which are passed over. Code isn't shared, whatever its name is."""
+    made, _ = object_with(addi(A7, ZERO, EXIT_CALL), load(4, A0, SP, -1), ECALL)
     made.section(b'.shared', PROGBITS, CODE_FLAGS).words(*EXIT_WORDS)
     add_sections(made, three_of(NOBITS, DATA_FLAGS))
     files = [made.bytes()]
@@ -242,15 +245,16 @@ def reading(group):
     made, text = object_with()
     data = shared_word(made)
     text.reloc(HI20, made.symbol(b'', home=data, bind=LOCAL), 0, (lui(A1),))
-    text.words(addi(A0, ZERO, 0), addi(A2, ZERO, 4), addi(A7, ZERO, 63), ECALL, lw(A0, A1), *EXIT_WORDS)
+    text.words(addi(A0, ZERO, 0), addi(A2, ZERO, 4), addi(A7, ZERO, READ_CALL), ECALL, lw(A0, A1), *EXIT_WORDS)
     for at, byte in ((0, 0x61), (4, 0x61), (5, 7), (6, 0x61)):
-        shares(group, f'a read, and a cell before commit {at}', [made.bytes()], f'cut {at} s00100000:07', (byte, b'', f'exited {byte}'), b'abcd')
+        shares(group, f'a read, and a cell before commit {at}', [made.bytes()], f'cut {at} s00100000:07',
+               (byte, b'', f'exited {byte}'), b'abcd')
 
 
 # ---- texts
 
-SHARED_LINES = ('cut 0 s00000000:00', 'cut 0 a0 d0fffffff:2a s00100000:07', 'cut 0 s00100000:07 s00100000:08', 'cut 0 sffffffff:ff',
-                'cut 7 a255 a0 s01234567:89 sabcdef00:0a', 'cut 0 a0\ncut 1 d0fffffff:2a\ncut 1 s0fffffff:2a')
+SHARED_LINES = ('cut 0 s00000000:00', 'cut 0 a0 d0fffffff:2a s00100000:07', 'cut 0 s00100000:07 s00100000:08',
+                'cut 0 sffffffff:ff', 'cut 7 a255 a0 s01234567:89 sabcdef00:0a', 'cut 0 a0\ncut 1 d0fffffff:2a\ncut 1 s0fffffff:2a')
 # Lines after the first one, of which none is valid there: the address and the byte; the order of words; and spaces.
 BAD_SHARED_LINES = r'''
 cut 0 s
@@ -286,8 +290,9 @@ def shared_texts(group):
     rows = [(TITLE + (lines + '\n' if lines else '').encode(), 3, 'exited 3') for lines in (*plans.PLANS, *SHARED_LINES)]
     rows += [(TITLE + line.encode('latin-1') + b'\n', 125, 'bad plan line 2') for line in (*plans.BAD_LINES, *BAD_SHARED_LINES)]
     rows += [(text.replace(PLAN_TITLE[:9], SHARED_TITLE[:11]), 125, f'bad plan {fault}') for text, fault in plans.BAD_TEXTS]
-    rows += [(PLAN_TITLE + b'\n', 125, 'bad plan line 1'), (TITLE + b'cut 1 s00100000:07\ncut 0 s00100000:07\n', 125, 'bad plan order 3'),
-             (TITLE + b'cut 1 s00100000:07', 125, 'bad plan line 2'), (TITLE + PLAN_TITLE + b'\n', 125, 'bad plan line 2')]
+    rows += [(PLAN_TITLE + b'\n', 125, 'bad plan line 1'), (TITLE + PLAN_TITLE + b'\n', 125, 'bad plan line 2'),
+             (TITLE + b'cut 1 s00100000:07\ncut 0 s00100000:07\n', 125, 'bad plan order 3'),
+             (TITLE + b'cut 1 s00100000:07', 125, 'bad plan line 2')]
     folder = group.folder(image=THREE_IMAGE)
     for text, status, line in rows:
         group.same(f'shared plan {text[:40]}: the model', share([THREE], text).err, line.encode() + b'\n')
@@ -316,7 +321,8 @@ def shared_files(group):
         ('plan', 'object', 3, 'exited 3'), ('most', 'object', 3, 'exited 3'), ('bad', 'object', 125, 'bad plan line 1'),
         ('other', 'object', 125, 'bad plan line 1'), ('empty', 'object', 125, 'bad plan line 1'),
         ('/dev/null', 'object', 125, 'bad plan line 1'), ('plan', 'bad', 121, 'refused 0 1 NotElf'),
-        ('bad', 'bad', 121, 'refused 0 1 NotElf'), ('object', 'plan', 121, 'refused 0 1 NotElf'), ('none', 'object', 122, 'read fault'),
+        ('bad', 'bad', 121, 'refused 0 1 NotElf'), ('object', 'plan', 121, 'refused 0 1 NotElf'),
+        ('none', 'object', 122, 'read fault'),
         ('none', 'bad', 122, 'read fault'), ('plan', 'none', 122, 'read fault'), ('bad', 'none', 122, 'read fault'),
         ('over', 'object', 122, 'read fault'), ('over', 'bad', 122, 'read fault'), ('plan', 'big', 122, 'read fault'),
         ('.', 'object', 122, 'read fault'), ('plan/x', 'object', 122, 'read fault'), ('n' * 300, 'object', 122, 'read fault'),
@@ -358,7 +364,7 @@ def shared_outputs(group):
         folder = group.folder(plan=TITLE)
         group.exits(f'OUT is {out}', folder.run(('share', '--out', out, '--plan', 'plan', 'object')), 3)
         group.same(f'OUT is {out}: what stands', folder.read(out), THREE_IMAGE)
-        group.same(f'OUT is {out}: the other', folder.read('plan' if 'object' in out else 'object'), TITLE if 'object' in out else THREE)
+        group.same(f'OUT is {out}: the other', *((folder.read('object'), THREE) if out == 'plan' else (folder.read('plan'), TITLE)))
     folder = group.folder(plan=TITLE, copy=COPY)
     for out in ('.', '', 'n' * 256, 'plan/x', 'none/out'):
         group.ends(f'OUT is {out[:10]!r}', folder.run(('share', '--out', out, '--plan', 'plan', 'object')), 123, 'write fault')
@@ -406,17 +412,19 @@ share --help'''.splitlines()[1:]
 def shared_ends(group):
     """each status and line, and how many commits may be made; words that spell no such command"""
     objects = {'exit0': exit_code(0), 'exit117': exit_code(117), 'exit118': exit_code(118), 'exit255': exit_code(255)}
-    stops = {'break': (EBREAK,), 'past': (NOP,), 'bad': (lw(A0, ZERO),), 'odd': (lw(A0, SP, -2),), 'call': (addi(A0, ZERO, 5), ECALL)}
-    folder = group.folder(plan=TITLE, out=OLD, late=plan_of('cut 3 s00100000:07'), twice=THREE, other=object_of(exit_code(4), b'other'),
+    stops = {'break': (EBREAK,), 'past': (NOP,), 'bad': (lw(A0, ZERO),), 'odd': (lw(A0, SP, -2),),
+             'call': (addi(A0, ZERO, 5), ECALL)}
+    folder = group.folder(plan=TITLE, out=OLD, twice=THREE, other=object_of(exit_code(4), b'other'),
                           **{name: object_of(code) for name, code in objects.items()},
                           **{name: object_with(*words)[0].bytes() for name, words in stops.items()})
     rows = (('object', 3, 'exited 3'), ('exit0', 0, 'exited 0'), ('exit117', 117, 'exited 117'), ('exit118', 118, 'exited 118'),
-            ('exit255', 118, 'exited 255'), ('break', 126, 'stopped 4 Break 00010000'), ('past', 126, 'stopped 2 BadAccess 00010002'),
+            ('exit255', 118, 'exited 255'), ('break', 126, 'stopped 4 Break 00010000'),
+            ('past', 126, 'stopped 2 BadAccess 00010002'),
             ('bad', 126, 'stopped 2 BadAccess 00010000'), ('odd', 126, 'stopped 3 Misaligned 00010000'),
             ('call', 126, 'stopped 5 UnknownCall 00010002'), ('object twice', 121, 'refused 1 9 Duplicate _start'),
             ('other', 121, 'refused 0 16 NoEntry'), ('other object', 3, 'exited 3'), ('--steps 3 object', 3, 'exited 3'),
-            ('--steps 2 object', 127, 'spent'), ('--steps 0 object', 127, 'spent'), ('--steps=00000000000000000003 object', 3, 'exited 3'),
-            ('object --steps 1000000000', 3, 'exited 3'))
+            ('--steps 2 object', 127, 'spent'), ('--steps 0 object', 127, 'spent'), ('object --steps 1000000000', 3, 'exited 3'),
+            ('--steps=00000000000000000003 object', 3, 'exited 3'))
     for words, status, line in rows:
         folder.write('out', OLD)
         group.ends(words, folder.run((*WORDS, *words.split())), status, line)
