@@ -446,6 +446,11 @@ def shared_runs(group):
             group.exits(what, folder.run((*WORDS, *folder.write_list(objects)), given), status, read(program, 'output'))
             group.same(f'{what}: OUT', folder.read('out'), left_by_zc(objects).image)
             folder.remove()
+    timer, ticks = [read('firmware', 'gcc', 'start.o'), read('timer.o')], read('timer.plan')
+    shares(group, 'a timer', timer, ticks, (3, b'', 'exited 3'))
+    folder = group.folder(plan=TITLE)
+    ended = folder.run((*WORDS, '--steps', '5000', *folder.write_list(timer)))
+    group.ends('a timer without interrupts', ended, 127, 'spent')
     for seed in range(80):
         folder = group.folder()
         group.same(f'list {seed}', shared_programs.look(folder, random.Random(f'share {seed}'), collections.Counter()), None)
