@@ -3,10 +3,11 @@
 
     bench/plans.py [--repeats R] [PROGRAM]        PROGRAM is build/zcld if none is given
 
-Plans of about 8 MiB are read with `--steps 0`: with short lines, with one line of many accesses and bytes, and with a bad line at
-the end. A loop of 10,000 commits is run under plans of up to 100,000 interrupts, all of them before its commits. Pushes are
-counted against the stores and the `addi` that they stand for: instructions of the processor by `valgrind --tool=callgrind`, if it
-is installed. Each call is made R times, and a time is the least of the processor's.
+Plans of about 8 MiB are read with `--steps 0`: with short lines, with one line of many accesses and bytes, and with a bad line
+at the end. A loop of 10,000 commits is run under plans of up to 100,000 interrupts, all of them before its commits; it is run
+by `share` too, under as many, which write nothing to shared data, or a byte each. What both take with `--steps 0` is left out,
+and so is the link. Pushes are counted against the stores and the `addi` that they stand for: instructions of the processor by
+`valgrind --tool=callgrind`, if it is installed. Each call is made R times, and a time is the least of the processor's.
 """
 import os
 import sys
@@ -17,13 +18,15 @@ sys.path[:0] = (os.path.join(os.path.dirname(os.path.abspath(__file__)), os.pard
 
 from machine import followed, least
 from run import SPENT
+from zcld_tools.elf import DATA_FLAGS, NOBITS
 from zcld_tools.files import write
-from zcld_tools.images import COMPRESSED, STACK_HIGH, TEXT_AT, image_bytes
+from zcld_tools.images import COMPRESSED, DATA_AT, STACK_HIGH, TEXT_AT, image_bytes
 from zcld_tools.instructions import A0, EXIT_WORDS, RA, SP, T0, ZERO, addi, branch, constant, sw, words_of
 from zcld_tools.measured import processor_name, table, words_of_bench
+from zcld_tools.objects import object_with
 from zcld_tools.programs import built
 
-LIMIT, BAD, HEAD = 8 << 20, 125, b'zcld plan 1\n'
+LIMIT, BAD, HEAD, SHARED_HEAD = 8 << 20, 125, b'zcld plan 1\n', b'zcld shared 1\n'
 COMMITS, PLANS, PUSHES = 10_000, (0, 12_500, 25_000, 50_000, 100_000), 10_000
 BNE = 1
 # `cm.push` with list 0, and the registers of lists by their numbers
@@ -52,6 +55,26 @@ def plan_of(count):
     """So many interrupts before the commits, each with an access and four bytes."""
     return HEAD + b''.join(b'cut %d a0 d0ffffff0:01 d0ffffff1:02 d0ffffff2:03 d0ffffff3:04\n' % (k * COMMITS // count)
                            for k in range(count))
+
+
+def shared_plan_of(count, cell):
+    """The same as a shared plan, with a cell each or none."""
+    return (SHARED_HEAD + plan_of(count)[len(HEAD):]).replace(b':04\n', b':04' + cell + b'\n')
+
+
+def shared_loop(turns):
+    """The loop of a sum as an object, with a shared word."""
+    made, _ = object_with(*constant(T0, turns), addi(6, 6, 1), addi(T0, T0, -1), branch(BNE, T0, ZERO, -8), addi(A0, ZERO),
+                          *EXIT_WORDS)
+    made.section(b'.shared', NOBITS, DATA_FLAGS, size=4)
+    return made.bytes()
+
+
+def running(program, words, repeats):
+    """The seconds that a call takes with no commits, and how many more with all."""
+    none, whole = (least([program, *words, '--steps', str(steps)], status, repeats)
+                   for steps, status in ((0, SPENT), (2 * COMMITS, 0)))
+    return none, whole - none
 
 
 def loop(body, turns, before=()):
@@ -100,12 +123,17 @@ def main():
             rows.append((what, len(text), text.count(b'\n') - 1, f'{took * 1000:.0f}'))
         table(('plan', 'bytes', 'interrupts', 'ms to read'), rows, 1)
         rows = []
+        obj = os.path.join(folder, 'object')
+        write(obj, shared_loop(COMMITS // 3))
         for count in PLANS:
-            write(plan, plan_of(count) if count else HEAD)
-            both = [least([program, 'run', '--plan', plan, '--steps', str(steps), image], status, given.repeats)
-                    for steps, status in ((0, SPENT), (2 * COMMITS, 0))]
-            rows.append((count, f'{both[0] * 1000:.1f}', f'{(both[1] - both[0]) * 1000:.1f}'))
-        table((f'interrupts in {COMMITS:,} commits', 'ms to read', 'ms to run'), rows)
+            write(plan, plan_of(count))
+            both = running(program, ['run', '--plan', plan, image], given.repeats)
+            shared, words = [], ['share', '--out', os.path.join(folder, 'out'), '--plan', plan, obj]
+            for cell in (b'', b' s%08x:05' % DATA_AT):
+                write(plan, shared_plan_of(count, cell))
+                shared.append(running(program, words, given.repeats)[1])
+            rows.append((count, *(f'{it * 1000:.1f}' for it in (*both, *shared))))
+        table((f'interrupts in {COMMITS:,} commits', 'ms to read', 'ms to run', '`share`', '`share`, a cell each'), rows)
         rows = pushes(program, folder)
         if rows is None:
             print('\nvalgrind is not installed: pushes are not counted.')

@@ -1,5 +1,5 @@
 #!/usr/bin/env python3
-"""Calls all six commands with mutated objects, lists, images, plans, certificates and words.
+"""Calls all commands but `gc` and `merge` with mutated objects, lists, images, plans, certificates and words.
 
     fuzz/campaign.py [--seed S] [--compare N] [--look N] [--seconds T] [--jobs N] [--only CASE] [--limit T] [--keep FOLDER]
                      [PROGRAM]
@@ -10,11 +10,12 @@ here make, compressed ones among them, the images of both links, texts of plans 
 scripts/checks has.
 
 N cases are compared with the models: `plain` and `zc` with plain_link.py, zc_link.py and size_report.py, their refusals and
-that of `trace` with object_items.py, all in the memory map that the words give (memory_maps.py), `trace` with
-symbolic_machine.py, `run` of an image that wasn't mutated with zc_machine.py, faults of a plan with `plan_fault` below, `check`
-with certificates.py, words with `is_command` below, and `make` with made_load.py; a file that is too long is a read fault. Of N
-more cases only this is looked at: the call ends by itself within the limit of seconds of elapsed time, and its status has its line
-at the end of standard error (docs/FORMATS.md, "Messages on standard error, and the status").
+those of `trace` and `share` with object_items.py, all in the memory map that the words give (memory_maps.py), `trace` with
+symbolic_machine.py, `run` of an image that wasn't mutated with zc_machine.py, `share` and faults of plans with shared_cells.py,
+`list` of such an image with listing.py, `check` with certificates.py, words with `is_command` below, and `make` with
+made_load.py; a file that is too long is a read fault. Of N more cases only this is looked at: the call ends by itself within
+the limit of seconds of elapsed time, and its status has its line at the end of standard error (docs/FORMATS.md, "Messages on
+standard error, and the status").
 
 Half of T seconds at most goes to cases that are compared, if both are asked for. N processes share the cases, one if none is
 given; files of calls are in the system's folder for these ($TMPDIR), and calls end sooner if that is in memory. It prints how
@@ -44,60 +45,44 @@ from frame_plans import made_object as object_of_frames
 from fuzz import IMAGE_LIMIT, MUTATIONS, OBJECT_LIMIT, made_object
 from groups import LISTS
 from made_frames import ENDINGS, sizes
+from listing import listed
 from made_objects import made_list
 from memory_maps import USUAL, lies_in, made_map, map_in, words_of_map
 from object_faults import told
 from object_items import first_fault
 from plain_link import plain as plain_of
+from shared_cells import PLAN_TITLE, SHARED_TITLE, plan_fault, share as shared_run
+from shared_programs import shared_list
 from size_report import left_by_zc
 from symbolic_machine import trace as trace_of
 from zcld_tools import TOP, programs
 from zcld_tools.files import files_in, random_bytes, read, read_all, write
-from zcld_tools.images import STANDARD
+from zcld_tools.images import DATA_AT, STANDARD
 from zcld_tools.programs import Failed
 
-TITLE = b'zcld plan 1\n'
-STEPS, STEPS_LOOKED_AT, BY_OBJECTS = '2000', '50000', ('plain', 'zc', 'trace')
+TITLE = PLAN_TITLE + b'\n'
+STEPS, STEPS_LOOKED_AT, BY_OBJECTS, RUNS = '2000', '50000', ('plain', 'zc', 'trace', 'share'), ('run', 'trace', 'share')
 # The commands, as often as they are called.
-OFTEN = ('plain', 'zc', 'trace', 'run', 'run', 'check', 'words') * 6 + ('make',)
+OFTEN = ('plain', 'zc', 'trace', 'run', 'run', 'share', 'list', 'check', 'words') * 6 + ('make',)
 
 # For each status of the program itself: its lines, and the commands that have them.
-LINES = ((0, r'', ('plain', 'zc', 'check', 'make')), (120, r'usage\n', None),
+LINES = ((0, r'', ('plain', 'zc', 'check', 'make', 'list')), (120, r'usage\n', None),
          (121, r'refused \d+ \d+ [A-Z]\w+(?s:.*)\n', BY_OBJECTS),
-         (122, r'read fault\n', ('plain', 'zc', 'run', 'trace', 'check')), (123, r'write fault\n', None),
-         (124, r'out of memory\n', None), (125, r'bad image [1-4]\n', ('run',)), (125, r'bad plan (line|order) \d+\n', ('run',)),
-         (125, r'(bad certificate line \d+|rejected)\n', ('check',)), (126, r'stopped [1-5] [A-Z]\w+ [0-9a-f]{8}\n', ('run',)),
-         (126, r'stuck \d+ \d+ \d+ [1-9] [A-Z]\w+\n', ('trace', 'make')), (127, r'spent\n', ('run', 'trace', 'make')))
+         (122, r'read fault\n', (*BY_OBJECTS, 'run', 'check', 'list')), (123, r'write fault\n', None),
+         (124, r'out of memory\n', None), (125, r'bad image [1-4]\n', ('run', 'list')),
+         (125, r'bad plan (line|order) \d+\n', ('run', 'share')),
+         (125, r'(bad certificate line \d+|rejected)\n', ('check',)),
+         (126, r'stopped [1-5] [A-Z]\w+ [0-9a-f]{8}\n', ('run', 'share')),
+         (126, r'stuck \d+ \d+ \d+ [1-9] [A-Z]\w+\n', ('trace', 'make')), (127, r'spent\n', (*RUNS, 'make')))
 
 
 # ---- what the models say
 
 
-def plan_fault(text):
-    """The result for a plan's text: nothing, or its first fault."""
-    *lines, rest = text.split(b'\n')
-    before = 0
-    for number, line in enumerate(lines, 1):
-        found = re.fullmatch(rb'cut (0|[1-9][0-9]{0,19})((?: a[0-9]{1,3})*)(?: d[0-9a-f]{8}:[0-9a-f]{2})*', line)
-        if number == 1 and line == TITLE[:-1]:
-            continue
-        if number == 1 or found is None or not numbers_fit(found):
-            return f'line {number}'
-        if int(found[1]) < before:
-            return f'order {number}'
-        before = int(found[1])
-    return f'line {len(lines) + 1}' if rest or not lines else None
-
-
-def numbers_fit(found):
-    """The number of a commit and those of accesses aren't too large, and have no leading zeros."""
-    accesses = [word[1:] for word in found[2].split()]
-    return int(found[1]) < 1 << 64 and all(int(it) < 256 and str(int(it)).encode() == it for it in accesses)
-
-
 # Each command: its options, those that it must have, and how many other words it takes, at least and at most.
 GIVEN = {'plain': ((*USUAL, '--out'), ('--out',), 1, None), 'zc': ((*USUAL, '--out', '--cert'), ('--out', '--cert'), 1, None),
          'run': ((*USUAL, '--plan', '--steps'), (), 1, 1), 'trace': ((*USUAL, '--steps'), (), 1, None), 'check': ((), (), 1, 1),
+         'share': (('--out', '--plan', '--steps'), ('--out', '--plan'), 1, None), 'list': ((), (), 1, 1),
          'make': (('--out',), (), 2, 2)}
 
 
@@ -218,6 +203,15 @@ def plan(rng, stack):
     return text if rng.random() < 0.6 else with_slip(rng, text)
 
 
+def shared_plan(rng):
+    """The same with a shared plan's first line, and with cells at the start of data in some lines."""
+    title, *lines = plan(rng, STANDARD.stack_high).split(b'\n')
+    for k, line in enumerate(lines):
+        for _ in range(rng.choice((0, 1, 3)) if line else 0):
+            lines[k] += b' s%08x:%02x' % (DATA_AT + rng.randrange(-1, 300), rng.randrange(256))
+    return b'\n'.join((title.replace(PLAN_TITLE, SHARED_TITLE), *lines))
+
+
 def with_slip(rng, text):
     """A text with a byte or some that are changed, added, left out, or doubled."""
     at, size = rng.randrange(len(text) + 1), rng.choice((1, 1, 2, 9))
@@ -262,7 +256,7 @@ class Case:
         getattr(self, f'take_{"objects" if self.command in BY_OBJECTS else self.command}')(rng, corpus)
 
     def take_objects(self, rng, corpus):
-        files = corpus.objects(rng)
+        files = shared_list(rng, rng.random() < 0.5) if self.command == 'share' and rng.random() < 0.7 else corpus.objects(rng)
         for _ in range(rng.choice((0, 0, 1, 1, 2))):
             k = rng.randrange(len(files))
             files[k] = mutated(rng, files[k])
@@ -272,6 +266,11 @@ class Case:
             rng.shuffle(files)
         self.objects = files
         self.files = {f'{k}.o': data for k, data in enumerate(files)}
+        if self.command == 'share':
+            self.memory = STANDARD
+            self.words = ['share', '--out', 'out', '--plan', 'plan', '--steps', self.steps, *self.files]
+            self.files['plan'] = shared_plan(rng)
+            return
         options = {'plain': ('--out', 'out'), 'zc': ('--out', 'out', '--cert', 'cert'), 'trace': ('--steps', self.steps)}
         self.words = [self.command, *self.map_words(rng), *options[self.command], *self.files]
 
@@ -291,6 +290,10 @@ class Case:
             self.files['plan'] = plan(rng, self.memory.stack_high)
         self.words = ['run', *self.map_words(rng), *(('--plan', 'plan') if 'plan' in self.files else ()), '--steps', self.steps,
                       'image']
+
+    def take_list(self, rng, corpus):
+        image, self.is_whole = corpus.image(rng, self.memory), rng.random() < (0.7 if self.is_compared else 0.2)
+        self.files, self.words = {'image': image if self.is_whole else mutated(rng, image)}, ['list', 'image']
 
     def take_check(self, rng, _):
         text = made_text(rng)
@@ -315,14 +318,14 @@ class Case:
         """What the call came to, by the line at the end of standard error. Without one that its status may have, it failed."""
         err = ended.err.decode('latin-1')
         command = self.words[0] if self.words else ''
-        if ended.status <= 118 and ended.status >= 0 and command in ('run', 'trace'):
+        if ended.status <= 118 and ended.status >= 0 and command in RUNS:
             found = re.search(r'(?:exited) (\d+)\n\Z', err)
             if found and min(int(found[1]), 118) == ended.status and int(found[1]) < 256:
                 return 'exited'
         for status, line, commands in LINES:
             found = re.search(line + r'\Z', err)
             if status == ended.status and found and (commands is None or command in commands):
-                if line == '' and err or command not in ('run', 'trace') and found.start():
+                if line == '' and err or command not in RUNS and found.start():
                     break
                 return 'done' if line == '' else re.sub(r' [0-9a-f]{8}$|(?<=line|rder) \d+$', '', name_of(found[0]))
         raise Failed(f'signal {-ended.status}' if ended.status < 0 else f'status {ended.status} with {ended.err[-200:]!r}')
@@ -330,8 +333,8 @@ class Case:
     # what is compared
 
     def compare(self, ended, folder):
-        most = OBJECT_LIMIT if self.command in BY_OBJECTS else IMAGE_LIMIT
-        if any(len(data) > most for data in self.files.values()):
+        if any(len(data) > (OBJECT_LIMIT if self.command in BY_OBJECTS and name != 'plan' else IMAGE_LIMIT)
+               for name, data in self.files.items()):
             self.wanted(ended, 122, b'', b'read fault\n')
         else:
             getattr(self, f'compare_{self.command}', self.compare_link)(ended, files_in(folder))
@@ -371,7 +374,7 @@ class Case:
             self.wanted(ended, status_of(line), out, err + line + b'\n')
 
     def compare_run(self, ended, _):
-        fault = plan_fault(self.files.get('plan', TITLE))
+        fault = plan_fault(self.files.get('plan', TITLE), PLAN_TITLE)
         if not self.is_whole:
             return
         if not lies_in(self.files['image'], self.memory):
@@ -383,6 +386,21 @@ class Case:
         machine = zc_machine.Machine(self.files['image'], self.given, self.memory)
         line = zc_machine.run(machine, zc_machine.plan_in(self.files.get('plan', TITLE)), int(STEPS)).encode()
         self.wanted(ended, status_of(line), machine.written[1], machine.written[2] + line + b'\n')
+
+    def compare_share(self, ended, left):
+        model = shared_run(self.objects, self.files['plan'], self.given, int(STEPS))
+        self.wanted(ended, *model[:3])
+        if {**left, 'out': left.get('out')} != {**self.files, 'out': model.image}:
+            raise Failed(f'other files are there: {sorted(left)}')
+
+    def compare_list(self, ended, _):
+        if not self.is_whole:
+            return
+        image = self.files['image']
+        if lies_in(image, STANDARD):
+            self.wanted(ended, 0, listed(image), b'')
+        else:
+            self.wanted(ended, 125, b'', b'bad image 3\n')
 
     def compare_check(self, ended, _):
         said = answer(self.files['cert']).encode() + b'\n'

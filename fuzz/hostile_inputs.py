@@ -23,11 +23,11 @@ sys.path[:0] = (os.path.join(os.path.dirname(os.path.abspath(__file__)), os.pard
 
 from costly_objects import WITHIN, write_list
 from zcld_tools import programs
-from zcld_tools.elf import (ALIGN, DATA_FLAGS, EXECUTABLE, EXECUTE, HEADER, LOCAL, PCREL_HI20, PCREL_LO12_I, PROGRAM_HEADER,
+from zcld_tools.elf import (ALIGN, DATA_FLAGS, EXECUTABLE, EXECUTE, HEADER, LOCAL, NOBITS, PCREL_HI20, PCREL_LO12_I, PROGRAM_HEADER,
                             READABLE, RELAX, RVC, RVC_BRANCH, RVC_JUMP, R_32, WRITABLE, Part, file_header)
 from zcld_tools.files import read, write
 from zcld_tools.images import DATA_AT, TEXT_AT, image_bytes, load_header
-from zcld_tools.instructions import A0, EXIT_WORDS, NOP, RET, SHORT_NOP, ZERO, addi, auipc, jalr, words_of
+from zcld_tools.instructions import A0, EXIT_WORDS, NOP, RET, SHORT_NOP, ZERO, addi, auipc, halves_of, jalr, words_of
 from zcld_tools.objects import Reloc, Written, object_with
 from zcld_tools.programs import Failed
 
@@ -36,6 +36,8 @@ EXIT = words_of(*WORDS)
 PLACES, HEADERS, MEMORY_STEP, OBJECT_LIMIT = 698_000, 65_535, 10 << 10, 4 << 20
 # `c.beqz s0` and `c.j`, `c.slli zero,1`, which is a hint, and a word whose upper half would be a jump of 2 bytes.
 C_BEQZ, C_J, HINT, LONG = 0xC001, 0xA001, 0x0006, 0xA0010013
+# `c.addi16sp sp,-512`, which has the longest line of a listing; and the most bytes of a list, of a plan, of code and of data.
+C_ADDI16SP, LIST_LIMIT, PLAN_LIMIT, CODE_LIMIT, DATA_LIMIT = 0x7101, 32 << 20, 8 << 20, DATA_AT - TEXT_AT, 4 << 20
 
 
 # ---- objects
@@ -173,6 +175,38 @@ def long_end_twice():
 ENDS = {'65,000 equal ends': lambda: ends(*[(RET,)] * 65_000), '65,000 ends that differ': unequal_ends,
         '650 ends of a hundred instructions': long_ends, 'an end of 32,000 instructions, twice': long_end_twice}
 
+# ---- shared data
+
+
+def sections_of(*names):
+    """An exit, and as many sections of a byte each as the limits allow, whose names go round."""
+    first, made = object_with(*WORDS)[0].bytes(), Written()
+    for k in range(4085):
+        made.section(names[k % len(names)], NOBITS, DATA_FLAGS, 1, 1)
+    return [first, *[made.bytes()] * ((LIST_LIMIT - len(first)) // len(made.bytes()))]
+
+
+def cells_of(before, behind):
+    """A plan of 8 MiB at most, with cells all over the data, and these words before and behind each."""
+    text, k = bytearray(b'zcld shared 1\n' + b'cut 0' * (not before)), 0
+    while len(text) < PLAN_LIMIT - 40:
+        text += b'%s s%08x:%02x%s' % (before, DATA_AT + 7919 * k % 800_000, k % 256, behind)
+        k += 1
+    return bytes(text) + b'\n' * (not behind)
+
+
+SECTIONS = {'837,000 shared sections': lambda: sections_of(b'.shared'),
+            '419,000 of them, apart': lambda: sections_of(b'.shared', b'.bss'), 'one shared section': lambda: [object_of_shared()]}
+CELLS = {'645,000 cells': lambda: cells_of(b'', b''), '441,000 interrupts': lambda: cells_of(b'cut 0', b'\n')}
+
+
+def object_of_shared():
+    """An exit, and as much shared data as one object may have."""
+    made, _ = object_with(*WORDS)
+    made.section(b'.shared', NOBITS, DATA_FLAGS, 1, DATA_LIMIT - 100)
+    return made.bytes()
+
+
 OBJECTS = WITHIN | {
     '65,000 low parts': low_parts, '21,000 paddings': alignments, '1,000 sections aligned to 256': aligned_sections,
     '65,000 hints of 2 bytes': short_hints, '32,000 paddings of 2 bytes': short_alignments,
@@ -206,7 +240,13 @@ def many_sections():
     return bytes(made) + bytes(40 * HEADERS)
 
 
-IMAGES = {'698,000 places': many_places, '65,535 program headers': many_headers, '65,535 section headers': many_sections}
+def most_listed():
+    """As much code and data as an image may have, with long lines."""
+    return image_bytes(halves_of(*[C_ADDI16SP] * (CODE_LIMIT // 2)), {}, bytes(range(256)) * (DATA_LIMIT // 256), 0, TEXT_AT, 0)
+
+
+IMAGES = {'698,000 places': many_places, '65,535 program headers': many_headers, '65,535 section headers': many_sections,
+          'as much as there may be': most_listed}
 
 
 # ---- calls
@@ -327,9 +367,15 @@ def main():
             calls.links(name, write_list(folder, files))
         for name in filter(is_asked, ENDS):
             calls.say(name, ['merge', '--out', 'left', *write_list(folder, ENDS[name]())])
+        for name in filter(is_asked, SECTIONS):
+            names = write_list(folder, SECTIONS[name]())
+            for cells, made in CELLS.items():
+                write(os.path.join(folder, 'plan'), made())
+                calls.say(f'{name}, {cells}', ['share', '--out', 'out', '--plan', 'plan', *names])
         for name in filter(is_asked, IMAGES):
             write(os.path.join(folder, 'image'), IMAGES[name]())
             calls.say(name, ['run', 'image'])
+            calls.say(name, ['list', 'image'])
         for name, more in (('files', odd_files), ('streams', streams)):
             if is_asked(name):
                 more(calls)

@@ -668,8 +668,8 @@ def make_odd(program):
             ways[which % 8](program)
 
 
-def made_list(rng, is_odd):
-    """The files of a list of objects."""
+def made_program(rng, is_odd):
+    """The objects of a list that is made, and what they have."""
     program = Program(rng, is_odd)
     program.named(program.objects[-1], b'absolute', home=ABS, value=rng.getrandbits(32))
     program.add_shared()
@@ -690,4 +690,9 @@ def made_list(rng, is_odd):
         read.is_reversed = rng.random() < 0.3
     if is_odd:
         make_odd(program)
-    return [read.bytes() for read in program.objects]
+    return program
+
+
+def made_list(rng, is_odd):
+    """The files of a list of objects."""
+    return [read.bytes() for read in made_program(rng, is_odd).objects]

@@ -47,6 +47,8 @@ from zcld_tools.programs import Failed
 # that it wrote are written again.
 PUSH_IMAGE = image_of(bytes.fromhex('52b8') + exit_code(7), (2, 4, 4, 4))
 PUSH_PLAN = b'zcld plan 1\ncut 0 a0 d0ffffffc:ee d0ffffffd:ee d0ffffffe:ee d0fffffff:ee\n'
+# A cut of the push of `hello`, and cells, which are passed over since it shares nothing.
+SHARED_PLAN = b'zcld shared 1\ncut 1 a0 d0ffffffc:ee s00100000:48\ncut 2 s00100001:49\n'
 SAVINGS = b'zcld certificate 1\nsaving 0 1 0 0 50\nprice 0 0 0\nnet 0\nend\n'
 
 READ_FAULT, WRITE_FAULT, OUT_OF_MEMORY = (122, b'read fault\n'), (123, b'write fault\n'), (124, b'out of memory\n')
@@ -93,6 +95,10 @@ def cases():
     yield Case('hello, gc', ('gc', '--out', 'p', 'x0.o', 'x1.o'), objects(two), ('p0.o', 'p1.o'))
     yield Case('three, merge', ('merge', '--out', 'p', 'x0.o'), objects([THREE]), ('p0.o',))
     yield Case('hello, merge', ('merge', '--out', 'p', 'x0.o', 'x1.o'), objects(two), ('p0.o', 'p1.o'))
+    yield Case('three, list', ('list', 'image'), {'image': zc([THREE])[0]})
+    yield Case('hello, list', ('list', 'image'), image)
+    shared = {**objects(two), 'plan': SHARED_PLAN}
+    yield Case('hello, share', ('share', '--out', 'out', '--plan', 'plan', 'x0.o', 'x1.o'), shared, ('out',), is_run=True)
     yield Case('push, run', ('run', '--plan', 'plan', 'image'), {'image': PUSH_IMAGE, 'plan': PUSH_PLAN}, is_run=True)
     yield Case('savings, check', ('check', 'cert'), {'cert': SAVINGS})
     yield Case('made, make', ('make', '5', '0'), {})
