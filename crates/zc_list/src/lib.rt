@@ -1,0 +1,8 @@
+//! Listings of images: texts with a line for each instruction, and for each sixteen bytes of data, which read back to
+//! the image's segments.
+#![tactic(auto)]
+
+pub mod fault;
+pub mod list;
+pub mod list_segment;
+pub mod read_list;
