@@ -1,6 +1,6 @@
-//! Instructions as texts.
+//! The text of an instruction of two or four bytes, and the instruction that such a text spells.
 #![tactic(auto)]
 
-pub mod code;
-pub mod push_code;
-pub mod read_code;
+pub mod machine_code;
+pub mod push;
+pub mod read;

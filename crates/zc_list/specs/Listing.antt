@@ -1,18 +1,18 @@
 -- The listing of segments: the line `zcld list 1`, the lines of each segment, and the line `end`. A line feed ends each
 -- line.
-use Rattle.std.specs.Prelude.{◌≡◌, ◌<◌, ◌≤◌, ℕ, zero, suc, ◌+◌, ◌-◌, ◌*◌, ◌/◌, ◌%◌, ◌^◌, ◌==◌, Bool, if◌then◌else◌, List, [], ◌∷◌, ◌++◌, length, take, drop, map, flat_map, All, codes, decimal}
+use Rattle.std.specs.Prelude.{◌≡◌, ◌<◌, ◌≤◌, ℕ, zero, suc, ◌+◌, ◌-◌, ◌*◌, ◌/◌, ◌%◌, ◌^◌, ◌==◌, Bool, true, false, if◌then◌else◌, List, [], ◌∷◌, ◌++◌, length, take, drop, map, flat_map, All, codes, decimal}
 use Rattle.std.specs.List.{join_with_byte}
 use Rattle.elf32_read.specs.Segments.{SegmentData}
 use Rattle.text_lines.specs.Hex.{hex_byte, hex_word}
-use Rattle.instruction_text.specs.Text.{code_bytes, code_text}
-use Rattle.instruction_text.specs.declared.code.Code.{Code}
-use Rattle.instruction_text.specs.declared.code.Code.TheVariants.{Half, Word}
+use Rattle.instruction_text.specs.Texts.{code_text, machine_code_bytes}
+use Rattle.instruction_text.specs.declared.machine_code.MachineCode.{MachineCode}
+use Rattle.instruction_text.specs.declared.machine_code.MachineCode.TheVariants.{Half, Word}
 
 -- ---- the lines of a segment
 
 -- what a line of a segment stands for: an instruction, bytes, or so many zeros
 pub data Content : Type 0 where
-  Instruction : Code → Content
+  Instruction : MachineCode → Content
   Bytes : List ℕ → Content
   Zeros : ℕ → Content
 
@@ -24,7 +24,7 @@ content_text (Zeros n) = join_with_byte 32 (codes ".zero" ∷ decimal n ∷ [])
 
 -- the number of bytes that it stands for
 abbrev pub content_size : Content → ℕ
-content_size (Instruction code) = length (code_bytes code)
+content_size (Instruction code) = length (machine_code_bytes code)
 content_size (Bytes bytes) = length bytes
 content_size (Zeros n) = n
 
@@ -50,15 +50,14 @@ abbrev pub sixteens : ℕ → List ℕ → List Content
 sixteens zero bytes = []
 sixteens (suc n) bytes = Bytes (take 16 bytes) ∷ sixteens n (drop 16 bytes)
 
--- the bytes from the file, and after them the number of bytes that aren't from it, if there are any
-unfoldable pub file_contents : SegmentData → List Content
-file_contents s = if s.code then code_contents s.bytes else sixteens ((length s.bytes + 15) / 16) s.bytes
+-- the bytes from the file, of code or of data
+unfoldable pub file_contents : Bool → List ℕ → List Content
+file_contents true bytes = code_contents bytes
+file_contents false bytes = sixteens ((length bytes + 15) / 16) bytes
 
+-- the number of bytes that aren't from it, if there are any
 abbrev pub zero_contents : ℕ → List Content
 zero_contents n = if n == 0 then [] else Zeros n ∷ []
-
-abbrev pub segment_contents : SegmentData → List Content
-segment_contents s = file_contents s ++ zero_contents (s.size - length s.bytes)
 
 -- a line: its address, of which 32 bits are written, a space, and its content
 abbrev pub content_line : ℕ → Content → List ℕ
@@ -79,7 +78,9 @@ unfoldable pub segment_line : SegmentData → List ℕ
 segment_line s = join_with_byte 32 (codes "segment" ∷ hex_word s.at ∷ decimal s.size ∷ kind_word s.code ∷ [])
 
 abbrev pub segment_lines : SegmentData → List (List ℕ)
-segment_lines s = segment_line s ∷ content_lines s.at (segment_contents s)
+segment_lines s =
+    let held = length s.bytes in
+    segment_line s ∷ (content_lines s.at (file_contents s.code s.bytes) ++ content_lines (s.at + held) (zero_contents (s.size - held)))
 
 abbrev pub list_lines : List SegmentData → List (List ℕ)
 list_lines segments = codes "zcld list 1" ∷ (flat_map segment_lines segments ++ codes "end" ∷ [])

@@ -5,7 +5,8 @@ use Rattle.elf32_read.specs.Segments.{SegmentData}
 use Rattle.text_lines.specs.Hex.{hex_word}
 use Rattle.text_lines.specs.Lines.{lines_of, words_of}
 use Rattle.text_lines.specs.Number.{decimal_of, hex_byte_of, hex_word_of}
-use Rattle.instruction_text.specs.Text.{code_bytes, code_of}
+use Rattle.instruction_text.specs.Reading.{code_spelled}
+use Rattle.instruction_text.specs.Texts.{machine_code_bytes}
 use Rattle.zc_list.specs.Listing.{Bytes, Content, Instruction, Zeros}
 
 -- ---- a line of a segment
@@ -31,7 +32,7 @@ abbrev pub content_of_words : List ℕ → List (List ℕ) → Option Content
 content_of_words text [] = None
 content_of_words text (first ∷ words) =
     if bytes_eq first (codes ".byte") then some_bytes words else
-    (if bytes_eq first (codes ".zero") then zeros_of_words words else option_map Instruction (code_of text))
+    (if bytes_eq first (codes ".zero") then zeros_of_words words else option_map Instruction (code_spelled text))
 
 -- what a line stands for that begins with this address and a space
 unfoldable pub content_at : ℕ → List ℕ → Option Content
@@ -97,7 +98,7 @@ after_bytes done s bytes =
 abbrev pub after_content : List SegmentData → SegmentData → Bool → Content → Option ListState
 after_content done s last (Zeros n) = if n == s.size - length s.bytes then Some (Between (done ++ s ∷ [])) else None
 after_content done s last (Bytes bytes) = if last then None else after_bytes done s bytes
-after_content done s last (Instruction code) = if not last && s.code then with_room done s (code_bytes code) false else None
+after_content done s last (Instruction code) = if not last && s.code then with_room done s (machine_code_bytes code) false else None
 
 -- the state after a line, if the line may stand there
 abbrev pub after_line : ListState → List ℕ → Option ListState

@@ -3,6 +3,8 @@
 #![tactic(auto)]
 
 pub mod fault;
+mod line;
 pub mod list;
 pub mod list_segment;
 pub mod read_list;
+
