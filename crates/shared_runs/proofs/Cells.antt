@@ -1,11 +1,13 @@
 -- A cell of data lies in one region alone, a segment of data: so a byte that is written there is read there, and writing the byte that
 -- it held brings back the memory from before.
-use Rattle.std.proofs.Common.{◌≡◌, ◌≢◌, ℕ, zero, suc, ◌+◌, ◌-◌, ◌<◌, ◌≤◌, List, [], ◌∷◌, length, get_or, Bool, true, false, cond, refl, sym, ap, ap₂, ◌∙◌, inl, inr, arith, leb, ltb}
-use Rattle.std.specs.Prelude.{◌⊎◌, ◌&&◌, ◌||◌}
-use Rattle.std.proofs.lemmas.Bool.{and_from, and_parts, and_right, cases_eq, cond-false, cond-true, le-leb, leb-true, or_from, or_left, or_parts, or_right}
+use Rattle.std.proofs.Common.{◌≡◌, ◌≢◌, ℕ, zero, suc, ◌+◌, ◌-◌, ◌<◌, ◌≤◌, List, [], ◌∷◌, length, get_or, Bool, true, false, cond, refl, sym, ap, ap₂, ◌∙◌, inl, inr, ⊎_elim, arith, leb, ltb}
+use Rattle.std.specs.Prelude.{◌⊎◌, ◌&&◌, ◌||◌, All}
+use Rattle.std.proofs.lemmas.Bool.{and_from, and_parts, and_right, cases_eq, cond-false, cond-true, le-leb, leb-true, or_cases, or_from, or_left, or_parts, or_right}
+use Rattle.std.proofs.lemmas.List.Elements.{All-head, All-tail}
 use Rattle.rv_decode.specs.Memory.{Data, Extent, Kind, Region, Stack, Text, cell_at, cells_changed, changed, extent_of, extents_of, is_text, lies_in, spans, written}
-use Rattle.rv_decode.proofs.MemoryLaws.{is_covered, untouched}
+use Rattle.rv_decode.proofs.MemoryLaws.{is_covered, lies_covered, untouched}
 use Rattle.rv_decode.proofs.WriteLaws.{changed-after, written_there}
+use Rattle.zc_machine.specs.Memory.{Apart, AreApart}
 use Rattle.zc_machine.specs.Poked.{is_segment}
 
 -- ---- where a cell lies
@@ -16,16 +18,36 @@ LiesAlone [] a = ⊥
 LiesAlone (x ∷ xs) a =
     ((is_segment x.kind ≡ true) × (spans x a 1 ≡ true) × (is_covered xs a ≡ false)) ⊎ ((spans x a 1 ≡ false) × LiesAlone xs a)
 
-pub alone_lies : (es : List Extent) (a : ℕ) → LiesAlone es a → lies_in is_segment es a 1 ≡ true
-alone_lies [] a h = absurd h
-alone_lies (x ∷ xs) a (inl h) = or_left (is_segment x.kind && spans x a 1) (lies_in is_segment xs a 1) (and_from (is_segment x.kind) (spans x a 1) h.0 h.1)
-alone_lies (x ∷ xs) a (inr h) = or_right (is_segment x.kind && spans x a 1) (lies_in is_segment xs a 1) (alone_lies xs a h.1)
-
-pub uncovered_lies : (fits : Kind → Bool) (es : List Extent) (a : ℕ) → is_covered es a ≡ false → lies_in fits es a 1 ≡ false
+uncovered_lies : (fits : Kind → Bool) (es : List Extent) (a : ℕ) → is_covered es a ≡ false → lies_in fits es a 1 ≡ false
 uncovered_lies fits [] a h = refl
 uncovered_lies fits (x ∷ xs) a h =
     let q = or_parts (spans x a 1) (is_covered xs a) h in
     or_from (fits x.kind && spans x a 1) (lies_in fits xs a 1) (and_right (fits x.kind) (spans x a 1) q.0) (uncovered_lies fits xs a q.1)
+
+-- what spans an address lies apart from what else spans it
+apart_uncovered : (x : Extent) (ys : List Extent) (a : ℕ) → All (Apart x) ys → spans x a 1 ≡ true → is_covered ys a ≡ false
+apart_uncovered x [] a apart here = refl
+apart_uncovered x (y ∷ ys) a apart here = or_from (spans y a 1) (is_covered ys a) (by (spans y a 1) refl) (apart_uncovered x ys a (All-tail (Apart x) y ys apart) here)
+  where
+    by : (b : Bool) → spans y a 1 ≡ b → b ≡ false
+    by true there =
+        let q = and_parts (leb x.at a) (leb (a + 1) (x.at + x.size)) here in
+        let u = and_parts (leb y.at a) (leb (a + 1) (y.at + y.size)) there in
+        let none = All-head (Apart x) y ys apart in
+        absurd (omega (arith, none, leb-true x.at a q.0, leb-true (a + 1) (x.at + x.size) q.1, leb-true y.at a u.0, leb-true (a + 1) (y.at + y.size) u.1))
+    by false there = refl
+
+-- of regions that lie apart only one has the address
+pub alone_apart : (es : List Extent) (a : ℕ) → AreApart es → lies_in is_segment es a 1 ≡ true → LiesAlone es a
+alone_apart [] a apart h = absurd cc
+alone_apart (x ∷ xs) a apart h = ⊎_elim
+    (λ here. let q = and_parts (is_segment x.kind) (spans x a 1) here in inl (q.0, q.1, apart_uncovered x xs a apart.1 q.1))
+    (λ rest. inr (by (spans x a 1) refl (lies_covered is_segment xs a rest), alone_apart xs a apart.2 rest))
+    (or_cases (is_segment x.kind && spans x a 1) (lies_in is_segment xs a 1) h)
+  where
+    by : (b : Bool) → spans x a 1 ≡ b → is_covered xs a ≡ true → b ≡ false
+    by true here covered = absurd (let none = apart_uncovered x xs a apart.1 here in cc)
+    by false here covered = refl
 
 no_text : (k : Kind) → is_segment k ≡ true → is_text k ≡ false
 no_text Text h = absurd cc
@@ -56,9 +78,9 @@ module _ (a o : ℕ) where
   -- a region without the address
   same_region : (r : Region ℕ) → spans (extent_of r) a 1 ≡ false → cells_changed (written a 1 (λ _. o)) r.at r.cells ≡ r.cells
   same_region r none = same_cells r.at r.cells (λ i lt is. absurd (
-    let yes : spans (extent_of r) a 1 ≡ true = and_from (leb r.at a) (leb (a + 1) (r.at + length r.cells)) (le-leb r.at a (omega (arith, is))) (le-leb (a + 1) (r.at + length r.cells) (omega (arith, is, lt))) in
-    cc
-  ))
+      let yes : spans (extent_of r) a 1 ≡ true = and_from (leb r.at a) (leb (a + 1) (r.at + length r.cells)) (le-leb r.at a (omega (arith, is))) (le-leb (a + 1) (r.at + length r.cells) (omega (arith, is, lt))) in
+      cc
+      ))
 
   uncovered_same : (rs : List (Region ℕ)) → is_covered (extents_of rs) a ≡ false → changed (written a 1 (λ _. o)) rs ≡ rs
   uncovered_same [] none = refl

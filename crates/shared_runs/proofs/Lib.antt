@@ -3,3 +3,4 @@ pub mod Cells
 pub mod Written
 pub mod Turns
 pub mod Shares
+pub mod Linked

@@ -21,7 +21,7 @@ use Rattle.sym_machine.specs.State.{PlainCore, PlainState, first_plain}
 use Rattle.zc_machine.specs.declared.reason.Reason.{Reason}
 use Rattle.zc_machine.specs.Run.{first_state, machine_after, turns, zc_turns}
 use Rattle.zc_machine.proofs.TurnLaws.{turns-add}
-use Rattle.zc_link.specs.DataApart.{FromLoad, FromPair, IsCell, Starts, all_poked, poked_plain}
+use Rattle.zc_link.specs.DataApart.{CellsLie, FromLoad, FromPair, IsCell, Starts, all_poked, poked_plain}
 use Rattle.zc_link.specs.Image.{Image, loaded_core}
 use Rattle.zc_link.specs.IsSimulation.{IsInside, IsSimulation}
 use Rattle.zc_link.specs.Pace.{Pace, lead_from, lead_of}
@@ -32,7 +32,7 @@ use Rattle.shared_runs.specs.SharedPlain.{SharedState, Sharing, after_step, cell
 use Rattle.shared_runs.specs.SharesCells.{KeepsPace, SharesCells}
 use Rattle.shared_runs.proofs.Regions.{one_result}
 use Rattle.shared_runs.proofs.Turns.{AreEntries, IsEntry, IsTame, cells_are, cells_first, cells_in, cells_last, cells_of, cuts_in}
-use Rattle.shared_runs.proofs.Written.{CellsLie, IsWrite, all_written, poked_events, poked_exit, poked_place, written_events, written_sound}
+use Rattle.shared_runs.proofs.Written.{IsWrite, all_written, poked_events, poked_exit, poked_place, written_events, written_sound}
 
 -- an image that starts at the program's start has no commits before it, and another three
 lead_few : (o : Option ℕ) (entry : ℕ) → lead_from o entry ≤ 3
@@ -54,10 +54,13 @@ entries_from plan k j = shared_at plan (k + j)
 entries_are : (plan : List SharedEntry) (k : ℕ) → IsSharedPlan plan → AreEntries (entries_from plan k)
 entries_are plan k is j = All-filter (λ (x : SharedEntry). eqb x.entry.at (k + j)) IsEntry plan is
 
-module _ (p : Program) (Named : Place → Type 0) (e : Image) (pace : Pace) (law : IsSimulation p Named e pace) (lie : CellsLie p e) (ranges : List (ℕ × ℕ))
+module _ (p : Program) (Named : Place → Type 0) (e : Image) (pace : Pace) (law : IsSimulation p Named e pace) (ranges : List (ℕ × ℕ))
     (within : (a : ℕ) → in_ranges ranges a ≡ true → IsCell p a)
     -- a stretch takes as many commits whatever memory holds
     (steady : (s : PlainCore) (memory : List (Region SymByte)) → pace.weight (record s { memory = memory }) ≡ pace.weight s) where
+  lie : CellsLie p e
+  lie = law.cells
+
   weight_poked : (cs : List (ℕ × ℕ)) (r : PlainState) → pace.weight (all_poked cs r).core ≡ pace.weight r.core
   weight_poked [] r = refl
   weight_poked (c ∷ cs) r = weight_poked cs (poked_plain c r) ∙ steady r.core (changed (written c.0 1 (λ _. Num c.1)) r.core.memory)

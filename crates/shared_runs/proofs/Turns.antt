@@ -19,10 +19,10 @@ use Rattle.zc_machine.specs.Poked.{poked_core}
 use Rattle.zc_machine.specs.Run.{committed, turn, turns, zc_turn, zc_turns}
 use Rattle.zc_machine.specs.Step.{zc_step}
 use Rattle.zc_machine.proofs.TurnLaws.{turn-running, zc_turn-running}
-use Rattle.zc_link.specs.DataApart.{CommitsApart, Cuts, CutsApart, IsCell, OnWay, Pokes, Turns, poked}
+use Rattle.zc_link.specs.DataApart.{CellsLie, CommitsApart, Cuts, CutsApart, IsCell, OnWay, Pokes, Turns, poked}
 use Rattle.zc_link.specs.Image.{Image, loaded_core}
 use Rattle.shared_runs.proofs.Regions.{all_interrupted_stays, interrupted_stays, one_result, turn_extents}
-use Rattle.shared_runs.proofs.Written.{CellsLie, IsWrite, all_written, all_written-append, byte_there, poked_back, poked_there, small_there, written_exit, written_extents}
+use Rattle.shared_runs.proofs.Written.{IsWrite, all_written, all_written-append, byte_there, poked_back, poked_there, small_there, written_exit, written_extents}
 
 -- what an entry's values must be
 abbrev pub IsEntry : SharedEntry → Type 0

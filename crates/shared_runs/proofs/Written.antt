@@ -13,19 +13,14 @@ use Rattle.sym_machine.specs.declared.word.SymByte.TheVariants.{Num, Undef}
 use Rattle.sym_machine.specs.Program.{Program, data_high}
 use Rattle.sym_machine.specs.State.{PlainCore, PlainState, cell_of}
 use Rattle.zc_machine.specs.Poked.{is_segment, poked_core}
-use Rattle.zc_link.specs.DataApart.{IsCell, all_poked, poked, poked_plain}
+use Rattle.zc_link.specs.DataApart.{CellsLie, IsCell, all_poked, poked, poked_plain}
 use Rattle.zc_link.specs.Image.{Image, loaded_core}
 use Rattle.zc_link.specs.Sound.{Alike, NamesByte, Sound}
 use Rattle.zc_link.specs.Stands.{ByteStands, IsMemory}
 use Rattle.zc_link.specs.Values.{value_in}
-use Rattle.shared_runs.proofs.Cells.{LiesAlone, alone_lies, alone_no_text, written_back}
+use Rattle.shared_runs.proofs.Cells.{LiesAlone, alone_apart, alone_no_text, written_back}
 
--- ---- where cells lie
-
--- each cell of data lies in one segment of data of the image, and in no other region; and all of them lie below the stack
-pub record CellsLie (p : Program) (e : Image) : Type 0 where
-  pub alone : (a : ℕ) → IsCell p a → LiesAlone (extents_of (loaded_core e).memory) a
-  pub under : data_high p ≤ p.map.stack_low
+-- ---- cells, one after another
 
 -- a cell of data, and a byte
 abbrev pub IsWrite : Program → ℕ × ℕ → Type 0
@@ -88,13 +83,16 @@ small_written : (a b x c : ℕ) → b < 256 → c < 256 → written a 1 (λ _. b
 small_written a b x c small before = cond_both (leb a x && ltb x (a + 1)) b c (λ n. n < 256) (λ _. small) (λ _. before)
 
 module _ {p : Program} {e : Image} (lie : CellsLie p e) where
+  alone : (a : ℕ) → IsCell p a → LiesAlone (extents_of (loaded_core e).memory) a
+  alone a cell = alone_apart (extents_of (loaded_core e).memory) a lie.apart (lie.lies a cell)
+
   module _ (a b : ℕ) (cell : IsCell p a) (small : b < 256) where
     -- what the machine writes there, if its regions lie as they were loaded
     pub poked_there : (z : ZcCore) → extents_of z.memory ≡ extents_of (loaded_core e).memory → poked_core (a, b) z ≡ record z { memory = changed (written a 1 (λ _. b)) z.memory }
-    poked_there z same = cond-true (lies_in is_segment (extents_of z.memory) a 1) _ z (ap (λ es. lies_in is_segment es a 1) same ∙ alone_lies (extents_of (loaded_core e).memory) a (lie.alone a cell))
+    poked_there z same = cond-true (lies_in is_segment (extents_of z.memory) a 1) _ z (ap (λ es. lies_in is_segment es a 1) same ∙ lie.lies a cell)
 
     covered : (z : ZcCore) → extents_of z.memory ≡ extents_of (loaded_core e).memory → is_covered (extents_of z.memory) a ≡ true
-    covered z same = ap (λ es. is_covered es a) same ∙ lies_covered is_segment (extents_of (loaded_core e).memory) a (alone_lies (extents_of (loaded_core e).memory) a (lie.alone a cell))
+    covered z same = ap (λ es. is_covered es a) same ∙ lies_covered is_segment (extents_of (loaded_core e).memory) a (lie.lies a cell)
 
     pub byte_there : (z : ZcCore) → extents_of z.memory ≡ extents_of (loaded_core e).memory → cell_at 0 (changed (written a 1 (λ _. b)) z.memory) a ≡ b
     byte_there z same = there a b z.memory 0 (covered z same)
@@ -137,7 +135,7 @@ module _ {p : Program} {e : Image} (lie : CellsLie p e) where
     }
       where
         no_text : (x : ℕ) → lies_in is_text (extents_of (loaded_core e).memory) x 1 ≡ true → x ≡ a → ⊥
-        no_text x t is = let none = alone_no_text (extents_of (loaded_core e).memory) a (lie.alone a cell) in let some = subst (λ y. lies_in is_text (extents_of (loaded_core e).memory) y 1 ≡ true) is t in cc
+        no_text x t is = let none = alone_no_text (extents_of (loaded_core e).memory) a (alone a cell) in let some = subst (λ y. lies_in is_text (extents_of (loaded_core e).memory) y 1 ≡ true) is t in cc
 
         memory :
             (x : ℕ) → IsMemory p x → (x ≡ a) ⊎ (x ≡ a → ⊥)
@@ -155,7 +153,7 @@ module _ {p : Program} {e : Image} (lie : CellsLie p e) where
     pub poked_back : (z : ZcState) → extents_of z.core.memory ≡ extents_of (loaded_core e).memory → poked a (byte_in z.core a) (poked a b z) ≡ z
     poked_back z same =
         ap {A = List (Region ℕ)} {B = ZcState} (λ memory. record z { core = record z.core { memory = memory } })
-        (written_back a b z.core.memory (subst (λ es. LiesAlone es a) (sym same) (lie.alone a cell)))
+        (written_back a b z.core.memory (subst (λ es. LiesAlone es a) (sym same) (alone a cell)))
 
   -- ---- pairs
 

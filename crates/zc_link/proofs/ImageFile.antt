@@ -304,6 +304,7 @@ module _ (L : TextLayout) (ready : IsReady L.inputs) (lies : IsLaidOut L) (flags
     first = λ a m. first a;
     names = λ a m. names a;
     bytes = memory.bytes program parts out;
+    cells = record { apart = memory.regions_apart program parts out; lies = λ a cell. memory.data_lies program parts out a cell.low cell.high; under = rooms.under };
   }
 
   -- ---- the file

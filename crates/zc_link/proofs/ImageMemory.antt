@@ -3,6 +3,7 @@
 use Rattle.std.proofs.Common.{◌≡◌, ℕ, ◌+◌, ◌-◌, ◌<◌, ◌≤◌, List, [], ◌∷◌, ◌++◌, length, replicate, Bool, true, false, cond, refl, sym, ap, ◌∙◌, subst, inl, inr, ⊎_elim, arith, leb, get_or, length-append}
 use Rattle.std.proofs.lemmas.Bool.{and_from, and_parts, cond-false, cond-true, le-leb, leb-true, or_cases, or_from, or_left, or_right}
 use Rattle.std.proofs.lemmas.List.{length-replicate}
+use Rattle.std.proofs.lemmas.List.Elements.{All-cons, All-nil}
 use Rattle.zc_base.specs.MemMap.{IsMap}
 use Rattle.zc_base.specs.declared.mem_map.MemMap.{MemMap}
 use Rattle.elf32_read.specs.Segments.{SegmentData}
@@ -15,6 +16,8 @@ use Rattle.sym_machine.specs.Program.{Program, data_high, start_memory}
 use Rattle.sym_machine.specs.declared.word.SymByte.{SymByte}
 use Rattle.sym_machine.specs.declared.word.SymByte.TheVariants.{Undef}
 use Rattle.zc_machine.specs.Load.{first_core}
+use Rattle.zc_machine.specs.Memory.{Apart, AreApart}
+use Rattle.zc_machine.specs.Poked.{is_segment}
 use Rattle.zc_machine.proofs.LoadLaws.{code_byte, code_lies}
 use Rattle.zc_link.specs.Places.{listed_address}
 use Rattle.zc_link.specs.Image.{Image, loaded_core}
@@ -81,6 +84,9 @@ module _ (p : Program) (parts : Parts) (out : AreLaidOut p parts) where
 
   -- ---- where it lies
 
+  abbrev text_extent : Extent
+  text_extent = record { kind = Text; at = parts.text_at; size = length words }
+
   abbrev data_extent : Extent
   data_extent = record { kind = Data; at = parts.data_at; size = length cells }
 
@@ -121,6 +127,38 @@ module _ (p : Program) (parts : Parts) (out : AreLaidOut p parts) where
       let below : a < parts.data_at = omega (arith, high, size, short, at, data_at, map.code) in
       or_from (spans data_extent a 1) _ (spans_before data_extent a 1 below)
       (or_from (spans stack_extent a 1) false (spans_before stack_extent a 1 (omega (arith, below, data_at, map.stack, map.data_room))) refl)
+
+  -- an address of data lies in the segment of data
+  pub data_lies : (a : ℕ) → memory.data_low ≤ a → a < data_high p → lies_in is_segment (extents_of (loaded_core image).memory) a 1 ≡ true
+  unfolding first_core
+  data_lies a low high =
+      let size = length-cells in
+      let known_size = out.size in
+      let at = out.data_at in
+      or_left (spans data_extent a 1) _
+      (and_from (leb parts.data_at a) (leb (a + 1) (parts.data_at + length cells)) (le-leb parts.data_at a (omega (arith, low, at))) (le-leb (a + 1) (parts.data_at + length cells) (omega (arith, high, size, known_size, at))))
+
+  -- no two regions have an address in common
+  pub regions_apart : AreApart (extents_of (loaded_core image).memory)
+  unfolding first_core
+  regions_apart =
+      let map = out.is_map in
+      let text_size = length-words in
+      let data_size = length-cells in
+      let size = length_blank {X = ℕ} stack_size 0 in
+      let short = out.short in
+      let most = out.room in
+      let at = out.text_at in
+      let data_at = out.data_at in (
+        omega (arith, text_size, short, at, map.code, map.data_room, map.top),
+        All-cons (Apart text_extent) data_extent (stack_extent ∷ []) (omega (arith, text_size, short, at, data_at, map.code))
+            (All-cons (Apart text_extent) stack_extent [] (omega (arith, text_size, short, at, map.code, map.data_room, map.stack)) (All-nil (Apart text_extent))),
+        omega (arith, data_size, most, data_at, map.data_room, map.top),
+        All-cons (Apart data_extent) stack_extent [] (omega (arith, data_size, most, data_at, map.data_room, map.stack)) (All-nil (Apart data_extent)),
+        omega (arith, size, map.stack, map.top),
+        All-nil (Apart stack_extent),
+        tt,
+      )
 
   -- ---- how it begins
 

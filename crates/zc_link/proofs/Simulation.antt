@@ -29,6 +29,7 @@ module _ (p : Program) (Named : Place → Type 0) (e : Image) (stretch : Place �
         stretch_comes (stretch r.core.place) laid.room laid.leads cuts are so same (laid.each r.core.place z.core.pc so.place) h;
     inside = λ k r r' some lt listed running h. inside k r r' some lt running h (e.address r.core.place) refl listed;
     start = λ input bytes cuts are. starts laid input bytes cuts are;
+    cells = laid.cells;
     cuts_apart = cuts_apart laid;
     commits_apart = commits_apart laid;
     lead_cuts_apart = lead_cuts_apart laid;

@@ -1,9 +1,9 @@
 -- What a simulation demands of interrupts and commits if others write cells of data between them: from one sound pair to the
 -- next, each does the same whatever data hold.
-use Rattle.std.specs.Prelude.{◌≡◌, ℕ, suc, ◌<◌, ◌≤◌, List, [], ◌∷◌, All, None, Ok}
+use Rattle.std.specs.Prelude.{◌≡◌, ℕ, suc, ◌<◌, ◌≤◌, true, List, [], ◌∷◌, All, None, Ok}
 use Rattle.zc_base.specs.declared.place.Place.{Place}
 use Rattle.interrupt_plan.specs.Plan.{Interrupt, IsInterrupt}
-use Rattle.rv_decode.specs.Memory.{changed, written}
+use Rattle.rv_decode.specs.Memory.{changed, extents_of, lies_in, written}
 use Rattle.rv_decode.specs.Run.{iterate}
 use Rattle.rv_decode.specs.State.{ZcState}
 use Rattle.sym_machine.specs.declared.word.SymByte.TheVariants.{Num}
@@ -11,6 +11,8 @@ use Rattle.sym_machine.specs.Program.{Program, data_high}
 use Rattle.sym_machine.specs.Run.{plain_turn}
 use Rattle.sym_machine.specs.State.{PlainState}
 use Rattle.zc_machine.specs.Interrupt.{interrupted}
+use Rattle.zc_machine.specs.Memory.{AreApart}
+use Rattle.zc_machine.specs.Poked.{is_segment}
 use Rattle.zc_machine.specs.Run.{first_state, zc_turn}
 use Rattle.zc_link.specs.Image.{Image, loaded_core}
 use Rattle.zc_link.specs.Pace.{Pace, lead_of}
@@ -20,6 +22,13 @@ use Rattle.zc_link.specs.Sound.{Sound}
 pub record IsCell (p : Program) (a : ℕ) : Type 0 where
   pub low : p.map.data_low ≤ a
   pub high : a < data_high p
+
+-- where data lie in the image: no two of its regions have an address in common, each address of data lies in a segment of data, and data
+-- end at or below the stack
+pub record CellsLie (p : Program) (e : Image) : Type 0 where
+  pub apart : AreApart (extents_of (loaded_core e).memory)
+  pub lies : (a : ℕ) → IsCell p a → lies_in is_segment (extents_of (loaded_core e).memory) a 1 ≡ true
+  pub under : data_high p ≤ p.map.stack_low
 
 -- the state after the byte at an address was written from outside: in the machine, and in the program
 abbrev pub poked : ℕ → ℕ → ZcState → ZcState

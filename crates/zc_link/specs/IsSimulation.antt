@@ -9,7 +9,7 @@ use Rattle.sym_machine.specs.Program.{Program}
 use Rattle.sym_machine.specs.Run.{plain_turn}
 use Rattle.sym_machine.specs.State.{PlainCore, PlainState, first_plain}
 use Rattle.zc_machine.specs.Run.{first_state, zc_turns}
-use Rattle.zc_link.specs.DataApart.{CommitsApart, CutsApart, FromLoad, FromPair}
+use Rattle.zc_link.specs.DataApart.{CellsLie, CommitsApart, CutsApart, FromLoad, FromPair}
 use Rattle.zc_link.specs.Image.{Image, loaded_core}
 use Rattle.zc_link.specs.Pace.{Pace, lead_of}
 use Rattle.zc_link.specs.Sound.{Sound, Together}
@@ -47,6 +47,8 @@ pub record IsSimulation (p : Program) (Named : Place → Type 0) (e : Image) (pa
   pub start :
       (input : List ℕ) → All (λ b. b < 256) input → (cuts : ℕ → List Interrupt) → AreInterrupts cuts
       → Comes p Named e cuts (lead_of p e) (first_state (loaded_core e) input) (record { core = first_plain p input; events = [] })
+  -- each address of data is one of the image's data alone, and below the stack
+  pub cells : CellsLie p e
   -- between sound pairs an interrupt does the same whatever data hold; so does each commit, if there are several steps or several
   -- commits, and then only the last may be the exit
   pub cuts_apart : (r : PlainState) → CutsApart p (FromPair p Named e pace r)

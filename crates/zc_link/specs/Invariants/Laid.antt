@@ -10,6 +10,7 @@ use Rattle.sym_machine.specs.declared.word.SymByte.TheVariants.{Undef}
 use Rattle.sym_machine.specs.Program.{Program, start_memory}
 use Rattle.sym_machine.specs.State.{PlainCore}
 use Rattle.zc_decode.specs.declared.short.Short.TheVariants.{Base}
+use Rattle.zc_link.specs.DataApart.{CellsLie}
 use Rattle.zc_link.specs.Image.{Image, loaded_core}
 use Rattle.moved_runs.specs.Leads.{Leads}
 use Rattle.zc_link.specs.Pace.{Stretch, commits_of, span_of}
@@ -50,3 +51,4 @@ pub record Laid (p : Program) (Named : Place → Type 0) (e : Image) (stretch : 
       (a : ℕ) → IsMemory p a → ByteStands (value_in p e.address) (cell_at Undef (start_memory p) a) (byte_in (loaded_core e) a)
   pub names : (a : ℕ) → IsMemory p a → NamesByte Named (cell_at Undef (start_memory p) a)
   pub bytes : (a : ℕ) → byte_in (loaded_core e) a < 256
+  pub cells : CellsLie p e

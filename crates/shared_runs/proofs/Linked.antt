@@ -1,0 +1,73 @@
+-- What link_zc gives does what the objects' program does if interrupts write to the objects' shared sections.
+use Rattle.std.proofs.Common.{◌≡◌, ℕ, ◌+◌, ◌-◌, ◌<◌, ◌≤◌, List, [], ◌∷◌, Bool, true, false, Option, refl, ◌∙◌, arith, ⊎_elim, leb, ltb}
+use Rattle.std.specs.Prelude.{◌&&◌, All}
+use Rattle.std.specs.List.{list_any}
+use Rattle.std.proofs.lemmas.Bool.{and_parts, leb-true, ltb-true, or_cases}
+use Rattle.std.proofs.lemmas.List.Elements.{All-head, All-tail}
+use Rattle.psabi_sym.specs.Data.{data_end}
+use Rattle.psabi_sym.specs.Inputs.{Inputs, ParsedInputs, parsed}
+use Rattle.psabi_sym.specs.Shared.{shared_ranges}
+use Rattle.psabi_sym.proofs.SharedLaws.{shared_within}
+use Rattle.block_cut.specs.declared.item.Item.{Item}
+use Rattle.moved_runs.specs.Leads.{IsNamed}
+use Rattle.moved_runs.proofs.QuietObjects.{length-data_bytes}
+use Rattle.rv_decode.specs.Memory.{Region}
+use Rattle.shared_cells.specs.SharedRun.{in_ranges}
+use Rattle.sym_machine.specs.declared.word.SymByte.{SymByte}
+use Rattle.sym_machine.specs.Objects.{program_of}
+use Rattle.sym_machine.specs.Program.{Program}
+use Rattle.sym_machine.specs.State.{PlainCore}
+use Rattle.zc_base.specs.declared.place.Place.{Place}
+use Rattle.zc_link.specs.DataApart.{IsCell}
+use Rattle.zc_link.specs.Links.{IsImageOf, IsZcLink, Link, slots_of}
+use Rattle.zc_link.specs.Pace.{AlignOf, Alone, CallOf, GroupOf, LongOf, Stretch, TableOf, commits_of, pace_of}
+use Rattle.zc_link.specs.TextLayout.{TextLayout, stretch_in, zc_layout}
+use Rattle.shared_runs.specs.SharesCells.{SharesSections}
+use Rattle.shared_runs.proofs.Shares.{shares_cells}
+
+-- a stretch takes as many commits whatever memory holds
+steady : (p : Program) (x : Stretch) (s : PlainCore) (memory : List (Region SymByte)) → commits_of p (record s { memory = memory }) x ≡ commits_of p s x
+steady p Alone s memory = refl
+steady p (AlignOf count) s memory = refl
+steady p CallOf s memory = refl
+steady p (LongOf op first second) s memory = refl
+steady p (GroupOf items commits) s memory = refl
+steady p (TableOf slot) s memory = refl
+
+-- an address in ranges that lie between two bounds does so, too
+range_within :
+    (low high : ℕ) (ranges : List (ℕ × ℕ)) (a : ℕ) → All (λ r. (low ≤ r.0) × (r.0 + r.1 ≤ high)) ranges → in_ranges ranges a ≡ true
+    → (low ≤ a) × (a < high)
+range_within low high [] a all h = absurd cc
+range_within low high (r ∷ rs) a all h = ⊎_elim
+    (λ here.
+    let q = and_parts (leb r.0 a) (ltb a (r.0 + r.1)) here in
+    let bounds = All-head (λ (r : ℕ × ℕ). (low ≤ r.0) × (r.0 + r.1 ≤ high)) r rs all in
+    let from = leb-true r.0 a q.0 in
+    let to = ltb-true a (r.0 + r.1) q.1 in (omega (arith, bounds, from), omega (arith, bounds, to)))
+    (λ rest. range_within low high rs a (All-tail (λ (r : ℕ × ℕ). (low ≤ r.0) × (r.0 + r.1 ≤ high)) r rs all) rest)
+    (or_cases (leb r.0 a && ltb a (r.0 + r.1)) (in_ranges rs a) h)
+
+-- shared sections are cells of the program's data
+shared_cells : (inputs : ParsedInputs) (a : ℕ) → in_ranges (shared_ranges inputs) a ≡ true → IsCell (program_of inputs) a
+unfolding program_of
+shared_cells inputs a h =
+    let q = range_within inputs.map.data_low (data_end inputs) (shared_ranges inputs) a (shared_within inputs) h in
+    let size = length-data_bytes inputs in
+    record { low = q.0; high = omega (arith, q, size) }
+
+-- an image of a layout does
+pub image_shares : (L : TextLayout) (flags end : ℕ) (elf : List ℕ) → IsImageOf L flags end elf → SharesSections L elf
+image_shares L flags end elf image =
+    let p = program_of (parsed L.inputs) in
+    record {
+      image = image.loaded;
+      read = image.read;
+      shares =
+          shares_cells p (IsNamed (parsed L.inputs)) image.loaded (pace_of p (stretch_in L)) image.simulates (shared_ranges (parsed L.inputs)) (shared_cells (parsed L.inputs))
+          (λ s memory. steady p (stretch_in L s.place) s memory);
+    }
+
+-- and so does a link
+pub link_shares : (inputs : Inputs) (link : Link) → IsZcLink inputs link → SharesSections (zc_layout inputs (slots_of link)) link.elf
+link_shares inputs link is = image_shares (zc_layout inputs (slots_of link)) 1 _ link.elf is.image
