@@ -95,12 +95,12 @@ content_back at content fits =
 
 -- a line has no line feed
 pub content_is_line : (at : ℕ) (content : Content) → FitsContent content → IsLine (content_line at content)
+unfolding content_text
 content_is_line at content fits =
     let plain : All (λ b. eqb b 10 ≡ false) (hex_word at) = All-weaker (λ b. 32 < b) (λ b. eqb b 10 ≡ false) (λ b over. ne_eqb b 10 (λ same. omega (arith, over, same))) (hex_word at) (word_plain at) in
     All-append (λ b. eqb b 10 ≡ false) (hex_word at) (32 ∷ content_text content) plain (All-cons (λ b. eqb b 10 ≡ false) 32 (content_text content) refl (text_line content fits))
   where
     text_line : (content : Content) → FitsContent content → IsLine (content_text content)
-    unfolding content_text
     text_line (Instruction code) fits = code_line code fits
     text_line (Bytes bytes) fits = joined_line (codes ".byte" ∷ map hex_byte bytes) (bytes_plain bytes)
     text_line (Zeros n) fits = joined_line (codes ".zero" ∷ (decimal n ∷ [])) (zeros_plain n fits)
@@ -130,7 +130,7 @@ some_are text first [] content joined is found = absurd (none-some content found
 some_are text first (word ∷ words) content joined is found =
     mapped Bytes (bytes_of_words (word ∷ words)) content found (λ bytes spells same.
     let b = bytes_are (word ∷ words) bytes spells in
-    let size : length (word ∷ words) ≡ length bytes = ap length b.0 ∙ length-map hex_byte bytes in
+    let size : length (word ∷ words) ≡ length bytes = ap length b.0 ∙ length-map bytes hex_byte in
     subst (Read text) same (joined ∙ ap₂ (λ f ws. join_with_byte 32 (f ∷ ws)) is b.0, (omega (arith, size), b.1)))
 
 zeros_are : (text first : List ℕ) (words : List (List ℕ)) (content : Content) → text ≡ join_with_byte 32 (first ∷ words) → first ≡ codes ".zero" → zeros_of_words words ≡ Some content → Read text content
@@ -143,11 +143,11 @@ zeros_are text first (word ∷ []) content joined is found =
 zeros_are text first (word ∷ (next ∷ words)) content joined is found = absurd (none-some content found)
 
 text_is : (text : List ℕ) (words : List (List ℕ)) (content : Content) → text ≡ join_with_byte 32 words → content_of_words text words ≡ Some content → Read text content
+unfolding Read content_text
 text_is text [] content joined found = absurd (none-some content found)
 text_is text (first ∷ words) content joined found = by_first (bytes_eq first (codes ".byte")) refl found
   where
     coded : option_map Instruction (code_spelled text) ≡ Some content → Read text content
-    unfolding Read content_text
     coded found = mapped Instruction (code_spelled text) content found (λ code spells same. subst (Read text) same (code_is text code spells))
 
     by_second : (b : Bool) → bytes_eq first (codes ".zero") ≡ b → cond b (zeros_of_words words) (option_map Instruction (code_spelled text)) ≡ Some content → Read text content

@@ -63,17 +63,12 @@ segment_no_end s = refl
 kind_is : (word : List ℕ) (code : Bool) → kind_of_word word ≡ Some code → word ≡ kind_word code
 kind_is word code found = first (bytes_eq word (codes "code")) refl found
   where
-    IsKind : Bool → Type 0
-    IsKind b = word ≡ kind_word b
-
     second : (b : Bool) → bytes_eq word (codes "data") ≡ b → cond b (Some false) None ≡ Some code → word ≡ kind_word code
-    unfolding IsKind
-    second true is h = subst IsKind (same_Some false code h) ((bytes_eq-Decides word (codes "data")).0 is)
+    second true is h = (bytes_eq-Decides word (codes "data")).0 is ∙ ap kind_word (same_Some false code h)
     second false is h = absurd (none-some code h)
 
     first : (b : Bool) → bytes_eq word (codes "code") ≡ b → cond b (Some true) (cond (bytes_eq word (codes "data")) (Some false) None) ≡ Some code → word ≡ kind_word code
-    unfolding IsKind
-    first true is h = subst IsKind (same_Some true code h) ((bytes_eq-Decides word (codes "code")).0 is)
+    first true is h = (bytes_eq-Decides word (codes "code")).0 is ∙ ap kind_word (same_Some true code h)
     first false is h = second (bytes_eq word (codes "data")) refl h
 
 -- a line that spells a segment is the segment's first line
