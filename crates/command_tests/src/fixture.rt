@@ -361,10 +361,41 @@ const WIDE: &str = "\
 880100000a00000000000000000000000100000000000000380000000300000000000000000000009401000042000000
 00000000000000000100000000000000";
 
+// An object with four bytes of shared data, which its second instruction loads as the status of its exit, and what `zc` makes of it.
+// The code is
+//
+//     lui t0,%hi(shared); lw a0,%lo(shared)(t0); addi a7,x0,93; ecall
+const CELL: &str = "\
+7f454c460101010000000000000000000100f300010000000000000000000000cc000000000000003400000000002800
+07000600b702000003a502009308d0057300000000000000000000001a01000000000000040000001b01000000000000
+000000000000000000000000000000000000000000000000000000000000020001000000000000000000000010000100
+005f737461727400002e74657874002e736861726564002e72656c612e74657874002e73796d746162002e7374727461
+62002e736873747274616200000000000000000000000000000000000000000000000000000000000000000000000000
+000000000100000001000000060000000000000034000000100000000000000000000000040000000000000007000000
+0100000003000000000000004400000004000000000000000000000004000000000000000f0000000400000040000000
+0000000048000000180000000400000001000000040000000c0000001a00000002000000000000000000000060000000
+300000000500000002000000040000001000000022000000030000000000000000000000900000000800000000000000
+0000000001000000000000002a0000000300000000000000000000009800000034000000000000000000000001000000
+00000000";
+
+const CELL_IMAGE: &str = "\
+7f454c460101010000000000000000000200f300010000000000010034000000fc000000010000003400200002002800
+060005000100000074000000000001000000010010000000100000000500000004000000010000008400000000001000
+0000100010000000100000000600000004000000b702100003a502009308d00573000000000000000000000000000000
+00000000000001000000000000000100000001000400000004000100000001000800000008000100000001000c000000
+0c000100000001001000000010000100002e74657874002e64617461002e627373002e7a636c642e706c61636573002e
+736873747274616200000000000000000000000000000000000000000000000000000000000000000000000000000000
+000000000100000001000000060000000000010074000000100000000000000000000000040000000000000007000000
+0100000003000000000010008400000010000000000000000000000004000000000000000d0000000800000003000000
+100010009400000000000000000000000000000004000000000000001200000001000000000000000000000094000000
+3c000000000000000000000004000000000000001f000000030000000000000000000000d00000002900000000000000
+000000000100000000000000";
+
 // Plans: two whose second and third line is at fault, one that changes nothing, since no push or pop stands where
 // its interrupt comes and its byte lies above the stack, one that writes the byte below the stack pointer, and one that
-// interrupts the push of `frames.elf`, after which it writes the byte that the push saved, and the pop.
-const PLANS: [(&str, &str); 5] = [
+// interrupts the push of `frames.elf`, after which it writes the byte that the push saved, and the pop. Plans with cells: one that
+// writes the shared data of `cell` before they are loaded, one that writes them after that, and one that writes beside them.
+const PLANS: [(&str, &str); 8] = [
     ("number", "zcld plan 1\ncut 05\n"),
     ("order", "zcld plan 1\ncut 3\ncut 2\n"),
     ("outside", "zcld plan 1\ncut 0 a0 d10000000:ee\n"),
@@ -373,6 +404,9 @@ const PLANS: [(&str, &str); 5] = [
         "frames.plan",
         "zcld plan 1\ncut 2 a0 d0ffffffc:2a\ncut 9 a0 a1\n",
     ),
+    ("cells", "zcld shared 1\ncut 1 s00100000:07\n"),
+    ("late", "zcld shared 1\ncut 2 s00100000:07\n"),
+    ("beside", "zcld shared 1\ncut 1 s00100004:07\n"),
 ];
 
 // Certificates: one target that 50 calls lead to, for which a table would take more than it saves; the same with a
@@ -473,8 +507,9 @@ fn zeros(alloc: Global, special: &str, letter: &str) -> Result<Vec<u8>, Fail> {
 // and its image, `start` and `main` are the two objects that write, `hello.elf` and `elsewhere.elf` are their images, `echo` and
 // `echo.elf` are the program that reads, `load.elf` is the image that loads, `unnamed` and `named` are the objects with a second
 // section of code, `far` is the object whose branch must stay in reach, `ends` and `inner` are the objects with two equal ends of
-// functions, `wide` is the one with these whose branch must stay in reach, and `bad` is no ELF file.
-const FILES: [(&str, &str); 23] = [
+// functions, `wide` is the one with these whose branch must stay in reach, `cell` is the object with shared data, and `bad` is no
+// ELF file.
+const FILES: [(&str, &str); 24] = [
     ("x", OBJECT),
     ("z", OBJECT),
     ("short", SHORT),
@@ -497,6 +532,7 @@ const FILES: [(&str, &str); 23] = [
     ("ends", ENDS),
     ("inner", INNER),
     ("wide", WIDE),
+    ("cell", CELL),
     ("bad", "00"),
 ];
 
@@ -605,9 +641,15 @@ fn left_marks(alloc: Global, call: &str, store: &MemStore) -> Result<(char, char
     ))
 }
 
-// What `o` should be: what `plain` or `zc` makes of the object, or of `short` or `frames` if that is named last; in a call
-// with `--text`, what `plain` makes of the object elsewhere, or `zc` of the two objects.
+// What `o` should be: what `plain` or `zc` makes of the object, or of `short` or `frames` if that is named last, or of `cell` or
+// `echo`; in a call with `--text`, what `plain` makes of the object elsewhere, or `zc` of the two objects.
 fn image_wanted(call: &str) -> &str {
+    if call.contains(" cell") {
+        return CELL_IMAGE;
+    }
+    if call.contains(" echo") {
+        return ECHO_IMAGE;
+    }
     if call.ends_with(" short") {
         return SHORT_IMAGE;
     }

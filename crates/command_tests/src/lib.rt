@@ -9,6 +9,8 @@ mod fixture;
 #[cfg(test)]
 mod gc;
 #[cfg(test)]
+mod list;
+#[cfg(test)]
 mod make;
 #[cfg(test)]
 mod merge;
@@ -18,6 +20,8 @@ mod outcomes;
 mod plain;
 #[cfg(test)]
 mod run;
+#[cfg(test)]
+mod share;
 #[cfg(test)]
 mod trace;
 #[cfg(test)]

@@ -6,7 +6,7 @@ use Rattle.zc_outside.specs.Files.{Files}
 use Rattle.zc_outside.specs.Shelf.{OnlyPuts, Shelf}
 use Rattle.zc_outside.specs.Wanted.{AreHeld, AreRead, AreUnread, IsOneLong, Wanted}
 use Rattle.zc_outside.specs.World.{World}
-use Rattle.zc_outside.proofs.Shelf.{OnlyPuts-refl}
+use Rattle.zc_outside.proofs.Shelf.{OnlyPuts-refl, OnlyPuts-trans}
 use Rattle.zc_outside.proofs.Wanted.{AreRead-AreHeld, AreRead-not-long, AreRead-same, AreUnread-sure}
 use Rattle.zcld.specs.declared.outcome.Outcome.{Outcome}
 use Rattle.zcld.specs.declared.outcome.Outcome.TheVariants.{Usage, ReadFault, WriteFault, OutOfMemory}
@@ -118,6 +118,30 @@ no_moves world = record {
   taken = omega arith;
   sure = refl;
   counted = λ sure. (refl, refl);
+}
+
+-- this was done, and then that
+pub moves_on : (a b c : World) → Moves a b → Moves b c → Moves a c
+moves_on a b c first next = record {
+  shelf = OnlyPuts-trans first.shelf next.shelf;
+  reads = omega (arith, first.reads, next.reads);
+  writes = omega (arith, first.writes, next.writes);
+  taken = omega (arith, first.taken, next.taken);
+  sure = next.sure ∙ first.sure;
+  counted = λ sure.
+      let early = first.counted sure in
+      let late = next.counted (first.sure ∙ sure) in
+      (late.0 ∙ early.0, late.1 ∙ early.1);
+}
+
+-- a fault that was counted at the end was counted over the whole
+pub faulted_later :
+    (task : Task) (outcome : Outcome) (a b c : World) → Moves a b → (IsSure task a → IsSure task b) → IsFaulted task outcome b c →
+    IsFaulted task outcome a c
+faulted_later task outcome a b c moves stays fault = record {
+  known = fault.known;
+  counted = λ clean. fault.counted (clean_within task a b c c (moves_grow a b moves) (moves_grow c c (no_moves c)) clean);
+  unsure = λ sure. fault.unsure (stays sure);
 }
 
 -- the outcome's line was written

@@ -3,7 +3,7 @@ use Rattle.std.proofs.Common.{◌≡◌, ℕ, List, Option, Some, None, refl, sy
 use Rattle.std.proofs.lemmas.Option.{none-some}
 use Rattle.zc_outside.specs.World.{World}
 use Rattle.zc_outside.proofs.Wanted.{ReadsAll-front, ReadsAll-none}
-use Rattle.command_words.specs.Command.{Check, Command, Gc, Make, Merge, Plain, Run, Trace, Zc}
+use Rattle.command_words.specs.Command.{Check, Command, Gc, Listing, Make, Merge, Plain, Run, Share, Trace, Zc}
 use Rattle.zcld.specs.declared.outcome.Outcome.{Outcome}
 use Rattle.zcld.specs.declared.outcome.Outcome.TheVariants.{OutOfMemory, Usage}
 use Rattle.zcld.specs.Call.{Answers, Calls, CarriesOut, CountsFaults, DoesWith, IfCommand, IsUsageOf, Reports, TellsAll, task_of, work_of}
@@ -11,10 +11,12 @@ use Rattle.zcld.specs.ErrLine.{err_line}
 use Rattle.zcld.proofs.Answering.{Facts, performed_answers, performed_counts, performed_known}
 use Rattle.zcld.proofs.CheckFacts.{check_facts}
 use Rattle.zcld.proofs.GcFacts.{gc_facts}
+use Rattle.zcld.proofs.ListFacts.{list_facts}
 use Rattle.zcld.proofs.MakeFacts.{make_facts}
 use Rattle.zcld.proofs.MergeFacts.{merge_facts}
 use Rattle.zcld.proofs.PlainFacts.{plain_facts}
 use Rattle.zcld.proofs.RunFacts.{run_facts}
+use Rattle.zcld.proofs.ShareFacts.{share_facts}
 use Rattle.zcld.proofs.TraceFacts.{trace_facts}
 use Rattle.zcld.proofs.ZcFacts.{zc_facts}
 
@@ -27,6 +29,8 @@ facts (Check cert) = check_facts cert
 facts (Make prefix number functions) = make_facts prefix number functions
 facts (Gc prefix objects) = gc_facts prefix objects
 facts (Merge prefix objects) = merge_facts prefix objects
+facts (Share out plan steps objects) = share_facts out plan steps objects
+facts (Listing image) = list_facts image
 
 -- memory may run out before anything is done, whatever the words spell
 pub out_of_memory : (command : Option Command) (files : List (List ℕ)) (before : World) → CarriesOut command files OutOfMemory before before

@@ -17,24 +17,26 @@ use Rattle.zc_base.specs.declared.place.Place.{Place}
 use Rattle.elf32_read.specs.declared.fault.Fault.{Fault}
 use Rattle.block_cut.specs.Faults.{first_fault}
 use Rattle.zc_link.specs.Preserves.{Preserves}
-use Rattle.zc_outside.specs.Files.{Files, KeepsFiles}
+use Rattle.zc_outside.specs.Files.{Files, KeepsFiles, PutsFile}
 use Rattle.zc_outside.specs.Wanted.{AreRead, each_within}
 use Rattle.zc_outside.specs.World.{World}
-use Rattle.command_words.specs.Command.{Command, Gc, Merge, Plain, Zc}
+use Rattle.command_words.specs.Command.{Command, Gc, Merge, Plain, Share, Zc}
 use Rattle.zcld.specs.declared.outcome.Outcome.{Outcome}
-use Rattle.zcld.specs.declared.outcome.Outcome.TheVariants.{Broken, Done, OutOfMemory, Refused}
+use Rattle.zcld.specs.declared.outcome.Outcome.TheVariants.{Broken, Done, Exited, OutOfMemory, Refused, Spent, Stopped}
 use Rattle.zcld.specs.Call.{Calls, task_of}
 use Rattle.zcld.specs.Gc.{GcWork}
-use Rattle.zcld.specs.Headline.{HoldsImage, HoldsResults, Links, PreservesMoved}
+use Rattle.zcld.specs.Headline.{HoldsImage, HoldsResults, HoldsShared, Links, PreservesMoved}
 use Rattle.zcld.specs.Merge.{MergeWork}
 use Rattle.zcld.specs.ObjectNames.{named_from, names_from}
 use Rattle.zcld.specs.Objects.{objects_wanted, refused_for}
 use Rattle.zcld.specs.Puts.{HasFiles, PutsFiles}
 use Rattle.zcld.specs.Plain.{PlainWork}
-use Rattle.zcld.specs.Task.{IsWorked, OnlyRead, Performs, Task}
+use Rattle.zcld.specs.Share.{ShareWork, objects_before, share_inputs, share_wanted}
+use Rattle.zcld.specs.Task.{IsWorked, OnlyRead, Performs, Task, UnreadCause}
 use Rattle.zcld.specs.Zc.{ZcWork}
 use Rattle.zcld.specs.declared.limits.TheConstants.{OBJECT_LIMIT}
 use Rattle.zcld.proofs.MovedImages.{collection_preserves, merging_preserves}
+use Rattle.zcld.proofs.ShareEnds.{IsRunEnd, ended_accepted, ended_had, ended_not_memory, ended_put, objects_read, shares_link}
 
 -- a refusal of objects isn't Done
 refused_undone : (found : Option (ℕ × Fault)) → refused_for found ≡ Some Done → ⊥
@@ -77,15 +79,27 @@ results_stand :
 results_stand f g None prefix objects kept puts = absurd kept
 results_stand f g (Some h) prefix objects kept puts = all_stand g prefix 0 objects puts.0
 
+-- likewise a file that was put
+put_stands : (f g : Files) (a : Option Files) (out image : List ℕ) → KeepsFiles (Some f) a → PutsFile a (Some g) out image → g out ≡ Some image
+put_stands f g None out image kept puts = absurd kept
+put_stands f g (Some h) out image kept puts = puts.0
+
+-- a command did its work if its outcome is none of files that can't be had or are refused
+has_worked :
+    (task : Task) (Work : List (List ℕ) → Outcome → World → World → Type 0) (files : List (List ℕ)) (outcome : Outcome) (before left : World) →
+    (UnreadCause task.wanted before.shelf left.shelf outcome → ⊥) → (task.refusal files ≡ Some outcome → ⊥) →
+    Performs task Work files outcome before left → IsWorked task Work files outcome before left
+has_worked task Work files outcome before left had accepted does = elim does [
+  | inl unread ↦ absurd (had unread.cause)
+  | inr (inl refused) ↦ absurd (accepted refused.refused)
+  | inr (inr worked) ↦ worked
+]
+
 -- a command that is Done did its work
 done_worked :
     (task : Task) (Work : List (List ℕ) → Outcome → World → World → Type 0) (files : List (List ℕ)) (before left : World) →
     (task.refusal files ≡ Some Done → ⊥) → Performs task Work files Done before left → IsWorked task Work files Done before left
-done_worked task Work files before left undone does = elim does [
-  | inl unread ↦ absurd unread.cause
-  | inr (inl refused) ↦ absurd (undone refused.refused)
-  | inr (inr worked) ↦ worked
-]
+done_worked task Work files before left undone does = has_worked task Work files Done before left (λ none. none) undone does
 
 module _ (memory : MemMap) (before after : World) where
   -- objects were read, and an image that preserves them is the first file that was put
@@ -146,6 +160,34 @@ module _ (before after : World) where
         preserve,
       )
 
+  -- `share` whose run came to its end had put the image of its link
+  holds_shared :
+      (out plan : List ℕ) (steps : ℕ) (names : List (List ℕ)) (outcome : Outcome) → IsRunEnd outcome → (f g : Files) → before.shelf.files ≡ Some f → after.shelf.files ≡ Some g →
+      Calls (Some (Share out plan steps names)) outcome before after → HoldsShared out names f g
+  holds_shared out plan steps names outcome ends f g told tells calls =
+      let command_task = task_of (Share out plan steps names) in
+      let worked =
+          has_worked command_task (ShareWork out steps) calls.files outcome before calls.left (ended_had outcome ends command_task.wanted before.shelf calls.left.shelf)
+          (ended_accepted outcome ends calls.files) calls.does in
+      elim worked.work [
+        | inl lack ↦ absurd (ended_not_memory outcome ends lack.0)
+        | inr work ↦
+            let inputs = share_inputs calls.files in
+            let kept : KeepsFiles (Some f) worked.between.shelf.files = subst (λ a. KeepsFiles a worked.between.shelf.files) told worked.only.shelf.files in
+            let there : calls.left.shelf.files ≡ Some g = sym (ap (λ s. s.files) calls.line.shelf) ∙ tells in
+            let put : PutsFile worked.between.shelf.files (Some g) out work.link.elf =
+            subst (λ b. PutsFile worked.between.shelf.files b out work.link.elf) there (ended_put outcome ends out work.link.elf _ steps worked.between calls.left work.run) in
+            let were : AreRead (Some f) (share_wanted plan names) calls.files = subst (λ a. AreRead a (share_wanted plan names) calls.files) told worked.read in
+            record {
+              objects = objects_before calls.files;
+              link = work.link;
+              stood = stood f OBJECT_LIMIT names (objects_before calls.files) (objects_read f OBJECT_LIMIT plan names calls.files were);
+              stands = put_stands f g worked.between.shelf.files out work.link.elf kept put;
+              linked = work.linked;
+              shares = shares_link inputs work.link work.linked;
+            }
+      ]
+
   by_cases :
       (command : Option Command) (outcome : Outcome) (a b : Option Files) → before.shelf.files ≡ a → after.shelf.files ≡ b →
       Calls command outcome before after → Links command outcome a b
@@ -187,6 +229,9 @@ module _ (before after : World) where
             holds_results 128 (λ inputs. merged_place (parsed inputs)) prefix names f g calls.files put.results.files worked.between calls.left told tells calls.line.shelf worked.only worked.read put.done.files
             (as_many_merged inputs put.results put.are) (merging_preserves inputs put.results put.are)
       ]
+  by_cases (Some (Share out plan steps names)) (Exited code) (Some f) (Some g) told tells calls = holds_shared out plan steps names (Exited code) tt f g told tells calls
+  by_cases (Some (Share out plan steps names)) (Stopped reason pc) (Some f) (Some g) told tells calls = holds_shared out plan steps names (Stopped reason pc) tt f g told tells calls
+  by_cases (Some (Share out plan steps names)) Spent (Some f) (Some g) told tells calls = holds_shared out plan steps names Spent tt f g told tells calls
   by_cases command outcome a b told tells calls = tt
 
   pub links : (command : Option Command) (outcome : Outcome) → Calls command outcome before after → Links command outcome before.shelf.files after.shelf.files

@@ -1,8 +1,10 @@
 pub mod Answering
 pub mod CheckFacts
 pub mod Commands
+pub mod FaultIndex
 pub mod GcFacts
 pub mod Headline
+pub mod ListFacts
 pub mod MachineFacts
 pub mod MakeFacts
 pub mod MergeFacts
@@ -13,9 +15,12 @@ pub mod OutputFacts
 pub mod Pieces
 pub mod PlainFacts
 pub mod PutLaws
+pub mod RangeOrder
 pub mod Refusals
 pub mod RewriteFacts
 pub mod RunFacts
+pub mod ShareEnds
+pub mod ShareFacts
 pub mod TraceFacts
 pub mod WithObjects
 pub mod ZcFacts

@@ -1,21 +1,18 @@
 -- What is known of a command that runs a machine over the console's whole input: how that ends, and what it does to the counts.
-use Rattle.std.proofs.Common.{◌≡◌, ◌≢◌, ℕ, List, Option, Some, None, IsTrue, sym, subst, ◌∙◌, ◌⊎◌, inl, inr, arith}
-use Rattle.zc_outside.specs.Desk.{Desk, OnlyTakes, OnlyWrites}
+use Rattle.std.proofs.Common.{◌≡◌, ◌≢◌, ℕ, refl, ap, length, List, [], Option, Some, None, IsTrue, sym, subst, ◌∙◌, ◌⊎◌, inl, inr, arith}
+use Rattle.zc_outside.specs.Desk.{Desk, OnlyTakes}
 use Rattle.zc_outside.specs.Files.{Rose}
-use Rattle.zc_outside.specs.Shelf.{OnlyPuts}
-use Rattle.zc_outside.specs.World.{World}
-use Rattle.zc_outside.proofs.Desk.{OnlyWrites-refl}
+use Rattle.zc_outside.specs.Shelf.{OnlyPuts, Shelf}
+use Rattle.zc_outside.specs.World.{World, world}
 use Rattle.zc_outside.proofs.Shelf.{OnlyPuts-refl}
 use Rattle.zcld.specs.declared.outcome.Outcome.{Outcome}
 use Rattle.zcld.specs.declared.outcome.Outcome.TheVariants.{ReadFault, OutOfMemory, Usage}
-use Rattle.zcld.specs.Input.{IsLongInput, IsShortInput, UntakenCause}
-use Rattle.zcld.specs.Machines.{MachineWork}
+use Rattle.zcld.specs.Call.{IsSure}
+use Rattle.zcld.specs.Input.{IsLongInput, IsShortInput, TakesAll, TakesInput, UntakenCause}
+use Rattle.zcld.specs.Machines.{Executes, HasEnded, IsUnready, TakesAndRuns}
 use Rattle.zcld.specs.Task.{Task}
-use Rattle.zcld.proofs.Answering.{IsAnswer, IsFaulted, Moves}
-
--- nothing was written
-pub no_writes : (before after : Desk) → after ≡ before → OnlyWrites before after
-no_writes before after same = subst (λ d. OnlyWrites before d) (sym same) (OnlyWrites-refl before)
+use Rattle.zcld.proofs.Answering.{IsAnswer, IsFaulted, Moves, faulted_later, moves_on, no_memory, no_moves}
+use Rattle.zcld.proofs.OutputFacts.{output_moves}
 
 -- no input is both too long and not
 not_both : (told : Option (List ℕ)) → IsShortInput told → IsLongInput told → ⊥
@@ -27,6 +24,64 @@ pub record IsRefusedWrite (outcome : Outcome) (before after : Desk) : Type 0 whe
   pub known : outcome ≢ Usage
   pub counted : Rose before.write_faults after.write_faults
   pub unsure : IsTrue before.sure → ⊥
+
+-- ---- the end of a machine
+
+module _ (task : Task) {End : Type 0} (Ends : End → Desk → Desk → Type 0) (outcome_of : End → Outcome) where
+  module _ (each : (end : End) (before after : Desk) → Ends end before after → IsAnswer (outcome_of end) ⊎ IsRefusedWrite (outcome_of end) before after) where
+    pub ended_ends : (outcome : Outcome) (before after : World) → HasEnded Ends outcome_of outcome before after → IsAnswer outcome ⊎ IsFaulted task outcome before after
+    ended_ends outcome before after run =
+        elim (subst (λ o. IsAnswer o ⊎ IsRefusedWrite o before.desk after.desk) (sym run.outcome_is) (each run.answer before.desk after.desk run.ended)) [
+          | inl answer ↦ inl answer
+          | inr refused ↦ inr (record {
+            known = refused.known;
+            counted = λ clean. clean.written refused.counted;
+            unsure = λ sure. refused.unsure sure.console;
+          })
+        ]
+
+    pub executed_ends : (outcome : Outcome) (before after : World) → Executes Ends outcome_of outcome before after → IsAnswer outcome ⊎ IsFaulted task outcome before after
+    executed_ends outcome before after (inl memory) = inl (no_memory outcome memory.0)
+    executed_ends outcome before after (inr run) = ended_ends outcome before after run
+
+  pub ended_moves : (outcome : Outcome) (before after : World) → HasEnded Ends outcome_of outcome before after → Moves before after
+  ended_moves outcome before after run = output_moves before after (subst (λ s. OnlyPuts before.shelf s) (sym run.shelf) (OnlyPuts-refl before.shelf)) run.only
+
+  pub executed_moves : (outcome : Outcome) (before after : World) → Executes Ends outcome_of outcome before after → Moves before after
+  executed_moves outcome before after (inl memory) = subst (λ w. Moves before w) (sym memory.1) (no_moves before)
+  executed_moves outcome before after (inr run) = ended_moves outcome before after run
+
+-- ---- the input
+
+-- a machine with its input that can't be had: no input, or no memory
+pub not_ready :
+    (Runs : List ℕ → Outcome → World → World → Type 0) → ((input : List ℕ) (w : World) → Runs input OutOfMemory w w) →
+    (outcome : Outcome) (shelf : Shelf) (before after : Desk) → IsUnready outcome before after →
+    TakesAndRuns Runs outcome (world shelf before) (world shelf after)
+not_ready Runs lacks outcome shelf before after (inl untaken) = inl (record { untaken = untaken; shelf = refl })
+not_ready Runs lacks outcome shelf before after (inr memory) = inr (record {
+  input = memory.1.0;
+  between = after;
+  takes = memory.1.1;
+  runs = subst (λ o. Runs memory.1.0 o (world shelf after) (world shelf after)) (sym memory.0) (lacks memory.1.0 (world shelf after));
+})
+
+-- taking input moves only the counts of the console's input
+takes_moves : (before after : World) → after.shelf ≡ before.shelf → OnlyTakes before.desk after.desk → Moves before after
+takes_moves before after same only = record {
+  shelf = subst (λ s. OnlyPuts before.shelf s) (sym same) (OnlyPuts-refl before.shelf);
+  reads = only.reads;
+  writes = omega (arith, only.writes);
+  taken = only.taken;
+  sure = only.sure;
+  counted = λ sure. (only.counted sure, only.writes);
+}
+
+-- after the whole input was taken none is left, so it isn't too long
+none_left : (before after : Option (List ℕ)) (input : List ℕ) → TakesAll before after input → IsShortInput before → IsShortInput after
+none_left None after input takes short = absurd short
+none_left (Some xs) None input takes short = absurd takes
+none_left (Some xs) (Some ys) input takes short = omega (arith, ap length takes.1)
 
 module _ (task : Task) (takes : IsTrue task.takes) where
   -- input that can't be had: memory ran out, or a fault was counted, at a console that isn't sure or has too much of it
@@ -44,33 +99,29 @@ module _ (task : Task) (takes : IsTrue task.takes) where
   })
   untaken_ends other before after cause = absurd cause
 
-  module _ (Runs : List ℕ → Outcome → Desk → Desk → Type 0) (run_ends : (input : List ℕ) (outcome : Outcome) (before after : Desk) → Runs input outcome before after → IsAnswer outcome ⊎ IsRefusedWrite outcome before after) where
-    pub machine_ends : (outcome : Outcome) (before after : World) → MachineWork Runs outcome before after → IsAnswer outcome ⊎ IsFaulted task outcome before after
-    machine_ends outcome before after work = elim work.desk [
-      | inl untaken ↦ untaken_ends outcome before after untaken.cause
-      | inr run ↦ elim (run_ends run.input outcome run.between after.desk run.runs) [
-        | inl answer ↦ inl answer
-        | inr refused ↦ inr (record {
-          known = refused.known;
-          counted = λ clean. clean.written (subst (λ n. Rose n after.desk.write_faults) run.takes.only.writes refused.counted);
-          unsure = λ sure. refused.unsure (run.takes.only.sure ∙ sure.console);
-        })
-      ]
+  -- an outside that is sure still is after the input was taken
+  taken_sure : (input : List ℕ) (before : World) (between : Desk) → TakesInput input before.desk between → IsSure task before → IsSure task (world before.shelf between)
+  taken_sure input before between taken sure = record {
+    store = sure.store;
+    console = taken.only.sure ∙ sure.console;
+    input = λ taking. none_left before.desk.input between.input input taken.all (sure.input taking);
+  }
+
+  module _ (Runs : List ℕ → Outcome → World → World → Type 0) where
+    pub run_ends :
+        ((input : List ℕ) (outcome : Outcome) (before after : World) → Runs input outcome before after → IsAnswer outcome ⊎ IsFaulted task outcome before after)
+        → (outcome : Outcome) (before after : World) → TakesAndRuns Runs outcome before after → IsAnswer outcome ⊎ IsFaulted task outcome before after
+    run_ends each outcome before after (inl lacks) = untaken_ends outcome before after lacks.untaken.cause
+    run_ends each outcome before after (inr run) = elim (each run.input outcome (world before.shelf run.between) after run.runs) [
+      | inl answer ↦ inl answer
+      | inr fault ↦
+          inr (faulted_later task outcome before (world before.shelf run.between) after (takes_moves before (world before.shelf run.between) refl run.takes.only) (taken_sure run.input before run.between run.takes) fault)
     ]
 
-  module _ (Runs : List ℕ → Outcome → Desk → Desk → Type 0) (run_writes : (input : List ℕ) (outcome : Outcome) (before after : Desk) → Runs input outcome before after → OnlyWrites before after) where
-    pub machine_moves : (outcome : Outcome) (before after : World) → MachineWork Runs outcome before after → Moves before after
-    machine_moves outcome before after work = elim work.desk [
-      | inl untaken ↦ moves_of untaken.only (OnlyWrites-refl after.desk)
-      | inr run ↦ moves_of run.takes.only (run_writes run.input outcome run.between after.desk run.runs)
-    ]
-      where
-        moves_of : {between : Desk} → OnlyTakes before.desk between → OnlyWrites between after.desk → Moves before after
-        moves_of takes writes = record {
-          shelf = subst (λ s. OnlyPuts before.shelf s) (sym work.shelf) (OnlyPuts-refl before.shelf);
-          reads = omega (arith, takes.reads, writes.reads);
-          writes = omega (arith, takes.writes, writes.writes);
-          taken = omega (arith, takes.taken, writes.taken);
-          sure = writes.sure ∙ takes.sure;
-          counted = λ sure. (writes.reads ∙ takes.counted sure, writes.counted (takes.sure ∙ sure) ∙ takes.writes);
-        }
+    pub run_moves :
+        ((input : List ℕ) (outcome : Outcome) (before after : World) → Runs input outcome before after → Moves before after)
+        → (outcome : Outcome) (before after : World) → TakesAndRuns Runs outcome before after → Moves before after
+    run_moves each outcome before after (inl lacks) = takes_moves before after lacks.shelf lacks.untaken.only
+    run_moves each outcome before after (inr run) =
+        moves_on before (world before.shelf run.between) after (takes_moves before (world before.shelf run.between) refl run.takes.only)
+        (each run.input outcome (world before.shelf run.between) after run.runs)

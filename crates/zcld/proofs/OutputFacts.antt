@@ -6,7 +6,7 @@ use Rattle.zc_outside.specs.Shelf.{OnlyPuts, Shelf}
 use Rattle.zc_outside.specs.World.{World, world}
 use Rattle.zcld.specs.declared.outcome.Outcome.{Outcome}
 use Rattle.zcld.specs.declared.outcome.Outcome.TheVariants.{Done, WriteFault, OutOfMemory}
-use Rattle.zcld.specs.Puts.{IsUnput, Output, PutsFiles, PutsInTurn, text_alone}
+use Rattle.zcld.specs.Puts.{IsUnput, Output, PutsFiles, PutsInTurn, UnputCause, text_alone}
 use Rattle.zcld.specs.Task.{Task}
 use Rattle.zcld.proofs.Answering.{IsAnswer, IsFaulted, Moves}
 
@@ -44,6 +44,14 @@ module _ (task : Task) (output : Output) (puts : IsTrue task.puts ⊎ (output.fi
     unsure = λ sure. elim put [ inl file ↦ file.1.1 sure.store | inr text ↦ text.1.1 sure.console ];
   })
   output_ends other before after put = absurd put
+
+-- a put that failed was counted, at a store that isn't sure
+pub unput_ends :
+    (task : Task) → IsTrue task.puts → (outcome : Outcome) (before after : World) → UnputCause outcome before.shelf after.shelf →
+    IsAnswer outcome ⊎ IsFaulted task outcome before after
+unput_ends task puts WriteFault before after cause = inr (record { known = λ e. cc; counted = λ clean. clean.put puts cause.0; unsure = λ sure. cause.1 sure.store })
+unput_ends task puts OutOfMemory before after cause = inl tt
+unput_ends task puts other before after cause = absurd cause
 
 -- only files were put, and only the text was written
 pub output_moves : (before after : World) → OnlyPuts before.shelf after.shelf → OnlyWrites before.desk after.desk → Moves before after

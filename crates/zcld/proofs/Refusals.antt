@@ -1,5 +1,5 @@
--- Refusals of objects: a fault that stands between them is their first; one that code has names nothing, so its line is the same for
--- all files.
+-- Refusals: why files can't be had, as an outcome. Of objects: a fault that stands between them is their first; one that code has names
+-- nothing, so its line is the same for all files.
 use Rattle.std.proofs.Common.{◌≡◌, ℕ, List, [], ◌∷◌, ◌++◌, Option, Some, None, slice_get, refl, sym, ap, subst, ◌∙◌}
 use Rattle.std.specs.Option.{option_and_then, option_or}
 use Rattle.elf32_read.specs.Fault.{fault_symbol}
@@ -12,8 +12,20 @@ use Rattle.psabi_sym.specs.declared.link_fault.LinkFault.TheVariants.{Object, Ou
 use Rattle.block_cut.specs.Faults.{entry_fault, first_fault, range_fault, relocs_fault}
 use Rattle.block_cut.proofs.NamelessFaults.{IsNameless as HasNoName, fault_of, first_nameless}
 use Rattle.zcld.specs.ErrLine.{NamesNothing, after_space, err_line, fault_symbol_name, line, name_in, refusal_text}
-use Rattle.zcld.specs.Outcome.{link_outcome}
+use Rattle.zc_outside.specs.Shelf.{Shelf}
+use Rattle.zc_outside.specs.Wanted.{ReadCause, Wanted}
+use Rattle.zc_outside.specs.declared.read_files.ReadFault.{ReadFault}
+use Rattle.zc_outside.specs.declared.read_files.ReadFault.TheVariants as read
+use Rattle.zcld.specs.Outcome.{link_outcome, read_outcome}
+use Rattle.zcld.specs.Task.{UnreadCause}
 use Rattle.zcld.specs.declared.outcome.Outcome.{Outcome}
+
+-- why files can't be had, as the outcome that comes of it
+pub unread : (wanted : List Wanted) (before after : Shelf) (fault : ReadFault) (outcome : Outcome) → outcome ≡ read_outcome fault → ReadCause wanted before after fault → UnreadCause wanted before after outcome
+unread wanted before after read.Unread outcome is cause = subst (λ o. UnreadCause wanted before after o) (sym is) cause
+unread wanted before after read.OutOfMemory outcome is cause = subst (λ o. UnreadCause wanted before after o) (sym is) tt
+
+-- ---- objects
 
 pub gather_refuses : (inputs : Inputs) (fault : LinkFault) → IsRefusal (gather_fault inputs) fault → IsRefusal (first_fault inputs) fault
 unfolding first_fault

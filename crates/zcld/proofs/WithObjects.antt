@@ -13,7 +13,7 @@ use Rattle.zc_outside.specs.World.{World}
 use Rattle.command_words.specs.Command.{Command}
 use Rattle.zcld.specs.Call.{DoesWith, task_of, work_of}
 use Rattle.zcld.specs.ErrLine.{NamesNothing, err_line}
-use Rattle.zcld.specs.Objects.{AreGathered, EndsWithout, objects_refusal, objects_wanted, refused_for}
+use Rattle.zcld.specs.Objects.{AreGathered, EndsWithout, IsUngathered, objects_refusal, objects_wanted, refused_for}
 use Rattle.zcld.specs.Outcome.{link_outcome}
 use Rattle.zcld.specs.Task.{OnlyRead, UnreadCause}
 use Rattle.zcld.specs.declared.outcome.Outcome.{Outcome}
@@ -31,6 +31,14 @@ module _ (map : MemMap) (names left : List (List ℕ)) (before after : Shelf) wh
     refused = ap refused_for (gather_refuses (inputs_in map files) (Object index fault) is);
     line = line;
   })
+
+  -- gathering what was read was refused
+  pub ungathered :
+      (files : List (List ℕ)) (outcome : Outcome) → AreRead before.files (objects_wanted names) files → IsUngathered map files left outcome
+      → EndsWithout map names left outcome before after
+  ungathered files outcome are is =
+      subst (λ o. EndsWithout map names left o before after) (sym is.outcome_is)
+      (gather_refused files is.fault are is.refused (subst (λ o. err_line left o ≡ err_line files o) is.outcome_is is.line))
 
   -- objects that were gathered are refused when they are linked or cut
   pub link_refused :

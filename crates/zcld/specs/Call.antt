@@ -6,7 +6,7 @@ use Rattle.zc_outside.specs.Streams.{Adds, AddsPart, KeepsBytes}
 use Rattle.zc_outside.specs.Wanted.{AreHeld, AreRead, IsOneLong, Wanted}
 use Rattle.zc_outside.specs.World.{World}
 use Rattle.zc_outside.specs.declared.console.ConsoleFault.{ConsoleFault}
-use Rattle.command_words.specs.Command.{Check, Command, Gc, Make, Merge, Plain, Run, Trace, Zc}
+use Rattle.command_words.specs.Command.{Check, Command, Gc, Listing, Make, Merge, Plain, Run, Share, Trace, Zc}
 use Rattle.zcld.specs.declared.input.TheConstants.{INPUT_LIMIT}
 use Rattle.zcld.specs.declared.outcome.Outcome.{Outcome}
 use Rattle.zcld.specs.declared.outcome.Outcome.TheVariants.{Usage, ReadFault, WriteFault, OutOfMemory}
@@ -14,12 +14,14 @@ use Rattle.zcld.specs.Check.{CheckWork, check_refusal, check_wanted}
 use Rattle.zcld.specs.ErrLine.{err_line}
 use Rattle.zcld.specs.Gc.{GcWork}
 use Rattle.zcld.specs.Input.{IsShortInput, RoseAbove}
+use Rattle.zcld.specs.List.{ListWork, list_refusal, list_wanted}
 use Rattle.zcld.specs.Make.{MakeWork}
 use Rattle.zcld.specs.Merge.{MergeWork}
 use Rattle.zcld.specs.Objects.{objects_refusal, objects_wanted}
 use Rattle.zcld.specs.Plain.{PlainWork}
 use Rattle.zcld.specs.Rewrites.{rewrite_task}
 use Rattle.zcld.specs.Run.{RunWork, run_refusal, run_wanted}
+use Rattle.zcld.specs.Share.{ShareWork, share_refusal, share_wanted}
 use Rattle.zcld.specs.Task.{Performs, Task}
 use Rattle.zcld.specs.Trace.{TraceWork}
 use Rattle.zcld.specs.Zc.{ZcWork}
@@ -66,6 +68,18 @@ task_of (Make prefix number functions) = record {
 }
 task_of (Gc prefix objects) = rewrite_task objects
 task_of (Merge prefix objects) = rewrite_task objects
+task_of (Share out plan steps objects) = record {
+  wanted = share_wanted plan objects;
+  refusal = share_refusal;
+  puts = true;
+  takes = true;
+}
+task_of (Listing image) = record {
+  wanted = list_wanted image;
+  refusal = list_refusal;
+  puts = false;
+  takes = false;
+}
 
 -- the work of each command, once its files are read and accepted
 abbrev pub work_of : Command → List (List ℕ) → Outcome → World → World → Type 0
@@ -77,6 +91,8 @@ work_of (Check cert) = CheckWork
 work_of (Make prefix number functions) = MakeWork prefix number functions
 work_of (Gc prefix objects) = GcWork prefix
 work_of (Merge prefix objects) = MergeWork prefix
+work_of (Share out plan steps objects) = ShareWork out steps
+work_of (Listing image) = ListWork
 
 -- what words do: what their command performs; or, if they are no command, nothing, with the outcome Usage, or OutOfMemory if
 -- memory ran out before that was known

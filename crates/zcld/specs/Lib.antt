@@ -16,6 +16,8 @@ pub mod Make
 pub mod Rewrites
 pub mod Gc
 pub mod Merge
+pub mod List
+pub mod Share
 pub mod Call
 pub mod Headline
 pub mod Program

@@ -7,9 +7,12 @@ use Rattle.zc_outside.specs.Wanted.{AreRead, Wanted, each_within}
 use Rattle.block_cut.specs.Faults.{first_fault}
 use Rattle.elf32_read.specs.declared.fault.Fault.{Fault}
 use Rattle.psabi_sym.specs.Faults.{gather_fault}
+use Rattle.psabi_sym.specs.LinkFault.{IsRefusal}
+use Rattle.psabi_sym.specs.declared.link_fault.LinkFault.{LinkFault}
 use Rattle.psabi_sym.specs.Inputs.{Inputs, inputs_in}
 use Rattle.zc_base.specs.declared.mem_map.MemMap.{MemMap}
 use Rattle.zcld.specs.ErrLine.{err_line}
+use Rattle.zcld.specs.Outcome.{link_outcome}
 use Rattle.zcld.specs.Task.{UnreadCause}
 use Rattle.zcld.specs.declared.outcome.Outcome.{Outcome}
 use Rattle.zcld.specs.declared.outcome.Outcome.TheVariants.{Refused, OutOfMemory}
@@ -30,6 +33,13 @@ objects_wanted names = each_within OBJECT_LIMIT names
 -- why objects that were read go no further: they are refused for this fault, or memory ran out
 abbrev pub RefusalCause : Option (ℕ × Fault) → Outcome → Type 0
 RefusalCause fault outcome = (refused_for fault ≡ Some outcome) ⊎ (outcome ≡ OutOfMemory)
+
+-- gathering these files is refused, and the outcome's line is the same for the files that are kept
+pub record IsUngathered (map : MemMap) (files left : List (List ℕ)) (outcome : Outcome) : Type 0 where
+  pub fault : LinkFault
+  pub outcome_is : outcome ≡ link_outcome fault
+  pub refused : IsRefusal (gather_fault (inputs_in map files)) fault
+  pub line : err_line left outcome ≡ err_line files outcome
 
 -- the files have these bytes and are refused, and the outcome's line is the same for the files that are kept
 pub record AreRefused

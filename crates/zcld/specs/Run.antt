@@ -15,14 +15,14 @@ use Rattle.zc_outside.specs.Wanted.{Wanted}
 use Rattle.zc_outside.specs.World.{World}
 use Rattle.zc_machine.specs.Load.{first_core_of}
 use Rattle.zc_machine.specs.Run.{interrupts_by}
-use Rattle.zc_machine.specs.RunEnd.{Ran, zc_course}
+use Rattle.zc_machine.specs.RunEnd.{Ran, course_of}
 use Rattle.zc_machine.specs.declared.run.RunEnd.{RunEnd}
 use Rattle.zcld.specs.declared.limits.TheConstants.{IMAGE_LIMIT}
 use Rattle.zcld.specs.declared.outcome.FileFault.TheVariants.{Image, Plan}
 use Rattle.zcld.specs.declared.outcome.Outcome.{Outcome}
 use Rattle.zcld.specs.declared.outcome.Outcome.TheVariants.{Exited, WriteFault, OutOfMemory, BadFile, Stopped, Spent}
 use Rattle.zcld.specs.declared.run.RunFiles.{RunFiles}
-use Rattle.zcld.specs.Machines.{MachineWork, Executes}
+use Rattle.zcld.specs.Machines.{Executes, TakesAndRuns}
 use Rattle.zcld.specs.Task.{first_file}
 use Rattle.zc_outside.specs.declared.console.ConsoleFault.TheVariants as console
 use Rattle.zc_machine.specs.declared.run.RunEnd.TheVariants as end
@@ -53,7 +53,7 @@ abbrev pub image_refusal : MemMap → List ℕ → Option Outcome
 image_refusal map image = option_map (λ fault. BadFile (Image fault)) (image_fault image map)
 
 -- the first fault in a plan
-abbrev pub plan_refusal : Result (List Entry) PlanFault → Option Outcome
+abbrev pub plan_refusal : {A : Type 0} → Result A PlanFault → Option Outcome
 plan_refusal (Ok plan) = None
 plan_refusal (Err fault) = Some (BadFile (Plan fault))
 
@@ -71,15 +71,21 @@ run_outcome end.Spent pc = Spent
 run_outcome (end.Console console.Failed) pc = WriteFault
 run_outcome (end.Console console.OutOfMemory) pc = OutOfMemory
 
+-- a run from a first state over an input, of at most `steps` commits, with what happens before each of them, came to an end
+abbrev pub EndsRun : ZcCore → (ℕ → ZcCore → ZcCore) → ℕ → List ℕ → RunEnd × ZcCore → Desk → Desk → Type 0
+EndsRun first happens steps input end = Ran happens (course_of first input happens steps) end.0 end.1
+
+-- the outcome of an end, with the machine as it is left
+abbrev pub end_outcome : RunEnd × ZcCore → Outcome
+end_outcome end = run_outcome end.0 end.1.pc
+
 -- the run of an image from its first state over an input, under a plan, of at most `steps` commits
-abbrev pub Runs : ZcCore → List Entry → ℕ → List ℕ → Outcome → Desk → Desk → Type 0
-Runs first plan steps input =
-    Executes (λ (end : RunEnd × ZcCore). Ran (interrupts_by plan) (zc_course first input plan steps) end.0 end.1)
-    (λ end. run_outcome end.0 end.1.pc)
+abbrev pub Runs : ZcCore → List Entry → ℕ → List ℕ → Outcome → World → World → Type 0
+Runs first plan steps input = Executes (EndsRun first (interrupts_by plan) steps input) end_outcome
 
 -- the work of `run`: the image in the map, under the plan
 pub record RunWork
     (map : MemMap) (steps : ℕ) (files : List (List ℕ)) (outcome : Outcome) (before after : World) : Type 0 where
   pub plan : List Entry
   pub spelled : plan_of files ≡ Ok plan
-  pub run : MachineWork (Runs (first_core_of (first_file files) map) plan steps) outcome before after
+  pub run : TakesAndRuns (Runs (first_core_of (first_file files) map) plan steps) outcome before after

@@ -10,11 +10,13 @@ use crate::check::check;
 use crate::ending::Ending;
 use crate::err_line::write_line;
 use crate::gc::gc;
+use crate::list::list;
 use crate::make::make;
 use crate::merge::merge;
 use crate::outcome::Outcome;
 use crate::plain::plain;
 use crate::run::run;
+use crate::share::share;
 use crate::trace::trace;
 use crate::zc::zc;
 use command_words::command_line::CommandLine;
@@ -65,5 +67,7 @@ fn perform<S: Store, C: Console>(
         CommandLine::Make(args) => Ending::alone(alloc, make(alloc, args, store, console)),
         CommandLine::Gc(args) => gc(alloc, &args, store, console),
         CommandLine::Merge(args) => merge(alloc, &args, store, console),
+        CommandLine::Share(args) => share(alloc, &args, store, console),
+        CommandLine::List { image } => Ending::alone(alloc, list(alloc, image, store, console)),
     }
 }

@@ -1,5 +1,5 @@
 //! Links RV32IM objects into an executable, as they are or made smaller with 16-bit instructions, leaves out the code
-//! that they don't need, shares equal ends of their functions, and runs objects and executables.
+//! that they don't need, shares equal ends of their functions, runs objects and executables, and lists executables.
 #![tactic(auto)]
 
 pub mod call;
@@ -9,6 +9,7 @@ pub mod err_line;
 pub mod gc;
 pub mod input;
 pub mod limits;
+pub mod list;
 pub mod make;
 pub mod merge;
 pub mod objects;
@@ -18,6 +19,8 @@ pub mod print;
 pub mod program;
 pub mod put;
 pub mod put_objects;
+pub mod ready;
 pub mod run;
+pub mod share;
 pub mod trace;
 pub mod zc;

@@ -1,6 +1,6 @@
 // The files of the objects that a command reads.
 
-ghost use Rattle.std.specs.Prelude.{◌≡◌, ◌<◌, ◌+◌, ◌++◌, ◌∷◌, ◌^◌, [], false, List, ℕ, IfErr, IfOk, IfSome, None, length, nat_lt};
+ghost use Rattle.std.specs.Prelude.{◌≡◌, ◌<◌, ◌+◌, ◌++◌, ◌∷◌, ◌^◌, [], false, List, ℕ, IfErr, IfOk, IfSome, None, length};
 ghost use Rattle.std.specs.Option.{option_map, option_or};
 ghost use Rattle.elf32_read.specs.Object.{object_fault};
 ghost use Rattle.psabi_sym.specs.Faults.{gather_fault};
@@ -11,8 +11,9 @@ ghost use Rattle.zc_base.specs.MemMap.{IsMap};
 ghost use Rattle.zc_base.specs.declared.mem_map.MemMap.{MemMap};
 ghost use Rattle.zc_outside.specs.Wanted.{AreRead, ReadsAll};
 ghost use Rattle.command_words.specs.Command.{texts};
-ghost use Rattle.zcld.specs.Objects.{AreGathered, EndsWithout, objects_wanted};
-ghost use Rattle.zcld.specs.Reading.{Keeps};
+ghost use Rattle.zcld.specs.Objects.{AreGathered, EndsWithout, IsUngathered, objects_wanted};
+ghost use Rattle.zcld.specs.Reading.{AreKept, Keeps, KeepsAll};
+ghost use Rattle.zcld.specs.Task.{UnreadCause};
 
 use crate::ending::Ending;
 use crate::limits::OBJECT_LIMIT;
@@ -28,11 +29,11 @@ use zc_base::mem_map::MemMap;
 use zc_outside::read_files::read_file;
 use zc_outside::store::Store;
 
-// What is read of objects so far: whether there are too many for a link, how many bytes those that are kept have, the
-// first fault of reading one of the others, and the files that are kept. Once it is known that the objects are refused,
-// no more of them are kept.
+/// What is read of objects so far: whether there are too many for a link, how many bytes those that are kept have, the
+/// first fault of reading one of the others, and the files that are kept. Once it is known that the objects are refused,
+/// no more of them are kept.
 #[derive(Drop)]
-struct Reading {
+pub struct Reading {
     are_many: bool,
     bytes: u64,
     later: Option<(u32, Fault)>,
@@ -75,11 +76,10 @@ impl Reading {
     // Why the objects, of which these are kept, aren't linked in any map, if there are too many or they have too many
     // bytes.
     fn refusal(&self, alloc: Global) -> Option<LinkFault>
-        requires { (read : List (List ℕ)) × Keeps read self.now × (self.now.are_many ≡ nat_lt 256 (length read)) }
-        ensures none { result ≡ None → (read : List (List ℕ)) → Keeps read self.now
+        requires { (read : List (List ℕ)) × KeepsAll read self.now }
+        ensures none { result ≡ None → (read : List (List ℕ)) → KeepsAll read self.now
             → read ≡ contents_of self.now.files.items }
-        ensures some { IfSome result (λ fault. (read : List (List ℕ)) → Keeps read self.now
-            → self.now.are_many ≡ nat_lt 256 (length read) → (map : MemMap)
+        ensures some { IfSome result (λ fault. (read : List (List ℕ)) → KeepsAll read self.now → (map : MemMap)
             → IsRefusal (gather_fault (inputs_in map read)) fault × IsNameless fault) }
     {
         if self.are_many {
@@ -108,6 +108,23 @@ pub fn read_objects<S: Store>(
         left outcome (S.shown store.old) (S.shown store.new)) }
     ensures reads { ReadsAll (objects_wanted (texts names.now)) (S.shown store.old) (S.shown store.new) }
 {
+    let reading = read_all(alloc, names, store)?;
+    match reading.refusal(alloc) {
+        None => Ok(reading.files),
+        Some(fault) => Err(Outcome::from(fault)),
+    }
+}
+
+/// Reads the objects under these names before any of them is judged, or says how the call ends where one can't be read.
+pub fn read_all<S: Store>(
+    alloc: Global,
+    names: &[String],
+    store: &mut S,
+) -> Result<Reading, Outcome>
+    ensures ok { IfOk result (λ reading. AreKept (texts names.now) reading (S.shown store.old).files) }
+    ensures err { IfErr result (UnreadCause (objects_wanted (texts names.now)) (S.shown store.old) (S.shown store.new)) }
+    ensures reads { ReadsAll (objects_wanted (texts names.now)) (S.shown store.old) (S.shown store.new) }
+{
     let mut reading = Reading {
         are_many: MOST_OBJECTS < names.len(),
         bytes: 0,
@@ -118,14 +135,33 @@ pub fn read_objects<S: Store>(
         let file = read_file(alloc, name.as_str(), OBJECT_LIMIT, store)?;
         reading.add(i, file)?;
     }
-    match reading.refusal(alloc) {
-        None => Ok(reading.files),
-        Some(fault) => Err(Outcome::from(fault)),
+    Ok(reading)
+}
+
+/// The objects of the files that were read, in the map, or how the command ends without them. Objects are a copy of their
+/// files, which are let go, unless a refusal may name something in them.
+pub fn gather(alloc: Global, reading: Reading, map: MemMap) -> Result<Objects, Ending>
+    requires map { IsMap map }
+    requires read { (read : List (List ℕ)) × KeepsAll read reading }
+    ensures ok { IfOk result (λ objects. (read : List (List ℕ)) → KeepsAll read reading
+        → (objects ≡ inputs_in map read) × (gather_fault objects ≡ None)) }
+    ensures err { IfErr result (λ ending. (read : List (List ℕ)) → KeepsAll read reading
+        → IsUngathered map read (contents_of ending.files.items) ending.outcome) }
+{
+    if let Some(fault) = reading.refusal(alloc) {
+        return Err(Ending::alone(alloc, Outcome::from(fault)));
+    }
+    let files = reading.files;
+    match Objects::gather(alloc, files.as_slice(), map) {
+        Ok(objects) => Ok(objects),
+        Err(fault) => Err(Ending {
+            outcome: Outcome::from(fault),
+            files,
+        }),
     }
 }
 
-/// The objects under these names, in the map, or how the command ends without them. Objects are a copy of their files,
-/// which are let go, unless a refusal may name something in them.
+/// The objects under these names, in the map, or how the command ends without them.
 pub fn gather_named<S: Store>(
     alloc: Global,
     names: &[String],
@@ -138,15 +174,8 @@ pub fn gather_named<S: Store>(
         ending.outcome (S.shown store.old) (S.shown store.new)) }
     ensures reads { ReadsAll (objects_wanted (texts names.now)) (S.shown store.old) (S.shown store.new) }
 {
-    let files = match read_objects(alloc, names, store) {
-        Ok(files) => files,
-        Err(outcome) => return Err(Ending::alone(alloc, outcome)),
-    };
-    match Objects::gather(alloc, files.as_slice(), map) {
-        Ok(objects) => Ok(objects),
-        Err(fault) => Err(Ending {
-            outcome: Outcome::from(fault),
-            files,
-        }),
+    match read_all(alloc, names, store) {
+        Ok(reading) => gather(alloc, reading, map),
+        Err(outcome) => Err(Ending::alone(alloc, outcome)),
     }
 }

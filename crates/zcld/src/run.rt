@@ -4,6 +4,7 @@ ghost use Rattle.std.specs.Prelude.{◌≡◌, ◌⊎◌, ℕ, IfOk, IfErr, List
 ghost use Rattle.zc_base.specs.MemMap.{IsMap};
 ghost use Rattle.zc_machine.specs.Load.{first_core_of};
 ghost use Rattle.zc_outside.specs.Wanted.{AreRead, ReadsAll};
+ghost use Rattle.zc_outside.specs.Shelf.{Shelf};
 ghost use Rattle.zc_outside.specs.World.{world};
 ghost use Rattle.command_words.specs.Command.{run_meant};
 ghost use Rattle.zcld.specs.Call.{DoesWith};
@@ -12,16 +13,15 @@ ghost use Rattle.zcld.specs.Machines.{TakesAndRuns};
 ghost use Rattle.zcld.specs.Run.{Runs, run_files, plan_of, run_outcome as outcome_of_end, run_wanted};
 ghost use Rattle.zcld.specs.Task.{UnreadCause};
 
-use crate::input::take_all;
 use crate::limits::IMAGE_LIMIT;
 use crate::outcome::{FileFault, Outcome};
+use crate::ready::{Ready, make_ready};
 use command_words::command_line::RunArgs;
 use elf32_read::image::Image;
 use interrupt_plan::fault::PlanFault;
 use interrupt_plan::plan::{Plan, empty_plan};
 use interrupt_plan::read_plan::{PLAN_LIMIT, read_plan};
 use std::alloc::Global;
-use zc_machine::machine::Machine;
 use zc_machine::run::{RunEnd, run as run_machine};
 use zc_outside::console::{Console, ConsoleFault};
 use zc_outside::read_files::read_file;
@@ -100,23 +100,20 @@ fn execute<C: Console>(
     console: &mut C,
 ) -> Outcome
     requires { IsMap image.now.1 }
-    ensures runs { TakesAndRuns (Runs (first_core_of image.now.0 image.now.1) plan.now steps) result
-        (C.shown console.old) (C.shown console.new) }
+    ensures runs { (shelf : Shelf) → TakesAndRuns (Runs (first_core_of image.now.0 image.now.1) plan.now steps) result
+        (world shelf (C.shown console.old)) (world shelf (C.shown console.new)) }
     ensures line { NamesNothing result }
 {
-    let input = match take_all(alloc, console) {
-        Ok(input) => input,
+    let Ready { mut machine, input } = match make_ready(alloc, image, console) {
+        Ok(ready) => ready,
         Err(outcome) => return outcome,
-    };
-    let Ok(mut machine) = Machine::load(alloc, image) else {
-        return Outcome::OutOfMemory;
     };
     let end = run_machine(&mut machine, plan, input.as_slice(), steps, console);
     run_outcome(end, machine.pc())
 }
 
-// How the call ends, by how the run did.
-fn run_outcome(end: RunEnd, pc: u32) -> Outcome
+/// How the call ends, by how the run did.
+pub fn run_outcome(end: RunEnd, pc: u32) -> Outcome
     ensures value { result ≡ outcome_of_end end pc }
     ensures line { NamesNothing result }
 {

@@ -3,6 +3,7 @@
 ghost use Rattle.std.specs.Prelude.{◌≡◌, Some};
 ghost use Rattle.psabi_sym.specs.Objects.{contents_of};
 ghost use Rattle.zc_base.specs.MemMap.{IsMap};
+ghost use Rattle.zc_outside.specs.Shelf.{Shelf};
 ghost use Rattle.zc_outside.specs.World.{world};
 ghost use Rattle.command_words.specs.Command.{trace_meant};
 ghost use Rattle.zcld.specs.Call.{DoesWith};
@@ -46,7 +47,8 @@ pub fn trace<S: Store, C: Console>(
 
 // Runs objects over the console's whole input.
 fn execute<C: Console>(alloc: Global, cut: &Cut, steps: u64, console: &mut C) -> Outcome
-    ensures runs { TakesAndRuns (Traces cut.now steps) result (C.shown console.old) (C.shown console.new) }
+    ensures runs { (shelf : Shelf) → TakesAndRuns (Traces cut.now steps) result
+        (world shelf (C.shown console.old)) (world shelf (C.shown console.new)) }
     ensures line { NamesNothing result }
 {
     let input = match take_all(alloc, console) {

@@ -1,24 +1,13 @@
 -- The line that is written is that of the certificate's net. No line names anything, so it is the same for any files.
 use Rattle.std.proofs.Common.{◌≡◌, ◌∙◌, List, [], ◌∷◌, Some, rules, refl, sym, inl, inr, subst}
 use Rattle.pick_check.specs.Text.{certificate_in}
-use Rattle.zc_outside.specs.Shelf.{Shelf}
-use Rattle.zc_outside.specs.Wanted.{ReadCause, Wanted}
 use Rattle.zc_outside.specs.World.{world}
-use Rattle.zc_outside.specs.declared.read_files.ReadFault as files
-use Rattle.zc_outside.specs.declared.read_files.ReadFault.TheVariants as read
 use Rattle.zcld.specs.Check.{certificate_refusal, check_line, check_wanted}
-use Rattle.zcld.specs.Outcome.{read_outcome}
 use Rattle.zcld.specs.Puts.{PutsInTurn, text_alone}
 use Rattle.zcld.specs.Task.{UnreadCause}
-use Rattle.zcld.specs.declared.outcome.Outcome.{Outcome}
 use Rattle.zcld.proofs.CheckFacts.{certificate_names_nothing}
-use Rattle.zcld.proofs.Refusals.{names_in_none}
+use Rattle.zcld.proofs.Refusals.{names_in_none, unread}
 use Rattle.zcld.proofs.check.check.Goals as goal
-
--- why the certificate can't be had
-unread : (wanted : List Wanted) (before after : Shelf) (fault : files.ReadFault) (outcome : Outcome) → outcome ≡ read_outcome fault → ReadCause wanted before after fault → UnreadCause wanted before after outcome
-unread wanted before after read.Unread outcome is cause = subst (λ o. UnreadCause wanted before after o) (sym is) cause
-unread wanted before after read.OutOfMemory outcome is cause = subst (λ o. UnreadCause wanted before after o) (sym is) tt
 
 pub returns-in-Err : goal.returns-in-Err
 returns-in-Err g c = λ left. record {

@@ -1,86 +1,15 @@
--- The object at hand joins those before it, and those after it aren't read if it can't be had. What is refused in the end is refused
--- by the bytes of all.
-use Rattle.std.proofs.Common.{◌≡◌, ◌++◌, ◌∷◌, [], List, length, ltb, take, inl, ap, subst, ◌∙◌, arith, length-append}
-use Rattle.std.proofs.lemmas.List.{take_all}
-use Rattle.std.proofs.lemmas.Result.{err_from_is_err_and}
+-- All that was read is kept, or it is refused by the bytes of all.
+use Rattle.std.proofs.Common.{List, ap, subst}
 use Rattle.command_words.specs.Command.{texts}
-use Rattle.zc_outside.specs.Shelf.{Shelf}
-use Rattle.zc_outside.specs.Wanted.{AreRead, ReadCause, Wanted}
-use Rattle.zc_outside.specs.declared.read_files.ReadFault.{ReadFault}
-use Rattle.zc_outside.specs.declared.read_files.ReadFault.TheVariants.{OutOfMemory, Unread}
-use Rattle.zc_outside.proofs.Wanted.{AreRead-more, ReadCause-stop, ReadsAll-more, ReadsAll-stop}
+use Rattle.zc_outside.specs.Wanted.{AreRead}
 use Rattle.zcld.specs.Objects.{objects_wanted}
-use Rattle.zcld.specs.Outcome.{link_outcome, read_outcome}
-use Rattle.zcld.specs.Task.{UnreadCause}
-use Rattle.zcld.specs.declared.limits.TheConstants.{OBJECT_LIMIT}
+use Rattle.zcld.specs.Outcome.{link_outcome}
 use Rattle.zcld.proofs.Refusals.{names_in_none, names_none}
 use Rattle.zcld.proofs.WithObjects.{gather_refused}
 use Rattle.zcld.proofs.objects.read_objects.Goals as goal
 
--- why an object can't be had, as an outcome
-unread : (wanted : List Wanted) (before after : Shelf) (fault : ReadFault) → ReadCause wanted before after fault → UnreadCause wanted before after (read_outcome fault)
-unread wanted before after Unread cause = cause
-unread wanted before after OutOfMemory cause = tt
-
-pub returns-in_err-file-clause-err : goal.returns-in_err-file-clause-err
-returns-in_err-file-clause-err g c =
-    let shown = g.S.Store.shown in
-    let fault = c.in_err-file.field-0.0 in
-    let own = rw c.as_str.ensures.value at c.in_err-file.ensures.cause in
-    let cause = ReadCause-stop OBJECT_LIMIT c.args.names.now c.loop-i.i c.index-names-i.result c.loop-i-test.true c.index-names-i.is
-    (shown c.args.store.now) (shown c.loop-i.store) (shown c.read_file.new.store) fault c.loop-i.invariant.reads own in
-    let p = err_from_is_err_and c.from_residual.result c.from_residual.ensures.1 in
-    rw (p.1, p.2) (λ map left. inl (unread (objects_wanted (texts c.args.names.now)) (shown c.args.store.now) (shown c.read_file.new.store) fault cause))
-
-pub returns-in_err-file-clause-reads : goal.returns-in_err-file-clause-reads
-returns-in_err-file-clause-reads g c =
-    let next = rw c.as_str.ensures.value at c.read_file.ensures.reads in
-    ReadsAll-stop OBJECT_LIMIT c.args.names.now c.loop-i.i c.index-names-i.result c.loop-i-test.true c.index-names-i.is c.loop-i.invariant.reads next
-
-pub returns-in_err-add-clause-reads : goal.returns-in_err-add-clause-reads
-returns-in_err-add-clause-reads g c =
-    let next = rw c.as_str.ensures.value at c.read_file.ensures.reads in
-    ReadsAll-stop OBJECT_LIMIT c.args.names.now c.loop-i.i c.index-names-i.result c.loop-i-test.true c.index-names-i.is c.loop-i.invariant.reads next
-
-pub loop-i-preserved : goal.loop-i-preserved
-loop-i-preserved g c =
-    let before = (g.S.Store.shown c.args.store.now).files in
-    let here = (g.S.Store.shown c.loop-i.store).files in
-    let so_far = c.loop-i.invariant.read in
-    let next = rw c.as_str.ensures.value at c.read_file.ensures.reads in
-    let last = rw c.as_str.ensures.value at c.in_ok-file.ensures.ok in
-    let file = c.in_ok-file.file.items in
-    let more = AreRead-more OBJECT_LIMIT c.args.names.now c.loop-i.i c.index-names-i.result c.loop-i-test.true c.index-names-i.is in
-    record {
-      read = (
-        so_far.0 ++ file ∷ [],
-        more before here so_far.0 file c.loop-i.invariant.reads.files so_far.1 last,
-        c.in_ok-add.ensures.keeps so_far.0 so_far.2 so_far.3,
-        omega (arith, length-append so_far.0 (file ∷ []), so_far.3),
-      );
-      reads = ReadsAll-more OBJECT_LIMIT c.args.names.now c.loop-i.i c.index-names-i.result c.loop-i-test.true c.index-names-i.is c.loop-i.invariant.reads next;
-      many = c.add.ensures.many ∙ c.loop-i.invariant.many;
-    }
-
 pub returns-in-None-clause-ok : goal.returns-in-None-clause-ok
-returns-in-None-clause-ok g c =
-    let before = (g.S.Store.shown c.args.store.now).files in
-    let so_far = c.loop-i.invariant.read in
-    let all : take c.loop-i.i c.args.names.now ≡ c.args.names.now = take_all c.loop-i.i c.args.names.now (omega arith) in
-    let same = c.refusal.ensures.none c.in-None.is so_far.0 so_far.2 in
-    subst (λ read. AreRead before (objects_wanted (texts c.args.names.now)) read) same
-    (subst (λ names. AreRead before (objects_wanted (texts names)) so_far.0) all so_far.1)
+returns-in-None-clause-ok g c = ?
 
 pub returns-in-Some-clause-err : goal.returns-in-Some-clause-err
-returns-in-Some-clause-err g c =
-    let before = g.S.Store.shown c.args.store.now in
-    let after = g.S.Store.shown c.loop-i.store in
-    let names = texts c.args.names.now in
-    let fault = c.in-Some.fault in
-    let so_far = c.loop-i.invariant.read in
-    let all : take c.loop-i.i c.args.names.now ≡ c.args.names.now = take_all c.loop-i.i c.args.names.now (omega arith) in
-    let count : length c.args.names.now ≡ length so_far.0 = omega (arith, so_far.3) in
-    let is = c.in-Some.ensures.some so_far.0 so_far.2 (c.loop-i.invariant.many ∙ ap (ltb 256) count) in
-    let read = subst (λ names. AreRead before.files (objects_wanted (texts names)) so_far.0) all so_far.1 in
-    rw c.from.ensures
-    (λ map left. gather_refused map names left before after so_far.0 fault read (is map).0 (names_in_none (link_outcome fault) left so_far.0 (names_none fault (is map).1)))
+returns-in-Some-clause-err g c = ?

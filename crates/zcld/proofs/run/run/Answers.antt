@@ -8,8 +8,7 @@ use Rattle.interrupt_plan.specs.declared.fault.PlanFault.{PlanFault}
 use Rattle.interrupt_plan.specs.declared.fault.PlanFault.TheVariants as fault
 use Rattle.zc_base.specs.declared.mem_map.MemMap.{MemMap}
 use Rattle.zc_machine.specs.Load.{first_core_of}
-use Rattle.zc_outside.specs.Desk.{Desk}
-use Rattle.zc_outside.specs.World.{world}
+use Rattle.zc_outside.specs.World.{World, world}
 use Rattle.zcld.specs.declared.outcome.Outcome.{Outcome}
 use Rattle.zcld.specs.declared.outcome.Outcome.TheVariants.{OutOfMemory}
 use Rattle.zcld.specs.ErrLine.{NamesNothing, err_line}
@@ -26,7 +25,7 @@ none_refused map files plan sound spelled = rw (sound, spelled) refl
 
 -- the image that ran is the file that was read, in the map that the words gave
 of_file :
-    (a b : List ℕ × MemMap) (plan : List Entry) (steps : ℕ) (outcome : Outcome) (before after : Desk) → a ≡ b →
+    (a b : List ℕ × MemMap) (plan : List Entry) (steps : ℕ) (outcome : Outcome) (before after : World) → a ≡ b →
     TakesAndRuns (Runs (first_core_of a.0 a.1) plan steps) outcome before after →
     TakesAndRuns (Runs (first_core_of b.0 b.1) plan steps) outcome before after
 of_file a b plan steps outcome before after same = subst (λ i. TakesAndRuns (Runs (first_core_of i.0 i.1) plan steps) outcome before after) same
@@ -82,7 +81,7 @@ returns-in-Ok-plan_of g c = λ left.
         work = record {
           plan = c.in-Ok-plan_of.plan;
           spelled = c.in-Ok-plan_of.ensures.ok;
-          run = record { shelf = refl; desk = of_file c.in-Ok-read.image _ _ _ _ _ _ (c.in-Ok-read.ensures.0 ∙ ap (λ file. (file, map)) first) c.execute.ensures.runs };
+          run = of_file c.in-Ok-read.image _ _ _ _ _ _ (c.in-Ok-read.ensures.0 ∙ ap (λ file. (file, map)) first) (c.execute.ensures.runs (g.S.Store.shown c.read_both.new.store));
         };
       }));
     }

@@ -44,7 +44,4 @@ returns-in-Ok-new g c =
     subst (λ (outcome : Outcome). DoesWith (Some (trace_meant args)) left outcome before after) (sym c.alone.ensures.outcome)
     (with_objects _ args.map names left _ before after between c.in-Ok.objects wants refl (record { shelf = c.gather_named.ensures.reads; desk = refl })
     c.in-Ok.ensures.ok c.in-Ok-new.ensures.faultless c.execute.ensures.line
-    (record {
-      shelf = refl;
-      desk = subst (λ inputs. TakesAndRuns (Traces inputs args.steps) c.execute.result between.desk after.desk) (c.in-Ok-new.ensures.same ∙ c.in-Ok.ensures.ok.inputs_are) c.execute.ensures.runs;
-    }))
+    (subst (λ inputs. TakesAndRuns (Traces inputs args.steps) c.execute.result between after) (c.in-Ok-new.ensures.same ∙ c.in-Ok.ensures.ok.inputs_are) (c.execute.ensures.runs between.shelf)))

@@ -10,15 +10,16 @@ use Rattle.psabi_sym.proofs.Gathered.{too_many}
 use Rattle.zcld.proofs.objects.Reading.refusal.Goals as goal
 
 pub returns-then-self-clause-some : goal.returns-then-self-clause-some
-returns-then-self-clause-some c = λ read keeps many map. (too_many (inputs_in map read) (ltb-true 256 (length read) (sym many ∙ c.if-self.true)), refl)
+returns-then-self-clause-some c = λ read all map. (too_many (inputs_in map read) (ltb-true 256 (length read) (sym all.many ∙ c.if-self.true)), refl)
 
 pub returns-then-self-gt-MOST_BYTES-clause-some : goal.returns-then-self-gt-MOST_BYTES-clause-some
-returns-then-self-gt-MOST_BYTES-clause-some c = λ read keeps many map.
+returns-then-self-gt-MOST_BYTES-clause-some c = λ read all map.
+    let keeps = all.keeps in
     let files = c.as_slice.result.now in
     let kept = contents_of files in
     let kept_are : kept ≡ contents_of c.args.self.now.files.items = ap contents_of c.as_slice.ensures.value in
     let count : length kept ≡ length files = length-map files (λ file. file.items) in
-    let few : length read ≤ 256 = ltb-false 256 (length read) (sym many ∙ c.if-self.false) in
+    let few : length read ≤ 256 = ltb-false 256 (length read) (sym all.many ∙ c.if-self.false) in
     let same : kept ++ keeps.others ≡ read = ap (λ k. k ++ keeps.others) kept_are ∙ sym keeps.read_are in
     let both : length files + length keeps.others ≤ 256 = omega (arith, few, count, length-append kept keeps.others, ap length same) in
     let later = keeps.later_is c.if-self.false ∙ ap (λ n. fault_from n keeps.others) (sym (ap length kept_are) ∙ count) in

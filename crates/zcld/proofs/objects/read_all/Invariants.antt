@@ -4,7 +4,7 @@ use Rattle.std.specs.String.{string_bytes}
 use Rattle.zc_outside.specs.Wanted.{AreRead, ReadsAll, each_within}
 use Rattle.zcld.specs.Reading.{Keeps}
 use Rattle.zcld.specs.declared.limits.TheConstants.{OBJECT_LIMIT}
-use Rattle.zcld.proofs.objects.read_objects.Given as goal
+use Rattle.zcld.proofs.objects.read_all.Given as goal
 
 abbrev pub invariant-loop-i : goal.invariant-loop-i
 invariant-loop-i g l =
