@@ -1,4 +1,4 @@
-use Rattle.std.proofs.Common.{◌≡◌, ℕ, ◌-◌, ◌<◌, ◌≤◌, length, drop}
+use Rattle.std.proofs.Common.{◌≡◌, ℕ, ◌-◌, ◌<◌, ◌≤◌, drop}
 use Rattle.zc_machine.specs.Schedule.{first_commit, made_at}
 use Rattle.zc_machine.proofs.schedule_cursor.ScheduleCursorBetweenCommits.act_on.Given as goal
 

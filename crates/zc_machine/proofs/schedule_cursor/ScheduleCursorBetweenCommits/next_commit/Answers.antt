@@ -1,4 +1,4 @@
-use Rattle.std.proofs.Common.{drop, subst, ◌<◌, arith}
+use Rattle.std.proofs.Common.{drop, arith}
 use Rattle.std.proofs.lemmas.List.Sorted.{IsNonDecreasingBy-drop}
 use Rattle.zc_machine.specs.Schedule.{Timed}
 use Rattle.zc_machine.proofs.ScheduleLaws.{first_at, none_before}
