@@ -1,4 +1,4 @@
--- What accesses and interrupts keep.
+-- What accesses, interrupts and bytes written from outside keep.
 use Rattle.std.proofs.Common.{◌≡◌, ◌≢◌, ℕ, zero, suc, ◌-◌, List, [], ◌∷◌, drop, Bool, true, false, cond, eqb, refl, sym, ◌∙◌, Option, Some, None, arith, ltb}
 use Rattle.std.specs.Prelude.{All, negsuc, slice_get, ◌&&◌}
 use Rattle.std.proofs.lemmas.List.Elements.{All-drop, All-from_recursion, All-head, All-tail}
@@ -15,6 +15,7 @@ use Rattle.zc_decode.specs.declared.short.Short.{Short}
 use Rattle.zc_decode.specs.declared.short.Short.TheVariants.{Base, Push, Pop, PopRet, PopRetz, MoveSa, MoveAs, TableJump}
 use Rattle.zc_machine.specs.Fetch.{Fetched, Found, Missing, fetched_at}
 use Rattle.zc_machine.specs.Interrupt.{all_dirtied, all_interrupted, dirtied, done_all, done_of, done_one, interrupted}
+use Rattle.zc_machine.specs.Poked.{is_segment, poked_core}
 use Rattle.zc_machine.proofs.FrameLaws.{is_possible}
 
 -- pc, the number of commits, and the exit
@@ -23,10 +24,10 @@ pub record Keeps (y z : ZcCore) : Type 0 where
   pub commits : z.commits ≡ y.commits
   pub exit : z.exit ≡ y.exit
 
-Keeps-refl : (z : ZcCore) → Keeps z z
+pub Keeps-refl : (z : ZcCore) → Keeps z z
 Keeps-refl z = record { pc = refl; commits = refl; exit = refl }
 
-Keeps-trans : (x y z : ZcCore) → Keeps x y → Keeps y z → Keeps x z
+pub Keeps-trans : (x y z : ZcCore) → Keeps x y → Keeps y z → Keeps x z
 Keeps-trans x y z p q = record { pc = q.pc ∙ p.pc; commits = q.commits ∙ p.commits; exit = q.exit ∙ p.exit }
 
 -- ---- accesses
@@ -92,6 +93,15 @@ cut_keeps c z =
 pub all_cuts_keep : (cuts : List Interrupt) (z : ZcCore) → Keeps z (all_interrupted cuts z)
 all_cuts_keep [] z = Keeps-refl z
 all_cuts_keep (c ∷ cs) z = Keeps-trans z (interrupted c z) (all_interrupted cs (interrupted c z)) (cut_keeps c z) (all_cuts_keep cs (interrupted c z))
+
+-- ---- bytes written from outside
+
+pub poked_keeps : (c : ℕ × ℕ) (z : ZcCore) → Keeps z (poked_core c z)
+poked_keeps c z = either (lies_in is_segment (extents_of z.memory) c.0 1)
+  where
+    either : (b : Bool) → Keeps z (cond b (record z { memory = changed (written c.0 1 (λ i. c.1)) z.memory }) z)
+    either true = record { pc = refl; commits = refl; exit = refl }
+    either false = Keeps-refl z
 
 -- ---- sp
 

@@ -1,5 +1,5 @@
 -- A run by its turns: how far it has come, and where each kind of step leads.
-use Rattle.std.proofs.Common.{◌≡◌, ℕ, ◌+◌, ◌<◌, List, [], ◌∷◌, ◌++◌, take, drop, Some, None, Ok, Err, refl, sym, ap, ap₂, subst, ◌≤◌, ◌∙◌, arith}
+use Rattle.std.proofs.Common.{◌≡◌, ℕ, zero, suc, ◌+◌, ◌<◌, List, [], ◌∷◌, ◌++◌, take, drop, Some, None, Ok, Err, refl, sym, ap, ap₂, subst, ◌≤◌, ◌∙◌, arith}
 use Rattle.rv_decode.specs.State as event
 use Rattle.rv_decode.specs.State.{Event, ZcCore, ZcState}
 use Rattle.rv_decode.specs.EventBytes.{written_to}
@@ -67,11 +67,21 @@ committed_step z (Wants c) h e = absurd cc
 committed_step z (Ended status) h e = absurd cc
 committed_step z (Stopped reason) h e = absurd cc
 
-pub commits_to : (z z2 : ZcCore) (s : ZcStep) → answer.Committed ≡ answer_of s → z2 ≡ core_after s z → s ≡ Committed z2
-commits_to z z2 (Committed z') answers is = ap Committed (sym is)
-commits_to z z2 (Wants c) answers is = absurd cc
-commits_to z z2 (Ended status) answers is = absurd cc
-commits_to z z2 (Stopped reason) answers is = absurd cc
+-- a step that commits is one commit more
+pub record One (z z2 : ZcCore) : Type 0 where
+  pub is : zc_step z ≡ Committed z2
+  pub counts : z2.commits ≡ z.commits + 1
+
+pub committed_one : (z z2 : ZcCore) → answer.Committed ≡ answer_of (zc_step z) → z2 ≡ core_after (zc_step z) z → One z z2
+committed_one z z2 answers left = by (zc_step z) refl (step_shows z)
+  where
+    by : (s : ZcStep) → zc_step z ≡ s → Shows z s → One z z2
+    by (Committed z') is shown =
+        let same : z2 ≡ z' = left ∙ ap (λ s. core_after s z) is in
+        record { is = is ∙ ap Committed (sym same); counts = ap (λ y. y.commits) same ∙ shown.0 }
+    by (Wants c) is shown = let wrong = answers ∙ ap answer_of is in absurd cc
+    by (Ended status) is shown = let wrong = answers ∙ ap answer_of is in absurd cc
+    by (Stopped reason) is shown = let wrong = answers ∙ ap answer_of is in absurd cc
 
 -- ---- how far a run has come
 
@@ -255,7 +265,7 @@ stands_on {happens = happens} {z = z} until came had quiet zero last made within
   had = subst (Happened happens z) (sym made) had;
   on = omega arith;
 }
-stands_on {first = first} {input = input} {happens = happens} {z = z} {left = left} {before = before} {now = now} until came had quiet (suc n) last (y, (some, step)) within =
+stands_on {first = first} {input = input} {happens = happens} {z = z} {left = left} {before = before} {now = now} until came had quiet (suc n) last (y, some, step) within =
     let counts = (subst (λ s. Shows y s) step (step_shows y)).0 in
     let so_far : Stands first input happens z.commits y left before now = stands_on until came had quiet n y some (omega (arith, counts)) in
     let next = committed_next so_far.came so_far.had last (sym (ap answer_of step)) (sym (ap (λ s. core_after s y) step)) in
@@ -284,9 +294,9 @@ pub stepped :
     → Came first input happens z left before now → ((k : ℕ) → z.commits ≤ k → made k ≡ happens k) → z' ≡ made z.commits z → z'.commits ≡ z.commits → z'.exit ≡ z.exit
     → ((k : ℕ) → z.commits < k → later k ≡ made k) → ((k : ℕ) (y : ZcCore) → k < next → later k y ≡ y) → until ≤ next → AdvancesTo z' z2 until step
     → Stepped first input happens later z2 left before now z.commits until step
-stepped {happens = happens} {later = later} {z = z} {next = next} {until = until} came same here commits exit after none few adv =
+stepped {happens = happens} {later = later} {z = z} {z' = z'} {until = until} came same made commits exit after none few adv =
     let goes_on : (k : ℕ) → z.commits < k → later k ≡ happens k = λ k lt. after k lt ∙ same k (omega arith) in
-    let had : Happened happens z z' = record { made = here ∙ ap (λ h. h z) (same z.commits (omega arith)); commits = commits; exit = exit } in
+    let had : Happened happens z z' = record { made = made ∙ ap (λ h. h z) (same z.commits (omega arith)); commits = commits; exit = exit } in
     let s = stands_on until came had (λ k y lt below. sym (ap (λ h. h y) (goes_on k lt)) ∙ none k y (omega arith)) adv.count adv.last adv.commits adv.within in
     record {
       last = s.last;

@@ -61,7 +61,8 @@ pub fn run_with<B: BetweenCommits + Drop, C: Console>(
     let mut left = input;
     while machine.commits() < steps {
         between.act_on(machine);
-        match advance(machine, between.next_commit().min(steps)) {
+        let until = between.next_commit().min(steps);
+        match advance(machine, until) {
             Step::Committed => {}
             Step::Wants(EnvCall::Read { len, .. }) => {
                 let (front, rest) = left.split_at((len as usize).min(left.len()));

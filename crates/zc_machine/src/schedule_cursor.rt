@@ -38,7 +38,8 @@ impl<S: Schedule> BetweenCommits for ScheduleCursor<'_, S> {
     }
 
     fn act_on(&mut self, machine: &mut Machine) {
-        while self.next_commit() == machine.commits() {
+        let count = self.schedule.count();
+        while self.next < count && self.schedule.at(self.next) == machine.commits() {
             self.schedule.make(self.next, machine);
             self.next += 1;
         }

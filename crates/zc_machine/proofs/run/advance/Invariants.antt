@@ -1,4 +1,4 @@
-use Rattle.std.proofs.Common.{◌≡◌, ℕ, ◌<◌, ◌-◌}
+use Rattle.std.proofs.Common.{ℕ, ◌<◌, ◌-◌}
 use Rattle.zc_machine.specs.Advance.{CommitsTo}
 use Rattle.zc_machine.proofs.run.advance.Given as goal
 
