@@ -15,6 +15,7 @@ use Rattle.zc_decode.specs.Accesses.{Access, accesses_of}
 use Rattle.zc_decode.specs.Effect.{accessed, all_accessed, entry_at, framed, reaching_all, returned, short_effect, zeroed}
 use Rattle.zc_decode.specs.declared.short.Short.{Short}
 use Rattle.zc_decode.specs.declared.short.Short.TheVariants.{Base, MoveAs, MoveSa, Pop, PopRet, PopRetz, Push, TableJump}
+use Rattle.zc_machine.specs.declared.reason.Reason.TheVariants.{BadAccess}
 use Rattle.zc_machine.specs.declared.answer.EnvCall.{EnvCall}
 use Rattle.zc_machine.specs.declared.answer.EnvCall.TheVariants as call
 use Rattle.zc_machine.specs.Fetch.{Fetched, Found, Missing, fetched_at}
@@ -144,11 +145,15 @@ StepLeaves es (Wants c) = Unit {0}
 StepLeaves es (Ended status) = Unit {0}
 StepLeaves es (Stopped reason) = Unit {0}
 
+buffered_leaves : (es : List Extent) (z : ZcCore) (c : EnvCall) → StepLeaves es (buffered z c)
+buffered_leaves es z c =
+    cond_both (eqb (reg_in z 12) 0 || lies_in is_data (extents_of z.memory) (reg_in z 11) (reg_in z 12)) (Wants c) (Stopped BadAccess) (StepLeaves es) (λ _. tt) (λ _. tt)
+
 called_leaves : (es : List Extent) (z : ZcCore) → StepLeaves es (called z)
 called_leaves es z =
     cond_both (eqb (reg_in z 17) 93) _ _ (StepLeaves es) (λ _. tt)
-    (λ _. cond_both (eqb (reg_in z 17) 63 && eqb (reg_in z 10) 0) _ _ (StepLeaves es) (λ _. cond_both (eqb (reg_in z 12) 0 || lies_in is_data (extents_of z.memory) (reg_in z 11) (reg_in z 12)) _ _ (StepLeaves es) (λ _. tt) (λ _. tt))
-    (λ _. cond_both (eqb (reg_in z 17) 64 && (eqb (reg_in z 10) 1 || eqb (reg_in z 10) 2)) _ _ (StepLeaves es) (λ _. cond_both (eqb (reg_in z 12) 0 || lies_in is_data (extents_of z.memory) (reg_in z 11) (reg_in z 12)) _ _ (StepLeaves es) (λ _. tt) (λ _. tt)) (λ _. tt)))
+    (λ _. cond_both (eqb (reg_in z 17) 63 && eqb (reg_in z 10) 0) _ _ (StepLeaves es) (λ _. buffered_leaves es z _)
+    (λ _. cond_both (eqb (reg_in z 17) 64 && (eqb (reg_in z 10) 1 || eqb (reg_in z 10) 2)) _ _ (StepLeaves es) (λ _. buffered_leaves es z _) (λ _. tt)))
 
 made_leaves : (f : Fetched) (z : ZcCore) → StepLeaves (extents_of z.memory) (made f z)
 made_leaves (Found s size) z = by (short_effect s size z) (short_leaves s size z)

@@ -1,5 +1,5 @@
--- The program under a plan whose interrupts write shared data: its steps are counted in commits of the image, and before a stretch of
--- steps begins, the cells of all commits that the stretch takes are written.
+-- The program under a plan whose interrupts write shared data: its steps are counted in commits of the image, and before a stretch
+-- of steps begins, the cells of all commits that the stretch takes are written.
 use Rattle.std.specs.Prelude.{ℕ, zero, suc, ◌+◌, ◌-◌, ◌==◌, if◌then◌else◌, List, [], ◌++◌, filter, flat_map, Result, Ok}
 use Rattle.std.specs.Option.{is_some}
 use Rattle.zc_base.specs.declared.place.Place.{Place}
@@ -23,8 +23,8 @@ abbrev pub cells_from : List (ℕ × ℕ) → List SharedEntry → ℕ → ℕ �
 cells_from ranges plan k zero = []
 cells_from ranges plan k (suc count) = cells_at ranges plan k ++ cells_from ranges plan (suc k) count
 
--- a state of the program; the commits that its steps take, apart from a stretch that isn't over; and of that stretch the number of
--- steps that are left, 0 outside one, and the commits after it
+-- a state of the program; the commits that its steps took, but for those of a stretch that isn't over; and of that stretch the
+-- number of steps that are left, 0 outside one, and the commits after it
 pub record SharedState : Type 0 where
   pub plain : PlainState
   pub commits : ℕ

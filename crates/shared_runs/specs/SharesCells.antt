@@ -31,8 +31,8 @@ SharesCells p e pace ranges =
 
 -- ---- files
 
--- the file is an image in which stretches start as in a layout of the objects, and it does what the objects' program does if interrupts
--- write to the objects' shared sections
+-- the file is an image whose stretches start as in a layout of the objects, and it does what the objects' program does if
+-- interrupts write to the objects' shared sections
 pub record SharesSections (L : TextLayout) (elf : List ℕ) : Type 0 where
   pub image : Image
   pub read : image_in elf L.inputs.map ≡ Some image

@@ -23,8 +23,8 @@ pub record IsCell (p : Program) (a : ℕ) : Type 0 where
   pub low : p.map.data_low ≤ a
   pub high : a < data_high p
 
--- where data lie in the image: no two of its regions have an address in common, each address of data lies in a segment of data, and data
--- end at or below the stack
+-- where data lie in the image: no two of its regions have an address in common, each address of data lies in a segment of
+-- data, and data end at or below the stack
 pub record CellsLie (p : Program) (e : Image) : Type 0 where
   pub apart : AreApart (extents_of (loaded_core e).memory)
   pub lies : (a : ℕ) → IsCell p a → lies_in is_segment (extents_of (loaded_core e).memory) a 1 ≡ true
