@@ -49,9 +49,9 @@ range_within low high (r ∷ rs) a all h = ⊎_elim
     (or_cases (leb r.0 a && ltb a (r.0 + r.1)) (in_ranges rs a) h)
 
 -- shared sections are cells of the program's data
-shared_cells : (inputs : ParsedInputs) (a : ℕ) → in_ranges (shared_ranges inputs) a ≡ true → IsCell (program_of inputs) a
+section_cells : (inputs : ParsedInputs) (a : ℕ) → in_ranges (shared_ranges inputs) a ≡ true → IsCell (program_of inputs) a
 unfolding program_of
-shared_cells inputs a h =
+section_cells inputs a h =
     let q = range_within inputs.map.data_low (data_end inputs) (shared_ranges inputs) a (shared_within inputs) h in
     let size = length-data_bytes inputs in
     record { low = q.0; high = omega (arith, q, size) }
@@ -64,7 +64,7 @@ image_shares L flags end elf image =
       image = image.loaded;
       read = image.read;
       shares =
-          shares_cells p (IsNamed (parsed L.inputs)) image.loaded (pace_of p (stretch_in L)) image.simulates (shared_ranges (parsed L.inputs)) (shared_cells (parsed L.inputs))
+          shares_cells p (IsNamed (parsed L.inputs)) image.loaded (pace_of p (stretch_in L)) image.simulates (shared_ranges (parsed L.inputs)) (section_cells (parsed L.inputs))
           (λ s memory. steady p (stretch_in L s.place) s memory);
     }
 
