@@ -2,7 +2,7 @@
 use Rattle.std.proofs.Common.{◌≡◌, ℕ, zero, suc, ◌+◌, ◌<◌, ◌≤◌, List, [], ◌∷◌, Bool, true, false, length, get_or, leb, ltb, refl, ap, ◌∙◌, arith}
 use Rattle.std.specs.Prelude.{◌&&◌, ◌||◌}
 use Rattle.std.specs.List.Sorted.{IsNonDecreasingBy, IsPartitionPoint}
-use Rattle.std.proofs.lemmas.Bool.{leb-true, lt-leb, le-ltb}
+use Rattle.std.proofs.lemmas.Bool.{leb-true, le-ltb}
 use Rattle.shared_cells.specs.Ascending.{AscendFrom}
 use Rattle.shared_cells.specs.SharedRun.{in_range, in_ranges}
 

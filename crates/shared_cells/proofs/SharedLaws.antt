@@ -1,6 +1,6 @@
 -- The entries of a plan with cells, as a schedule makes them, and what they keep.
 use Rattle.std.proofs.Common.{◌≡◌, ℕ, List, [], ◌∷◌, Bool, true, false, cond, eqb, refl}
-use Rattle.std.specs.Prelude.{filter, map}
+use Rattle.std.specs.Prelude.{map}
 use Rattle.interrupt_plan.specs.SharedPlan.{SharedEntry, shared_at}
 use Rattle.rv_decode.specs.State.{ZcCore}
 use Rattle.zc_machine.specs.Interrupt.{interrupted}
