@@ -1,14 +1,12 @@
 -- What link_zc gives does what the objects' program does if interrupts write to the objects' shared sections.
-use Rattle.std.proofs.Common.{◌≡◌, ℕ, ◌+◌, ◌-◌, ◌<◌, ◌≤◌, List, [], ◌∷◌, Bool, true, false, Option, refl, ◌∙◌, arith, ⊎_elim, leb, ltb}
+use Rattle.std.proofs.Common.{◌≡◌, ℕ, ◌+◌, ◌<◌, ◌≤◌, List, [], ◌∷◌, true, refl, arith, ⊎_elim, leb, ltb}
 use Rattle.std.specs.Prelude.{◌&&◌, All}
-use Rattle.std.specs.List.{list_any}
 use Rattle.std.proofs.lemmas.Bool.{and_parts, leb-true, ltb-true, or_cases}
 use Rattle.std.proofs.lemmas.List.Elements.{All-head, All-tail}
 use Rattle.psabi_sym.specs.Data.{data_end}
 use Rattle.psabi_sym.specs.Inputs.{Inputs, ParsedInputs, parsed}
 use Rattle.psabi_sym.specs.Shared.{shared_ranges}
 use Rattle.psabi_sym.proofs.SharedLaws.{shared_within}
-use Rattle.block_cut.specs.declared.item.Item.{Item}
 use Rattle.moved_runs.specs.Leads.{IsNamed}
 use Rattle.moved_runs.proofs.QuietObjects.{length-data_bytes}
 use Rattle.rv_decode.specs.Memory.{Region}
@@ -17,7 +15,6 @@ use Rattle.sym_machine.specs.declared.word.SymByte.{SymByte}
 use Rattle.sym_machine.specs.Objects.{program_of}
 use Rattle.sym_machine.specs.Program.{Program}
 use Rattle.sym_machine.specs.State.{PlainCore}
-use Rattle.zc_base.specs.declared.place.Place.{Place}
 use Rattle.zc_link.specs.DataApart.{IsCell}
 use Rattle.zc_link.specs.Links.{IsImageOf, IsZcLink, Link, slots_of}
 use Rattle.zc_link.specs.Pace.{AlignOf, Alone, CallOf, GroupOf, LongOf, Stretch, TableOf, commits_of, pace_of}
