@@ -1,5 +1,5 @@
 -- Hexadecimal digits are above a space, and four of them are read back.
-use Rattle.std.proofs.Common.{◌≡◌, ℕ, ◌+◌, ◌*◌, ◌/◌, ◌%◌, ◌^◌, ◌<◌, Some, Bool, true, false, cond, List, [], ◌∷◌, ltb, ap, ap₂, ◌∙◌, arith}
+use Rattle.std.proofs.Common.{◌≡◌, ℕ, ◌+◌, ◌*◌, ◌/◌, ◌%◌, ◌^◌, ◌<◌, Some, Bool, true, false, cond, List, [], ◌∷◌, map, ltb, ap, ap₂, ◌∙◌, arith}
 use Rattle.std.specs.Option.{option_and_then, option_map}
 use Rattle.std.proofs.lemmas.List.Elements.{All-cons, All-nil}
 use Rattle.text_lines.specs.Hex.{hex_at, hex_byte, hex_digit, hex_word}
@@ -16,15 +16,16 @@ digit_plain d = either (ltb d 10)
     either true = omega arith
     either false = omega arith
 
-more_plain : (n shift : ℕ) (ds : List ℕ) → IsPlain ds → IsPlain (hex_at n shift ∷ ds)
-more_plain n shift ds plain = All-cons (λ b. 32 < b) (hex_at n shift) ds (digit_plain (n / 2 ^ shift % 16)) plain
+digits_plain : (n : ℕ) (shifts : List ℕ) → IsPlain (map (hex_at n) shifts)
+digits_plain n [] = All-nil (λ b. 32 < b)
+digits_plain n (shift ∷ shifts) =
+    All-cons (λ b. 32 < b) (hex_at n shift) (map (hex_at n) shifts) (digit_plain (n / 2 ^ shift % 16)) (digits_plain n shifts)
 
 pub hex_half_plain : (n : ℕ) → IsPlain (hex_half n)
-hex_half_plain n = more_plain n 12 _ (more_plain n 8 _ (more_plain n 4 _ (more_plain n 0 _ (All-nil (λ b. 32 < b)))))
+hex_half_plain n = digits_plain n (12 ∷ 8 ∷ 4 ∷ 0 ∷ [])
 
 pub hex_word_plain : (n : ℕ) → IsPlain (hex_word n)
-hex_word_plain n =
-    more_plain n 28 _ (more_plain n 24 _ (more_plain n 20 _ (more_plain n 16 _ (more_plain n 12 _ (more_plain n 8 _ (more_plain n 4 _ (more_plain n 0 _ (All-nil (λ b. 32 < b)))))))))
+hex_word_plain n = digits_plain n (28 ∷ 24 ∷ 20 ∷ 16 ∷ 12 ∷ 8 ∷ 4 ∷ 0 ∷ [])
 
 -- the digits of a byte of a number
 digits_of_byte : (n b high low : ℕ) → n / 2 ^ high % 16 ≡ b / 2 ^ 4 % 16 → n / 2 ^ low % 16 ≡ b / 2 ^ 0 % 16 → hex_at n high ∷ hex_at n low ∷ [] ≡ hex_byte b

@@ -6,5 +6,6 @@ pub mod HalvesBack
 pub mod NameLaws
 pub mod NamesBack
 pub mod OperandsBack
+pub mod ReadLaws
 pub mod TextLaws
 pub mod WordsBack

@@ -122,12 +122,19 @@ three_back u v w x y z first second third =
 
 pub operands_back : (os : Operands) → AreSmall os → operands_in (operand_words os) ≡ Some os
 operands_back Nothing small = refl
-operands_back (OneNumber z) small = one_back _ _ (number_back z small)
-operands_back (TwoNumbers z w) small = two_back _ _ _ _ (number_back z small.0) (number_back w small.1)
-operands_back (TwoRegisters a b) small = two_back _ _ _ _ (register_back a small.0) (register_back b small.1)
-operands_back (RegisterNumber a z) small = two_back _ _ _ _ (register_back a small.0) (number_back z small.1)
-operands_back (RegistersNumber a b z) small = three_back _ _ _ _ _ _ (register_back a small.0) (register_back b small.1) (number_back z small.2)
-operands_back (ThreeRegisters a b c) small = three_back _ _ _ _ _ _ (register_back a small.0) (register_back b small.1) (register_back c small.2)
+operands_back (OneNumber z) small = one_back (signed_decimal z) (Number z) (number_back z small)
+operands_back (TwoNumbers z w) small =
+    two_back (signed_decimal z) (signed_decimal w) (Number z) (Number w) (number_back z small.0) (number_back w small.1)
+operands_back (TwoRegisters a b) small =
+    two_back (register_word a) (register_word b) (Register a) (Register b) (register_back a small.0) (register_back b small.1)
+operands_back (RegisterNumber a z) small =
+    two_back (register_word a) (signed_decimal z) (Register a) (Number z) (register_back a small.0) (number_back z small.1)
+operands_back (RegistersNumber a b z) small =
+    three_back (register_word a) (register_word b) (signed_decimal z) (Register a) (Register b) (Number z)
+    (register_back a small.0) (register_back b small.1) (number_back z small.2)
+operands_back (ThreeRegisters a b c) small =
+    three_back (register_word a) (register_word b) (register_word c) (Register a) (Register b) (Register c)
+    (register_back a small.0) (register_back b small.1) (register_back c small.2)
 
 -- ---- the words of a text
 
@@ -138,19 +145,25 @@ number_plain : (z : ℤ) → IsSmall z → IsPlain (signed_decimal z)
 number_plain (pos n) lt = decimal_plain n (omega (arith, lt))
 number_plain (negsuc n) lt = All-cons (λ b. 32 < b) 45 (decimal (suc n)) (lit< tt) (decimal_plain (suc n) (omega (arith, lt)))
 
-no_words : All IsPlain []
-no_words = All-nil IsPlain
+one_plain : (w : List ℕ) → IsPlain w → All IsPlain (w ∷ [])
+one_plain w p = All-cons IsPlain w [] p (All-nil IsPlain)
+
+two_plain : (v w : List ℕ) → IsPlain v → IsPlain w → All IsPlain (v ∷ w ∷ [])
+two_plain v w p q = All-cons IsPlain v (w ∷ []) p (one_plain w q)
+
+three_plain : (u v w : List ℕ) → IsPlain u → IsPlain v → IsPlain w → All IsPlain (u ∷ v ∷ w ∷ [])
+three_plain u v w p q r = All-cons IsPlain u (v ∷ w ∷ []) p (two_plain v w q r)
 
 operands_plain : (os : Operands) → AreSmall os → All IsPlain (operand_words os)
-operands_plain Nothing small = no_words
-operands_plain (OneNumber z) small = All-cons IsPlain _ _ (number_plain z small) no_words
-operands_plain (TwoNumbers z w) small = All-cons IsPlain _ _ (number_plain z small.0) (All-cons IsPlain _ _ (number_plain w small.1) no_words)
-operands_plain (TwoRegisters a b) small = All-cons IsPlain _ _ (register_plain a small.0) (All-cons IsPlain _ _ (register_plain b small.1) no_words)
-operands_plain (RegisterNumber a z) small = All-cons IsPlain _ _ (register_plain a small.0) (All-cons IsPlain _ _ (number_plain z small.1) no_words)
+operands_plain Nothing small = All-nil IsPlain
+operands_plain (OneNumber z) small = one_plain (signed_decimal z) (number_plain z small)
+operands_plain (TwoNumbers z w) small = two_plain (signed_decimal z) (signed_decimal w) (number_plain z small.0) (number_plain w small.1)
+operands_plain (TwoRegisters a b) small = two_plain (register_word a) (register_word b) (register_plain a small.0) (register_plain b small.1)
+operands_plain (RegisterNumber a z) small = two_plain (register_word a) (signed_decimal z) (register_plain a small.0) (number_plain z small.1)
 operands_plain (RegistersNumber a b z) small =
-    All-cons IsPlain _ _ (register_plain a small.0) (All-cons IsPlain _ _ (register_plain b small.1) (All-cons IsPlain _ _ (number_plain z small.2) no_words))
+    three_plain (register_word a) (register_word b) (signed_decimal z) (register_plain a small.0) (register_plain b small.1) (number_plain z small.2)
 operands_plain (ThreeRegisters a b c) small =
-    All-cons IsPlain _ _ (register_plain a small.0) (All-cons IsPlain _ _ (register_plain b small.1) (All-cons IsPlain _ _ (register_plain c small.2) no_words))
+    three_plain (register_word a) (register_word b) (register_word c) (register_plain a small.0) (register_plain b small.1) (register_plain c small.2)
 
 pub named_words : (name : List ℕ) (os : Operands) → IsPlain name → AreSmall os → words_of (named_text name os) ≡ name ∷ operand_words os
 named_words name os plain small = words_again name (operand_words os) (All-cons IsPlain name (operand_words os) plain (operands_plain os small))

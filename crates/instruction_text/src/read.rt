@@ -4,6 +4,8 @@ ghost use Rattle.std.specs.Prelude.{◌≡◌, IfOk};
 ghost use Rattle.std.specs.Option.{option_and_then, option_copied};
 ghost use Rattle.text_lines.specs.Lines.{words_in, words_of};
 ghost use Rattle.instruction_text.specs.Names as names;
+ghost use Rattle.text_lines.specs.Number.{if_text_of};
+ghost use Rattle.instruction_text.specs.Operands.{operands_in};
 ghost use Rattle.instruction_text.specs.Reading as reading;
 ghost use Rattle.instruction_text.specs.Texts as texts;
 
@@ -30,10 +32,19 @@ pub fn read_code(scratch: &mut Vec<u8>, text: &[u8]) -> Result<Option<MachineCod
     };
     scratch.clear();
     push_code(scratch, code)?;
-    if is_machine_code(code) && text == scratch.as_slice() {
-        Ok(Some(code))
+    Ok(if_exact(code, scratch, text))
+}
+
+// A code, if it is one, and a text is the one that is printed of it.
+#[tactic(auto, unfolding(text_lines::specs::Number::if_text_of))]
+fn if_exact(code: MachineCode, printed: &[u8], text: &[u8]) -> Option<MachineCode>
+    requires { printed.now ≡ texts.code_text code }
+    ensures { result ≡ if_text_of (texts.is_machine_code code) texts.code_text code text.now }
+{
+    if is_machine_code(code) && text == printed {
+        Some(code)
     } else {
-        Ok(None)
+        None
     }
 }
 
@@ -64,13 +75,28 @@ fn code_in_words(line: &[u8]) -> Option<MachineCode>
     ensures { result ≡ reading.code_in_words (words_of line.now) }
 {
     let (name, rest) = split_word(line);
+    code_named(name, rest)
+}
+
+// The code of a name and the rest of the line.
+fn code_named(name: &[u8], rest: Option<&[u8]>) -> Option<MachineCode>
+    ensures { result ≡ reading.code_named name.now (words_in (option_copied rest.entry)) }
+{
     if name == b".half".as_slice() {
         half_in_digits(rest)
     } else if name == b".word".as_slice() {
         word_in_digits(rest)
     } else {
-        code_for(name, read_operands(rest)?)
+        code_with(name, rest)
     }
+}
+
+// The code of a name and the operands that are the rest of the line.
+fn code_with(name: &[u8], rest: Option<&[u8]>) -> Option<MachineCode>
+    ensures { result ≡ option_and_then (reading.code_for (names.operation_named name.now) (names.form_named name.now))
+        (operands_in (words_in (option_copied rest.entry))) }
+{
+    code_for(name, read_operands(rest)?)
 }
 
 // The code of a name and operands.
@@ -91,7 +117,10 @@ fn only_word(rest: Option<&[u8]>) -> Option<&[u8]>
     ensures { option_copied result ≡ reading.only_word (words_in (option_copied rest.entry)) }
 {
     let (word, more) = split_word(rest?);
-    if more.is_none() { Some(word) } else { None }
+    match more {
+        None => Some(word),
+        Some(_) => None,
+    }
 }
 
 // The halfword whose digits are the rest of a line.

@@ -44,10 +44,9 @@ fn after_two(first: Operand, second: Operand, rest: Option<&[u8]>) -> Option<Ope
     };
     let (word, rest) = split_word(rest);
     let third = read_operand(word)?;
-    if rest.is_none() {
-        three_operands(first, second, third)
-    } else {
-        None
+    match rest {
+        None => three_operands(first, second, third),
+        Some(_) => None,
     }
 }
 
