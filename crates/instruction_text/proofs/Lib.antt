@@ -1,1 +1,11 @@
+pub mod AssembledLaws
+pub mod CodeLaws
+pub mod DigitLaws
 pub mod FitLaws
+pub mod HalvesBack
+pub mod NameLaws
+pub mod NamesBack
+pub mod OperandsBack
+pub mod ReadLaws
+pub mod TextLaws
+pub mod WordsBack

@@ -1,7 +1,6 @@
 -- The names of instructions (RISC-V unprivileged manual, "RV32/64G Instruction Set Listings" and "RVC Instruction Set Listings";
 -- RISC-V Zc specification 1.0).
 use Rattle.std.specs.Prelude.{ℕ, List, [], ◌∷◌, Option, Some, None, bytes_eq, if◌then◌else◌, codes}
-use Rattle.std.specs.List.{slice_get}
 use Rattle.rv_decode.specs.declared.instr.UpperOp.{UpperOp}
 use Rattle.rv_decode.specs.declared.instr.UpperOp.TheVariants.{Lui, Auipc}
 use Rattle.rv_decode.specs.declared.instr.BranchOp.{BranchOp}
@@ -183,14 +182,10 @@ all_forms =
 -- the first of some things that has a name
 abbrev pub first_named : {A : Type 0} → (A → List ℕ) → List A → List ℕ → Option A
 first_named name_of [] name = None
-first_named name_of (x ∷ xs) name = if bytes_eq name (name_of x) then Some x else first_named name_of xs name
+first_named name_of (x ∷ xs) name = if bytes_eq (name_of x) name then Some x else first_named name_of xs name
 
 abbrev pub operation_named : List ℕ → Option Operation
 operation_named name = first_named operation_name all_operations name
 
 abbrev pub form_named : List ℕ → Option Form
 form_named name = first_named form_name all_forms name
-
--- the row with a number
-abbrev pub form_numbered : ℕ → Option Form
-form_numbered n = slice_get all_forms n

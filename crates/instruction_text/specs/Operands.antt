@@ -88,12 +88,20 @@ abbrev pub negative : ℕ → Option ℤ
 negative zero = None
 negative (suc n) = Some (negsuc n)
 
+-- the register with the number that digits spell
+abbrev pub register_in : List ℕ → Option Operand
+register_in digits = option_map Register (decimal_of 31 digits)
+
+-- the number below 0 that digits spell after a sign
+abbrev pub negative_in : List ℕ → Option Operand
+negative_in digits = option_map Number (option_and_then negative (decimal_of (2 ^ 31 - 1) digits))
+
 -- a register, or a number of at most 31 bits beside its sign
 abbrev pub operand_in : List ℕ → Option Operand
 operand_in [] = None
 operand_in (c ∷ rest) =
-    if c == 120 then option_map Register (decimal_of 31 rest) else
-    (if c == 45 then option_map Number (option_and_then negative (decimal_of (2 ^ 31 - 1) rest)) else
+    if c == 120 then register_in rest else
+    (if c == 45 then negative_in rest else
     option_map (λ n. Number (pos n)) (decimal_of (2 ^ 31 - 1) (c ∷ rest)))
 
 abbrev pub one_operand : Operand → Option Operands
@@ -116,11 +124,22 @@ three_operands (Number z) second third = None
 three_operands (Register a) (Number z) third = None
 three_operands (Register a) (Register b) third = third_operand a b third
 
+-- three operands, if that is all
+abbrev pub operands_after_three : Operand → Operand → Operand → List (List ℕ) → Option Operands
+operands_after_three x y z [] = three_operands x y z
+operands_after_three x y z (d ∷ more) = None
+
+-- two operands, and what further words spell
+abbrev pub operands_after_two : Operand → Operand → List (List ℕ) → Option Operands
+operands_after_two x y [] = two_operands x y
+operands_after_two x y (c ∷ more) = option_and_then (λ z. operands_after_three x y z more) (operand_in c)
+
+-- an operand, and what further words spell
+abbrev pub operands_after_one : Operand → List (List ℕ) → Option Operands
+operands_after_one x [] = one_operand x
+operands_after_one x (b ∷ more) = option_and_then (λ y. operands_after_two x y more) (operand_in b)
+
 -- the operands that words spell
 abbrev pub operands_in : List (List ℕ) → Option Operands
 operands_in [] = Some Nothing
-operands_in (a ∷ []) = option_and_then one_operand (operand_in a)
-operands_in (a ∷ (b ∷ [])) = option_and_then (λ x. option_and_then (two_operands x) (operand_in b)) (operand_in a)
-operands_in (a ∷ (b ∷ (c ∷ []))) =
-    option_and_then (λ x. option_and_then (λ y. option_and_then (three_operands x y) (operand_in c)) (operand_in b)) (operand_in a)
-operands_in (a ∷ (b ∷ (c ∷ (d ∷ more)))) = None
+operands_in (a ∷ more) = option_and_then (λ x. operands_after_one x more) (operand_in a)

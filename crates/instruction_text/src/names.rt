@@ -1,11 +1,14 @@
 // The names of instructions.
 
 ghost use Rattle.std.specs.Prelude.{◌≡◌};
+ghost use Rattle.std.specs.List.{slice_get};
+ghost use Rattle.zc_decode.specs.Rows.{form_of};
 ghost use Rattle.instruction_text.specs.Names as names;
 
 use crate::operation::Operation;
 use rv_decode::instr::{BranchOp, ImmOp, LoadOp, RegOp, StoreOp, UpperOp};
 use zc_decode::form::Form;
+use zc_decode::row::row;
 
 // The operations of words.
 const OPERATIONS: [Operation; 49] = [
@@ -262,11 +265,18 @@ pub fn form_name(form: Form) -> &'static str
     }
 }
 
-/// The row with a number, counted from 0.
-pub fn form_with_number(number: u8) -> Option<Form>
-    ensures { result ≡ names.form_numbered number }
+// The element with this index.
+fn form_at(forms: &[Form], index: usize) -> Option<Form>
+    ensures { result ≡ slice_get forms.now index }
 {
-    FORMS.get(usize::from(number)).copied()
+    forms.get(index).copied()
+}
+
+/// The row of a halfword.
+pub fn form_of_half(half: u16) -> Option<Form>
+    ensures { result ≡ form_of half }
+{
+    form_at(&FORMS, usize::from(row(half)?))
 }
 
 // The first of some operations with a name.

@@ -3,13 +3,13 @@
 ghost use Rattle.std.specs.Prelude.{◌≡◌, ◌++◌, ◌∷◌, [], ◌<◌, IfOk, codes};
 ghost use Rattle.std.specs.Fmt.{signed_decimal};
 ghost use Rattle.std.specs.List.{join_with_byte};
-ghost use Rattle.text_lines.specs.Hex.{hex_byte, hex_digit, hex_word};
+ghost use Rattle.text_lines.specs.Hex.{hex_at, hex_word};
 ghost use Rattle.instruction_text.specs.Operands as operands;
 ghost use Rattle.instruction_text.specs.Operands.{ShortUnsignedFits, UnsignedFits, operand_words, register_word};
 ghost use Rattle.instruction_text.specs.Texts.{code_text, half_text, hex_half, named_text, word_text};
 
 use crate::machine_code::MachineCode;
-use crate::names::{form_name, form_with_number, operation_name};
+use crate::names::{form_name, form_of_half, operation_name};
 use crate::operands::Operands;
 use crate::operation::operation_of;
 use itoa::Buffer;
@@ -18,7 +18,6 @@ use rv_decode::instr::Instr;
 use std::alloc::AllocError;
 use zc_base::reg::Reg;
 use zc_decode::decode16::decode16;
-use zc_decode::row::row;
 use zc_decode::short::Short;
 
 /// Adds the text of an instruction.
@@ -48,7 +47,7 @@ pub fn push_word(text: &mut Vec<u8>, word: u32) -> Result<(), AllocError>
 pub fn push_half(text: &mut Vec<u8>, half: u16) -> Result<(), AllocError>
     ensures { IfOk result (λ _. text.new.items ≡ text.old.items ++ half_text half) }
 {
-    let Some(form) = row(half).and_then(form_with_number) else {
+    let Some(form) = form_of_half(half) else {
         return push_half_digits(text, half);
     };
     let Some(short) = decode16(half) else {
@@ -62,40 +61,43 @@ fn push_word_digits(text: &mut Vec<u8>, word: u32) -> Result<(), AllocError>
     ensures { IfOk result (λ _. text.new.items ≡ text.old.items ++ join_with_byte 32 (codes ".word" ∷ hex_word word ∷ [])) }
 {
     text.extend_from_slice(b".word ")?;
-    let [first, second, third, fourth] = word.to_be_bytes();
-    push_byte(text, first)?;
-    push_byte(text, second)?;
-    push_byte(text, third)?;
-    push_byte(text, fourth)
+    text.extend_from_slice(&[
+        hex_digit(word, 28),
+        hex_digit(word, 24),
+        hex_digit(word, 20),
+        hex_digit(word, 16),
+        hex_digit(word, 12),
+        hex_digit(word, 8),
+        hex_digit(word, 4),
+        hex_digit(word, 0),
+    ])
 }
 
 // Adds the digits of a halfword that the tables don't have.
 fn push_half_digits(text: &mut Vec<u8>, half: u16) -> Result<(), AllocError>
     ensures { IfOk result (λ _. text.new.items ≡ text.old.items ++ join_with_byte 32 (codes ".half" ∷ hex_half half ∷ [])) }
 {
+    let number = u32::from(half);
     text.extend_from_slice(b".half ")?;
-    let [high, low] = half.to_be_bytes();
-    push_byte(text, high)?;
-    push_byte(text, low)
+    text.extend_from_slice(&[
+        hex_digit(number, 12),
+        hex_digit(number, 8),
+        hex_digit(number, 4),
+        hex_digit(number, 0),
+    ])
 }
 
-// A lower-case hexadecimal digit.
-fn hex_digit(digit: u8) -> u8
-    requires { digit < 16 }
-    ensures { result ≡ hex_digit digit }
+// The lower-case hexadecimal digit of the four bits of a number from bit `shift` up.
+fn hex_digit(number: u32, shift: u32) -> u8
+    requires { shift < 32 }
+    ensures { result ≡ hex_at number shift }
 {
+    let digit = ((number >> shift) % 16) as u8;
     if digit < 10 {
         b'0' + digit
     } else {
         b'a' - 10 + digit
     }
-}
-
-// Adds a byte as two hexadecimal digits.
-fn push_byte(text: &mut Vec<u8>, byte: u8) -> Result<(), AllocError>
-    ensures { IfOk result (λ _. text.new.items ≡ text.old.items ++ hex_byte byte) }
-{
-    text.extend_from_slice(&[hex_digit(byte >> 4), hex_digit(byte % 16)])
 }
 
 // The operands of an instruction.

@@ -33,6 +33,14 @@ fn imm_fits(op: ImmOp, imm: i32) -> bool
 
 /// The instruction of an operation with operands, if they are of its kind and fit.
 pub fn assemble(operation: Operation, operands: Operands) -> Option<Instr>
+    ensures value { result ≡ assembled operation operands }
+    ensures in_range { IfSome result InRange }
+{
+    by_operands(operation, operands)
+}
+
+// The same, by the operands.
+fn by_operands(operation: Operation, operands: Operands) -> Option<Instr>
     ensures { result ≡ assembled operation operands }
 {
     match operands {
