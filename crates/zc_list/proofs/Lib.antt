@@ -6,3 +6,4 @@ pub mod SegmentLaws
 pub mod FirstLaws
 pub mod RunLaws
 pub mod ExactLaws
+pub mod FrontLaws
