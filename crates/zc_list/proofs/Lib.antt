@@ -7,3 +7,4 @@ pub mod FirstLaws
 pub mod RunLaws
 pub mod ExactLaws
 pub mod FrontLaws
+pub mod ReadLaws
