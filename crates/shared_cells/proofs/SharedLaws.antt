@@ -26,10 +26,16 @@ cells_keep ranges (c ∷ cs) z =
     Keeps-trans z y (cells_written ranges cs y) (cell_keeps ranges c z) (cells_keep ranges cs y)
 
 -- an interrupt with its cells
-pub entry_keeps : (ranges : List (ℕ × ℕ)) (e : SharedEntry) (z : ZcCore) → Keeps z (cells_written ranges e.cells (interrupted e.entry.cut z))
+entry_keeps : (ranges : List (ℕ × ℕ)) (e : SharedEntry) (z : ZcCore) → Keeps z (cells_written ranges e.cells (interrupted e.entry.cut z))
 entry_keeps ranges e z =
     let y = interrupted e.entry.cut z in
     Keeps-trans z y (cells_written ranges e.cells y) (cut_keeps e.entry.cut z) (cells_keep ranges e.cells y)
+
+pub entry_commits : (ranges : List (ℕ × ℕ)) (e : SharedEntry) (z : ZcCore) → (cells_written ranges e.cells (interrupted e.entry.cut z)).commits ≡ z.commits
+entry_commits ranges e z = (entry_keeps ranges e z).commits
+
+pub entry_exit : (ranges : List (ℕ × ℕ)) (e : SharedEntry) (z : ZcCore) → (cells_written ranges e.cells (interrupted e.entry.cut z)).exit ≡ z.exit
+entry_exit ranges e z = (entry_keeps ranges e z).exit
 
 all_keep : (ranges : List (ℕ × ℕ)) (es : List SharedEntry) (z : ZcCore) → Keeps z (all_shared ranges es z)
 all_keep ranges [] z = Keeps-refl z

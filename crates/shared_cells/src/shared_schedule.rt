@@ -5,7 +5,7 @@ ghost use Rattle.zc_machine.specs.Interrupt.{interrupted};
 ghost use Rattle.shared_cells.specs.SharedRun.{cells_written};
 
 use crate::ranges::Ranges;
-use interrupt_plan::shared_plan::SharedPlan;
+use interrupt_plan::shared_plan::{SharedCut, SharedPlan};
 use zc_machine::machine::Machine;
 use zc_machine::schedule::Schedule;
 
@@ -30,15 +30,22 @@ impl Schedule for SharedSchedule<'_> {
         self.plan.cut(i).at
     }
 
+    #[tactic(auto, using(crate::proofs::SharedLaws::entry_commits, crate::proofs::SharedLaws::entry_exit))]
     fn make(&self, i: u32, machine: &mut Machine) {
-        let cut = self.plan.cut(i);
-        machine.cut(cut.done.as_slice(), cut.dirt.as_slice());
-        write_cells(machine, &self.ranges, cut.cells.as_slice());
+        make_entry(machine, self.plan.cut(i), &self.ranges);
     }
 }
 
+// Makes an interrupt, and then writes those of its cells that lie in one of the ranges.
+fn make_entry(machine: &mut Machine, cut: &SharedCut, ranges: &Ranges)
+    ensures { machine.new ≡ cells_written ranges.now cut.now.cells (interrupted cut.now.entry.cut machine.old) }
+{
+    machine.cut(cut.done.as_slice(), cut.dirt.as_slice());
+    write_cells(machine, cut.cells.as_slice(), ranges);
+}
+
 // Writes those cells that lie in one of the ranges.
-fn write_cells(machine: &mut Machine, ranges: &Ranges, cells: &[(u32, u8)])
+fn write_cells(machine: &mut Machine, cells: &[(u32, u8)], ranges: &Ranges)
     ensures { machine.new ≡ cells_written ranges.now cells.now machine.old }
 {
     for (at, byte) in cells {
