@@ -152,15 +152,20 @@ def data_lines(content):
         yield len(content[at:at + ROW]), byte_line(content[at:at + ROW])
 
 
+def line_at(at, text):
+    """A line, whose address is taken modulo 2^32."""
+    return f'{at & 0xFFFFFFFF:08x} {text}'
+
+
 def lines_of(segment):
     """The lines of a segment, the one that says where it is among them."""
     yield f'segment {segment.at:08x} {segment.size} {"code" if segment.is_code else "data"}'
     at = segment.at
     for size, line in (code_lines if segment.is_code else data_lines)(segment.content):
-        yield f'{at:08x} {line}'
+        yield line_at(at, line)
         at += size
     if segment.size > len(segment.content):
-        yield f'{at:08x} .zero {segment.size - len(segment.content)}'
+        yield line_at(at, f'.zero {segment.size - len(segment.content)}')
 
 
 def listing(parts):
@@ -420,10 +425,9 @@ class Reading:
         self.last = None
 
     def inside(self, line):
-        start = f'{self.last.at + len(self.content):08x} '
-        if len(start) != 9 or not line.startswith(start):
-            return False
         text = line[9:]
+        if line != line_at(self.last.at + len(self.content), text):
+            return False
         if text == f'.zero {self.left}':
             self.left = 0
             return True
