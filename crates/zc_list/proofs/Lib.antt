@@ -8,3 +8,4 @@ pub mod RunLaws
 pub mod ExactLaws
 pub mod FrontLaws
 pub mod ReadLaws
+pub mod ResultLaws

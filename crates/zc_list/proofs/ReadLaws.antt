@@ -1,20 +1,24 @@
 -- What the reader's functions find out about a line.
 use Rattle.std.proofs.Common.{◌≡◌, ◌⊎◌, ℕ, ◌+◌, ◌-◌, ◌<◌, ◌≤◌, Some, None, Ok, Err, Bool, true, false, cond, Option, Result, List, [], ◌∷◌, ◌++◌, length, take, drop, eqb, eqb-true, eq-eqb, ltb, leb, refl, sym, ap, ap₂, subst, ◌∙◌, arith, length-append}
-use Rattle.std.specs.Prelude.{bytes_eq, codes}
+use Rattle.std.specs.Prelude.{IfOk, bytes_eq, codes}
 use Rattle.std.specs.List.{slice_split, join_with_byte}
 use Rattle.std.specs.Option.{option_and_then, option_map}
 use Rattle.std.proofs.lemmas.Bool.{cond-false, cond-true, eqb-false, false_from_ne_true, leb-true, le-leb, ltb-false, ltb-true, ne_eqb}
+use Rattle.std.proofs.Math.Seq.{drop-append_seam}
+use Rattle.std.proofs.lemmas.List.{take_all}
 use Rattle.std.proofs.lemmas.List.Splits.{join_with_byte-slice_split, length-slice_split}
 use Rattle.std.proofs.lemmas.Option.{none-some, same_Some}
 use Rattle.std.proofs.lemmas.Slice.Eq.{bytes_eq-Decides}
+use Rattle.std.specs.declared.alloc.AllocError.{AllocError}
 use Rattle.elf32_read.specs.Segments.{SegmentData}
 use Rattle.instruction_text.specs.Reading.{code_spelled}
 use Rattle.text_lines.specs.Hex.{hex_word}
-use Rattle.text_lines.specs.Lines.{lines_of, words_of}
+use Rattle.text_lines.specs.Lines.{lines_of, words_in, words_of}
+use Rattle.text_lines.proofs.OptionLaws.{mapped}
 use Rattle.text_lines.proofs.SplitLaws.{some_part}
 use Rattle.zc_list.specs.Listing.{Bytes, Content, Instruction, Zeros}
 use Rattle.zc_list.specs.Reader.{is_last, is_whole, segment_with, stage_after, state_at}
-use Rattle.zc_list.specs.Spelled.{Between, Ended, Inside, ListState, Untitled, after_bytes, after_content, after_line, at_end, content_at, content_of_words, inside, is_cut_short, read_lines, read_on, segments_in, some_bytes, with_bytes, with_room, zeros_of_words}
+use Rattle.zc_list.specs.Spelled.{Between, Ended, Inside, ListState, Untitled, after_bytes, after_content, after_line, at_end, bytes_of_words, content_at, content_of_words, inside, is_cut_short, read_lines, read_on, segments_in, some_bytes, with_bytes, with_room, zeros_of_words}
 use Rattle.zc_list.specs.declared.read_content.Stage.{Stage}
 use Rattle.zc_list.specs.declared.read_content.Stage.TheVariants.{Last, More, Whole}
 use Rattle.zc_list.specs.declared.read_head.Head.{Head}
@@ -106,6 +110,47 @@ module _ (text first : List ℕ) (words : List (List ℕ)) (is : words_of text �
       ap (content_of_words text) is ∙ cond-false (bytes_eq first (codes ".byte")) (some_bytes words) (cond (bytes_eq first (codes ".zero")) (zeros_of_words words) (option_map Instruction (code_spelled text))) byte
       ∙ cond-false (bytes_eq first (codes ".zero")) (zeros_of_words words) (option_map Instruction (code_spelled text)) zero
 
+-- more than one word is no number of zeros
+pub zeros_more : (words behind : Option (List ℕ)) (line word rest : List ℕ) → words ≡ Some line → words_of line ≡ word ∷ words_in behind → behind ≡ Some rest → None ≡ zeros_of_words (words_in words)
+zeros_more words behind line word rest some is more =
+    let parts = some_part (λ b. eqb b 32) rest in
+    sym (ap (λ w. zeros_of_words (words_in w)) some ∙ ap zeros_of_words is ∙ ap (λ b. zeros_of_words (word ∷ words_in b)) more ∙ ap (λ ws. zeros_of_words (word ∷ ws)) parts.2)
+
+pub zeros_law : (done : List SegmentData) (head : Head) (bytes : List ℕ) (last : Bool) (count : ℕ)
+    → after_content done (segment_with head bytes) last (Zeros count) ≡ option_map (state_at done (segment_with head bytes)) (cond (eqb count (head.size - length bytes)) (Some Whole) None)
+zeros_law done head bytes last count = either (eqb count (head.size - length bytes))
+  where
+    either : (b : Bool) → cond b (Some (Between (done ++ (segment_with head bytes ∷ [])))) None ≡ option_map (state_at done (segment_with head bytes)) (cond b (Some Whole) None)
+    either true = refl
+    either false = refl
+
+-- bytes that a line's words spell
+pub bytes_law : (done : List SegmentData) (head : Head) (old new line : List ℕ) (last : Bool) (stage : Stage) → option_map (λ more. old ++ more) (bytes_of_words (words_of line)) ≡ Some new → last ≡ false
+    → stage_after head.code (take (length new - length old) (drop (length old) new)) ≡ Some stage
+    → option_and_then (after_content done (segment_with head old) last) (some_bytes (words_of line)) ≡ option_map (state_at done (segment_with head new)) (cond (leb (length new) head.size) (Some stage) None)
+bytes_law done head old new line last stage read first stages =
+    mapped (λ more. old ++ more) (bytes_of_words (words_of line)) new read (λ more spells same.
+    let parts = some_part (λ b. eqb b 32) line in
+    let some : some_bytes (words_of line) ≡ Some (Bytes more) = ap some_bytes parts.2 ∙ ap (option_map Bytes) (sym (ap bytes_of_words parts.2) ∙ spells) in
+    let size = ap length same in
+    let count = length-append old more in
+    let cut : take (length new - length old) (drop (length old) new) ≡ more =
+    ap (λ xs. take (length new - length old) (drop (length old) xs)) (sym same) ∙ ap (take (length new - length old)) (drop-append_seam old more)
+    ∙ take_all (length new - length old) more (omega (arith, size, count)) in
+    ap₂ (λ l o. option_and_then (after_content done (segment_with head old) l) o) first some
+    ∙ stage_law done head old new more (sym same)
+    ∙ ap (option_and_then (λ s. option_map (state_at done (segment_with head new)) (cond (leb (length new) head.size) (Some s) None))) (sym (ap (stage_after head.code) cut) ∙ stages))
+
+-- a line of a segment, by what stands after its address
+module _ (done : List SegmentData) (head : Head) (bytes : List ℕ) (last : Bool) (line : List ℕ) (at : ℕ) (is : at ≡ head.at + length bytes) where
+  pub step_none : None ≡ cond (bytes_eq (take 9 line) (hex_word at ++ (32 ∷ []))) (Some (drop 9 line)) None → after_line (Inside done (segment_with head bytes) last) line ≡ None
+  step_none other = ap (option_and_then (after_content done (segment_with head bytes) last)) (ap (λ a. content_at a line) (sym is) ∙ content_none at line other)
+
+  pub step_found : (text : List ℕ) (content : Option Content) → Some text ≡ cond (bytes_eq (take 9 line) (hex_word at ++ (32 ∷ []))) (Some (drop 9 line)) None → content_of_words text (words_of text) ≡ content
+      → after_line (Inside done (segment_with head bytes) last) line ≡ option_and_then (after_content done (segment_with head bytes) last) content
+  step_found text content here found =
+      ap (option_and_then (after_content done (segment_with head bytes) last)) (ap (λ a. content_at a line) (sym is) ∙ content_found at line text here ∙ found)
+
 -- ---- lines
 
 -- a line with its line feed, followed by the lines after it
@@ -149,3 +194,13 @@ nothing_after done number rest some = by_lines (some_part (λ b. eqb b 10) rest)
     by_lines : (line : List ℕ) × (lines : List (List ℕ)) × (lines_of rest ≡ line ∷ lines) → read_lines (Ended done) number (lines_of rest) ≡ Err number
     by_lines (line, [], is) = ap (read_lines (Ended done) number) is ∙ cond-false (bytes_eq line []) (Ok done) (Err number) (one line is)
     by_lines (line, next ∷ lines, is) = ap (read_lines (Ended done) number) is
+
+-- ---- what is returned for a line
+
+-- a step by a line's content is the step by the line
+pub carried : (r : Result (Option Stage) AllocError) (head : Head) (old new : List ℕ) (last : Bool) (line : List ℕ) (content : Option Content)
+    → ((done : List SegmentData) → after_line (Inside done (segment_with head old) last) line ≡ option_and_then (after_content done (segment_with head old) last) content)
+    → IfOk r (λ stage. (done : List SegmentData) → option_and_then (after_content done (segment_with head old) last) content ≡ option_map (state_at done (segment_with head new)) stage)
+    → IfOk r (λ stage. (done : List SegmentData) → after_line (Inside done (segment_with head old) last) line ≡ option_map (state_at done (segment_with head new)) stage)
+carried (Ok stage) head old new last line content first then = λ done. first done ∙ then done
+carried (Err e) head old new last line content first then = tt

@@ -117,33 +117,33 @@ fn with_room(head: Head, bytes: &[u8], stage: Stage) -> Option<Stage>
 }
 
 // Whether an instruction may stand in a segment.
-fn takes_code(open: Open) -> bool
-    ensures { result ≡ (not open.last && open.head.code) }
+fn takes_code(segment: Open) -> bool
+    ensures { result ≡ (not segment.last && segment.head.code) }
 {
-    !open.last && open.head.code
+    !segment.last && segment.head.code
 }
 
 // Adds an instruction, if it may stand there.
-fn add_code(open: Open, bytes: &mut Vec<u8>, code: MachineCode) -> Result<Option<Stage>, AllocError>
+fn add_code(segment: Open, bytes: &mut Vec<u8>, code: MachineCode) -> Result<Option<Stage>, AllocError>
     ensures step { IfOk result (λ stage. (done : List SegmentData)
-        → after_content done (segment_with open.head bytes.old.items) open.last (Instruction code)
-        ≡ option_map (state_at done (segment_with open.head bytes.new.items)) stage) }
-    ensures within { IfOk result (λ stage. IfSome stage (λ _. length bytes.new.items ≤ open.head.size)) }
+        → after_content done (segment_with segment.head bytes.old.items) segment.last (Instruction code)
+        ≡ option_map (state_at done (segment_with segment.head bytes.new.items)) stage) }
+    ensures within { IfOk result (λ stage. IfSome stage (λ _. length bytes.new.items ≤ segment.head.size)) }
 {
-    if !takes_code(open) {
+    if !takes_code(segment) {
         return Ok(None);
     }
     push_code_bytes(bytes, code)?;
-    Ok(with_room(open.head, bytes, Stage::More))
+    Ok(with_room(segment.head, bytes, Stage::More))
 }
 
 // Adds the bytes that words spell, if they may stand there.
-fn add_bytes(open: Open, bytes: &mut Vec<u8>, words: Option<&[u8]>) -> Result<Option<Stage>, AllocError>
+fn add_bytes(segment: Open, bytes: &mut Vec<u8>, words: Option<&[u8]>) -> Result<Option<Stage>, AllocError>
     ensures step { IfOk result (λ stage. (done : List SegmentData)
-        → option_and_then (after_content done (segment_with open.head bytes.old.items) open.last)
+        → option_and_then (after_content done (segment_with segment.head bytes.old.items) segment.last)
             (some_bytes (words_in (option_copied words.entry)))
-        ≡ option_map (state_at done (segment_with open.head bytes.new.items)) stage) }
-    ensures within { IfOk result (λ stage. IfSome stage (λ _. length bytes.new.items ≤ open.head.size)) }
+        ≡ option_map (state_at done (segment_with segment.head bytes.new.items)) stage) }
+    ensures within { IfOk result (λ stage. IfSome stage (λ _. length bytes.new.items ≤ segment.head.size)) }
 {
     let Some(line) = words else {
         return Ok(None);
@@ -152,13 +152,13 @@ fn add_bytes(open: Open, bytes: &mut Vec<u8>, words: Option<&[u8]>) -> Result<Op
     if !push_words(bytes, Some(line))? {
         return Ok(None);
     }
-    if open.last {
+    if segment.last {
         return Ok(None);
     }
-    let Some(stage) = stage_after(open.head.code, &bytes[start..]) else {
+    let Some(stage) = stage_after(segment.head.code, &bytes[start..]) else {
         return Ok(None);
     };
-    Ok(with_room(open.head, bytes, stage))
+    Ok(with_room(segment.head, bytes, stage))
 }
 
 // The number that words spell, if it is the only one.
@@ -166,7 +166,7 @@ fn read_zeros(words: Option<&[u8]>) -> Option<u32>
     ensures { option_map Zeros result ≡ zeros_of_words (words_in (option_copied words.entry)) }
 {
     let (word, rest) = split_word(words?);
-    if rest.is_some() {
+    if let Some(_) = rest {
         return None;
     }
     let number = read_number(word, 0xFFFF_FFFF)?;
@@ -185,32 +185,32 @@ fn behind_address(line: &[u8], at: u64) -> Option<&[u8]>
 pub fn read_content(
     scratch: &mut Vec<u8>,
     bytes: &mut Vec<u8>,
-    open: Open,
+    segment: Open,
     line: &[u8],
 ) -> Result<Option<Stage>, AllocError>
-    requires { length bytes.old.items ≤ open.head.size }
+    requires { length bytes.old.items ≤ segment.head.size }
     ensures step { IfOk result (λ stage. (done : List SegmentData)
-        → after_line (Inside done (segment_with open.head bytes.old.items) open.last) line.now
-        ≡ option_map (state_at done (segment_with open.head bytes.new.items)) stage) }
-    ensures within { IfOk result (λ stage. IfSome stage (λ _. length bytes.new.items ≤ open.head.size)) }
+        → after_line (Inside done (segment_with segment.head bytes.old.items) segment.last) line.now
+        ≡ option_map (state_at done (segment_with segment.head bytes.new.items)) stage) }
+    ensures within { IfOk result (λ stage. IfSome stage (λ _. length bytes.new.items ≤ segment.head.size)) }
 {
-    let Some(text) = behind_address(line, u64::from(open.head.at) + bytes.len() as u64) else {
+    let Some(text) = behind_address(line, u64::from(segment.head.at) + bytes.len() as u64) else {
         return Ok(None);
     };
     let (first, rest) = split_word(text);
     if first == b".byte".as_slice() {
-        return add_bytes(open, bytes, rest);
+        return add_bytes(segment, bytes, rest);
     }
     if first == b".zero".as_slice() {
         let Some(count) = read_zeros(rest) else {
             return Ok(None);
         };
-        return Ok(zeros_stage(open.head, bytes, count));
+        return Ok(zeros_stage(segment.head, bytes, count));
     }
     let Some(code) = read_code(scratch, text)? else {
         return Ok(None);
     };
-    add_code(open, bytes, code)
+    add_code(segment, bytes, code)
 }
 
 // The end of a segment, if this number of bytes is missing.

@@ -1,6 +1,6 @@
 // The lines of a segment after its first, one after another.
 
-ghost use Rattle.std.specs.Prelude.{◌≡◌, ◌++◌, ◌∷◌, ◌+◌, ◌^◌, ◌<◌, ◌≤◌, [], Err, List, IfErr, IfOk, length};
+ghost use Rattle.std.specs.Prelude.{◌≡◌, ◌++◌, ◌∷◌, ◌+◌, ◌^◌, ◌<◌, ◌≤◌, [], Err, List, false, IfErr, IfOk, length};
 ghost use Rattle.elf32_read.specs.Segments.{SegmentData};
 ghost use Rattle.zc_list.specs.Reader.{IsFurther, StopsAt, read_left, segment_with};
 ghost use Rattle.zc_list.specs.Spelled.{Between, inside};
