@@ -90,12 +90,6 @@ cut_keeps c z =
     let y = done_of (fetched_at z z.pc) c.done z in
     Keeps-trans z y (all_dirtied c.dirt y) (done_of_keeps (fetched_at z z.pc) c.done z) (all_dirtied_keeps c.dirt y)
 
-pub cut_commits : (c : Interrupt) (z : ZcCore) → (interrupted c z).commits ≡ z.commits
-cut_commits c z = (cut_keeps c z).commits
-
-pub cut_exit : (c : Interrupt) (z : ZcCore) → (interrupted c z).exit ≡ z.exit
-cut_exit c z = (cut_keeps c z).exit
-
 pub all_cuts_keep : (cuts : List Interrupt) (z : ZcCore) → Keeps z (all_interrupted cuts z)
 all_cuts_keep [] z = Keeps-refl z
 all_cuts_keep (c ∷ cs) z = Keeps-trans z (interrupted c z) (all_interrupted cs (interrupted c z)) (cut_keeps c z) (all_cuts_keep cs (interrupted c z))

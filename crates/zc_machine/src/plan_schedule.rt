@@ -18,7 +18,6 @@ impl Schedule for Plan {
         self.cut(i).at
     }
 
-    #[tactic(auto, using(crate::proofs::CutLaws::cut_commits, crate::proofs::CutLaws::cut_exit))]
     fn make(&self, i: u32, machine: &mut Machine) {
         let cut = self.cut(i);
         machine.cut(cut.done.as_slice(), cut.dirt.as_slice());
