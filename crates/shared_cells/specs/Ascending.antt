@@ -1,7 +1,7 @@
 -- Ranges of addresses in ascending order.
-use Rattle.std.specs.Prelude.{ℕ, ◌+◌, ◌≤◌, List, [], ◌∷◌, All}
+use Rattle.std.specs.Prelude.{ℕ, ◌+◌, ◌≤◌, List, [], ◌∷◌}
 
--- each range ends where any later one begins, or before
-abbrev pub Ascend : List (ℕ × ℕ) → Type 0
-Ascend [] = Unit {0}
-Ascend (r ∷ rs) = All (λ s. r.0 + r.1 ≤ s.0) rs × Ascend rs
+-- each range begins where the one before it ends, or after that; the first one begins at this address, or after it
+abbrev pub AscendFrom : ℕ → List (ℕ × ℕ) → Type 0
+AscendFrom end [] = Unit {0}
+AscendFrom end (r ∷ rs) = (end ≤ r.0) × AscendFrom (r.0 + r.1) rs

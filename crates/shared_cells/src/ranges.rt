@@ -1,8 +1,8 @@
 // Ranges of addresses.
 
-ghost use Rattle.std.specs.Prelude.{◌≡◌, ◌<◌, true};
+ghost use Rattle.std.specs.Prelude.{◌≡◌, true};
 ghost use Rattle.shared_cells.specs.SharedRun.{in_range, in_ranges};
-ghost use Rattle.shared_cells.specs.Ascending.{Ascend};
+ghost use Rattle.shared_cells.specs.Ascending.{AscendFrom};
 
 use std::marker::Model;
 
@@ -14,15 +14,15 @@ pub struct Ranges<'a> {
     ascend: bool,
 }
 
-impl Model for Ranges<'_> {
+impl<'a> Model for Ranges<'a> {
     ghost use Rattle.std.specs.Prelude.{◌≡◌, ℕ, List, true};
-    ghost use Rattle.shared_cells.specs.Ascending.{Ascend};
+    ghost use Rattle.shared_cells.specs.Ascending.{AscendFrom};
 
     ghost Value = { List (ℕ × ℕ) };
 
     ghost view = { λ r. r.ranges.now };
 
-    ghost invariant = { λ r. r.ascend ≡ true → Ascend r.ranges.now };
+    ghost invariant = { λ r. r.ascend ≡ true → AscendFrom 0 r.ranges.now };
 }
 
 impl<'a> Ranges<'a> {
@@ -48,7 +48,7 @@ impl<'a> Ranges<'a> {
 
 // Whether each range ends where the next one begins, or before.
 fn ascend(ranges: &[(u32, u32)]) -> bool
-    ensures { result ≡ true → Ascend ranges.now }
+    ensures { result ≡ true → AscendFrom 0 ranges.now }
 {
     let mut end = 0;
     for (at, size) in ranges {
@@ -77,7 +77,7 @@ fn scanned(ranges: &[(u32, u32)], address: u32) -> bool
 
 // Whether an address lies in one of these ranges, by the last one that begins there or before.
 fn found(ranges: &[(u32, u32)], address: u32) -> bool
-    requires { Ascend ranges.now }
+    requires { AscendFrom 0 ranges.now }
     ensures { result ≡ in_ranges ranges.now address }
 {
     let begun = ranges.partition_point(|range| range.0 <= address);

@@ -32,5 +32,11 @@ pub fn run_shared<C: Console>(
 {
     let ranges = Ranges::new(shared);
     let schedule = SharedSchedule { plan, ranges };
-    run_with(machine, ScheduleCursor::new(&schedule), input, steps, console)
+    run_with(
+        machine,
+        ScheduleCursor::new(&schedule),
+        input,
+        steps,
+        console,
+    )
 }

@@ -1,8 +1,8 @@
 -- A cell of data lies in one region alone, a segment of data: so a byte that is written there is read there, and writing the byte that
 -- it held brings back the memory from before.
-use Rattle.std.proofs.Common.{◌≡◌, ◌≢◌, ℕ, zero, suc, ◌+◌, ◌-◌, ◌<◌, ◌≤◌, List, [], ◌∷◌, length, get_or, Bool, true, false, cond, refl, sym, ap, ap₂, ◌∙◌, inl, inr, ⊎_elim, arith, leb, ltb}
-use Rattle.std.specs.Prelude.{◌⊎◌, ◌&&◌, ◌||◌, All}
-use Rattle.std.proofs.lemmas.Bool.{and_from, and_parts, and_right, cases_eq, cond-false, cond-true, le-leb, leb-true, or_cases, or_from, or_left, or_parts, or_right}
+use Rattle.std.proofs.Common.{◌≡◌, ℕ, suc, ◌+◌, ◌-◌, ◌<◌, List, [], ◌∷◌, length, get_or, Bool, true, false, cond, refl, sym, ap, ap₂, ◌∙◌, inl, inr, ⊎_elim, arith, leb, ltb}
+use Rattle.std.specs.Prelude.{◌⊎◌, ◌&&◌, All}
+use Rattle.std.proofs.lemmas.Bool.{and_from, and_parts, and_right, cases_eq, cond-false, cond-true, le-leb, leb-true, or_cases, or_from, or_parts}
 use Rattle.std.proofs.lemmas.List.Elements.{All-head, All-tail}
 use Rattle.rv_decode.specs.Memory.{Data, Extent, Kind, Region, Stack, Text, cell_at, cells_changed, changed, extent_of, extents_of, is_text, lies_in, spans, written}
 use Rattle.rv_decode.proofs.MemoryLaws.{is_covered, lies_covered, untouched}

@@ -1,28 +1,26 @@
 -- What link_zc gives does what the objects' program does if interrupts write to the objects' shared sections.
-use Rattle.std.proofs.Common.{◌≡◌, ℕ, ◌+◌, ◌-◌, ◌<◌, ◌≤◌, List, [], ◌∷◌, Bool, true, false, Option, refl, ◌∙◌, arith, ⊎_elim, leb, ltb}
+use Rattle.std.proofs.Common.{◌≡◌, ℕ, ◌+◌, ◌<◌, ◌≤◌, List, [], ◌∷◌, true, refl, arith, ⊎_elim, leb, ltb}
 use Rattle.std.specs.Prelude.{◌&&◌, All}
-use Rattle.std.specs.List.{list_any}
 use Rattle.std.proofs.lemmas.Bool.{and_parts, leb-true, ltb-true, or_cases}
 use Rattle.std.proofs.lemmas.List.Elements.{All-head, All-tail}
 use Rattle.psabi_sym.specs.Data.{data_end}
 use Rattle.psabi_sym.specs.Inputs.{Inputs, ParsedInputs, parsed}
 use Rattle.psabi_sym.specs.Shared.{shared_ranges}
 use Rattle.psabi_sym.proofs.SharedLaws.{shared_within}
-use Rattle.block_cut.specs.declared.item.Item.{Item}
 use Rattle.moved_runs.specs.Leads.{IsNamed}
 use Rattle.moved_runs.proofs.QuietObjects.{length-data_bytes}
 use Rattle.rv_decode.specs.Memory.{Region}
 use Rattle.shared_cells.specs.SharedRun.{in_ranges}
+use Rattle.shrink_layout.specs.Settled.{settled_end}
 use Rattle.sym_machine.specs.declared.word.SymByte.{SymByte}
 use Rattle.sym_machine.specs.Objects.{program_of}
 use Rattle.sym_machine.specs.Program.{Program}
 use Rattle.sym_machine.specs.State.{PlainCore}
-use Rattle.zc_base.specs.declared.place.Place.{Place}
 use Rattle.zc_link.specs.DataApart.{IsCell}
 use Rattle.zc_link.specs.Links.{IsImageOf, IsZcLink, Link, slots_of}
 use Rattle.zc_link.specs.Pace.{AlignOf, Alone, CallOf, GroupOf, LongOf, Stretch, TableOf, commits_of, pace_of}
 use Rattle.zc_link.specs.TextLayout.{TextLayout, stretch_in, zc_layout}
-use Rattle.shared_runs.specs.SharesCells.{SharesSections}
+use Rattle.shared_runs.specs.SharesCells.{SharesCells}
 use Rattle.shared_runs.proofs.Shares.{shares_cells}
 
 -- a stretch takes as many commits whatever memory holds
@@ -56,18 +54,20 @@ section_cells inputs a h =
     let size = length-data_bytes inputs in
     record { low = q.0; high = omega (arith, q, size) }
 
--- an image of a layout does
-pub image_shares : (L : TextLayout) (flags end : ℕ) (elf : List ℕ) → IsImageOf L flags end elf → SharesSections L elf
+-- an image of a layout keeps step with the objects' program if interrupts write to their shared sections
+pub image_shares :
+    (L : TextLayout) (flags end : ℕ) (elf : List ℕ) (image : IsImageOf L flags end elf)
+    → SharesCells (program_of (parsed L.inputs)) image.loaded (pace_of (program_of (parsed L.inputs)) (stretch_in L)) (shared_ranges (parsed L.inputs))
 image_shares L flags end elf image =
-    let p = program_of (parsed L.inputs) in
-    record {
-      image = image.loaded;
-      read = image.read;
-      shares =
-          shares_cells p (IsNamed (parsed L.inputs)) image.loaded (pace_of p (stretch_in L)) image.simulates (shared_ranges (parsed L.inputs)) (section_cells (parsed L.inputs))
-          (λ s memory. steady p (stretch_in L s.place) s memory);
-    }
+    let inputs = parsed L.inputs in
+    let p = program_of inputs in
+    shares_cells p (IsNamed inputs) image.loaded (pace_of p (stretch_in L)) image.simulates (shared_ranges inputs) (section_cells inputs)
+    (λ s memory. steady p (stretch_in L s.place) s memory)
 
--- and so does a link
-pub link_shares : (inputs : Inputs) (link : Link) → IsZcLink inputs link → SharesSections (zc_layout inputs (slots_of link)) link.elf
-link_shares inputs link is = image_shares (zc_layout inputs (slots_of link)) 1 _ link.elf is.image
+-- so does that of a link
+pub link_shares :
+    (inputs : Inputs) (link : Link) (linked : IsZcLink inputs link)
+    → SharesCells (program_of (parsed inputs)) linked.image.loaded (pace_of (program_of (parsed inputs)) (stretch_in (zc_layout inputs (slots_of link))))
+    (shared_ranges (parsed inputs))
+link_shares inputs link linked =
+    image_shares (zc_layout inputs (slots_of link)) 1 (settled_end (parsed inputs) (slots_of link)) link.elf linked.image

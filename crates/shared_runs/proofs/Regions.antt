@@ -1,6 +1,6 @@
 -- Interrupts and commits change what regions hold, but not where they lie; and no interrupt is an exit.
-use Rattle.std.proofs.Common.{◌≡◌, ℕ, ◌%◌, List, [], ◌∷◌, Option, Some, None, Result, Ok, cond, refl, sym, ap, ◌∙◌, subst, eqb, ltb, take, length, slice_index}
-use Rattle.std.specs.Prelude.{◌&&◌, ◌||◌, ◌==◌, slice_get}
+use Rattle.std.proofs.Common.{◌≡◌, ℕ, ◌%◌, List, [], ◌∷◌, Option, Some, None, Result, Ok, cond, refl, sym, ap, ◌∙◌, eqb, ltb}
+use Rattle.std.specs.Prelude.{◌&&◌, ◌||◌, slice_get}
 use Rattle.std.specs.Option.{option_map_or}
 use Rattle.std.proofs.lemmas.Bool.{cond_both}
 use Rattle.interrupt_plan.specs.Plan.{Interrupt}
@@ -9,7 +9,7 @@ use Rattle.rv_decode.specs.declared.instr.Instr.TheVariants.{Upper, Jal, Jalr, B
 use Rattle.rv_decode.specs.Effect as act
 use Rattle.rv_decode.specs.Effect.{Effect, Commits, effect, jumps, load_width, onward, reaching, store_width}
 use Rattle.rv_decode.specs.Memory.{Extent, byte_of, changed, extents_of, is_data, is_stack, is_text, lies_in, written}
-use Rattle.rv_decode.specs.State.{ZcCore, ZcState, reg_in, word_at}
+use Rattle.rv_decode.specs.State.{ZcCore, ZcState, reg_in}
 use Rattle.rv_decode.proofs.MemoryLaws.{extents-changed}
 use Rattle.zc_decode.specs.Accesses.{Access, accesses_of}
 use Rattle.zc_decode.specs.Effect.{accessed, all_accessed, entry_at, framed, reaching_all, returned, short_effect, zeroed}

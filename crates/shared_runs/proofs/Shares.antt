@@ -1,12 +1,12 @@
 -- An image that keeps step with the program does so if interrupts write shared data, too. Before a stretch the cells of all its commits
 -- may be written in both machines; a run that ends inside a stretch has made none of its commits, so only the events are claimed.
-use Rattle.std.proofs.Common.{◌≡◌, ℕ, zero, suc, ◌+◌, ◌-◌, ◌*◌, ◌<◌, ◌≤◌, List, [], ◌∷◌, ◌++◌, Bool, true, false, cond, Option, Some, None, Result, Ok, refl, sym, ap, ap₂, ◌∙◌, subst, inl, inr, ⊎_elim, arith, eqb, map}
-use Rattle.std.specs.Prelude.{◌⊎◌, All, IsSome}
+use Rattle.std.proofs.Common.{◌≡◌, ℕ, zero, suc, ◌+◌, ◌-◌, ◌*◌, ◌<◌, ◌≤◌, List, [], ◌∷◌, ◌++◌, Bool, true, false, cond, Option, Some, None, Result, Ok, refl, sym, ap, ap₂, ◌∙◌, subst, inr, ⊎_elim, arith, eqb}
+use Rattle.std.specs.Prelude.{All, IsSome}
 use Rattle.std.specs.Option.{is_some}
-use Rattle.std.proofs.lemmas.Bool.{cases_Bool, cond-false, cond-true, eqb-false, eqb-true, false≢true, ne_eqb}
+use Rattle.std.proofs.lemmas.Bool.{cond-false, cond-true, eqb-false, eqb-true, false≢true, ne_eqb}
 use Rattle.std.proofs.lemmas.List.Elements.{All-cons, All-filter, All-head, All-nil, All-tail}
 use Rattle.zc_base.specs.declared.place.Place.{Place}
-use Rattle.interrupt_plan.specs.Plan.{AreInterrupts, Interrupt, IsInterrupt}
+use Rattle.interrupt_plan.specs.Plan.{IsInterrupt}
 use Rattle.interrupt_plan.specs.SharedPlan.{IsSharedPlan, SharedEntry, shared_at}
 use Rattle.rv_decode.specs.Memory.{Region, changed, written}
 use Rattle.rv_decode.specs.Run.{◌>>=◌, iterate}
@@ -25,13 +25,12 @@ use Rattle.zc_link.specs.DataApart.{CellsLie, FromLoad, FromPair, IsCell, Starts
 use Rattle.zc_link.specs.Image.{Image, loaded_core}
 use Rattle.zc_link.specs.IsSimulation.{IsInside, IsSimulation}
 use Rattle.zc_link.specs.Pace.{Pace, lead_from, lead_of}
-use Rattle.zc_link.specs.Preserves.{Follows}
 use Rattle.zc_link.specs.Sound.{Over, Sound, Together}
 use Rattle.zc_link.specs.Stands.{Stands}
 use Rattle.shared_runs.specs.SharedPlain.{SharedState, Sharing, after_step, cells_from, shared_after, shared_start, shared_step, step_within, stretch_begun}
 use Rattle.shared_runs.specs.SharesCells.{KeepsPace, SharesCells}
 use Rattle.shared_runs.proofs.Regions.{one_result}
-use Rattle.shared_runs.proofs.Turns.{AreEntries, IsEntry, IsTame, cells_are, cells_first, cells_in, cells_last, cells_of, cuts_in}
+use Rattle.shared_runs.proofs.Turns.{AreEntries, IsEntry, cells_are, cells_first, cells_in, cells_last, cells_of, cuts_in}
 use Rattle.shared_runs.proofs.Written.{IsWrite, all_written, poked_events, poked_exit, poked_place, written_events, written_sound}
 
 -- an image that starts at the program's start has no commits before it, and another three

@@ -1,18 +1,18 @@
 -- On the way between two sound pairs, interrupts and commits do the same whatever cells of data hold. So to write each interrupt's
 -- cells after it comes to the same as to write them all first; and if nothing is written first, it comes to the same as to write
 -- them all at the end.
-use Rattle.std.proofs.Common.{◌≡◌, ℕ, zero, suc, ◌+◌, ◌<◌, List, [], ◌∷◌, ◌++◌, Bool, true, false, None, Result, Ok, cond, map, refl, sym, ap, ap₂, ◌∙◌, subst, arith, append_assoc}
+use Rattle.std.proofs.Common.{◌≡◌, ℕ, zero, suc, ◌<◌, List, [], ◌∷◌, ◌++◌, Bool, true, false, None, Ok, cond, map, refl, sym, ap, ◌∙◌, subst, arith, append_assoc}
 use Rattle.std.specs.Prelude.{All, filter, flat_map}
 use Rattle.std.proofs.lemmas.List.{append-nil}
 use Rattle.std.proofs.lemmas.List.Elements.{All-append, All-cons, All-head, All-nil, All-tail, filter-append}
 use Rattle.interrupt_plan.specs.Plan.{Interrupt, IsInterrupt}
 use Rattle.interrupt_plan.specs.SharedPlan.{SharedEntry}
-use Rattle.rv_decode.specs.Memory.{changed, extents_of, written}
+use Rattle.rv_decode.specs.Memory.{extents_of, written}
 use Rattle.rv_decode.specs.Run.{◌>>=◌}
 use Rattle.rv_decode.specs.State.{ZcCore, ZcState, byte_in}
 use Rattle.rv_decode.proofs.MemoryLaws.{extents-changed}
 use Rattle.rv_decode.proofs.RunLaws.{bind_ok}
-use Rattle.shared_cells.specs.SharedRun.{all_shared, cell_written, cells_written, in_ranges}
+use Rattle.shared_cells.specs.SharedRun.{all_shared, cells_written, in_ranges}
 use Rattle.sym_machine.specs.Program.{Program}
 use Rattle.zc_machine.specs.Interrupt.{all_interrupted, interrupted}
 use Rattle.zc_machine.specs.Poked.{poked_core}

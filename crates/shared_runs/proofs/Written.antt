@@ -1,5 +1,5 @@
 -- Cells of data that are written in both machines: a sound pair stays sound. And the machine's cells, one after another.
-use Rattle.std.proofs.Common.{◌≡◌, ◌≢◌, ℕ, ◌+◌, ◌<◌, ◌≤◌, List, [], ◌∷◌, ◌++◌, Bool, true, false, cond, refl, sym, ap, ◌∙◌, subst, inl, inr, ⊎_elim, arith, leb, ltb}
+use Rattle.std.proofs.Common.{◌≡◌, ◌≢◌, ℕ, ◌+◌, ◌<◌, List, [], ◌∷◌, ◌++◌, true, refl, sym, ap, ◌∙◌, subst, inl, inr, ⊎_elim, arith, leb, ltb}
 use Rattle.std.specs.Prelude.{◌⊎◌, ◌&&◌, All}
 use Rattle.std.proofs.lemmas.Bool.{cases_Bool, cases_eq, cond-true, cond_both}
 use Rattle.std.proofs.lemmas.List.Elements.{All-head, All-tail}
@@ -8,10 +8,9 @@ use Rattle.rv_decode.specs.Memory.{Region, cell_at, changed, extents_of, is_text
 use Rattle.rv_decode.specs.State.{ZcCore, ZcState, byte_in}
 use Rattle.rv_decode.proofs.MemoryLaws.{cell-changed, cell-changed_default, cell-uncovered, cell_kept, extents-changed, is_covered, lies_covered, untouched}
 use Rattle.rv_decode.proofs.WriteLaws.{written_there}
-use Rattle.sym_machine.specs.declared.word.SymByte.{SymByte}
 use Rattle.sym_machine.specs.declared.word.SymByte.TheVariants.{Num, Undef}
-use Rattle.sym_machine.specs.Program.{Program, data_high}
-use Rattle.sym_machine.specs.State.{PlainCore, PlainState, cell_of}
+use Rattle.sym_machine.specs.Program.{Program}
+use Rattle.sym_machine.specs.State.{PlainCore, PlainState}
 use Rattle.zc_machine.specs.Poked.{is_segment, poked_core}
 use Rattle.zc_link.specs.DataApart.{CellsLie, IsCell, all_poked, poked, poked_plain}
 use Rattle.zc_link.specs.Image.{Image, loaded_core}

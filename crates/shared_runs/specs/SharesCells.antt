@@ -1,16 +1,12 @@
 -- When an image does what the program does under a plan whose interrupts write shared data.
-use Rattle.std.specs.Prelude.{◌≡◌, ℕ, ◌+◌, ◌*◌, ◌<◌, ◌≤◌, List, All, Some, Ok}
+use Rattle.std.specs.Prelude.{◌≡◌, ℕ, ◌+◌, ◌*◌, ◌<◌, ◌≤◌, List, All, Ok}
 use Rattle.interrupt_plan.specs.SharedPlan.{SharedEntry, IsSharedPlan}
-use Rattle.psabi_sym.specs.Inputs.{parsed}
-use Rattle.psabi_sym.specs.Shared.{shared_ranges}
 use Rattle.rv_decode.specs.State.{ZcState}
 use Rattle.shared_cells.specs.SharedRun.{shared_by}
-use Rattle.sym_machine.specs.Objects.{program_of}
 use Rattle.sym_machine.specs.Program.{Program}
-use Rattle.zc_link.specs.Image.{Image, image_in, loaded_core}
-use Rattle.zc_link.specs.Pace.{Pace, pace_of}
+use Rattle.zc_link.specs.Image.{Image, loaded_core}
+use Rattle.zc_link.specs.Pace.{Pace}
 use Rattle.zc_link.specs.Preserves.{Follows}
-use Rattle.zc_link.specs.TextLayout.{TextLayout, stretch_in}
 use Rattle.zc_machine.specs.Run.{machine_after}
 use Rattle.shared_runs.specs.SharedPlain.{SharedState, Sharing, shared_after}
 
@@ -28,14 +24,3 @@ SharesCells p e pace ranges =
     (input : List ℕ) (plan : List SharedEntry) (n : ℕ) (s : SharedState) → All (λ b. b < 256) input → IsSharedPlan plan →
     let w : Sharing = record { program = p; image = e; pace = pace; ranges = ranges; plan = plan } in
     shared_after w input n ≡ Ok s → KeepsPace w input n s
-
--- ---- files
-
--- the file is an image whose stretches start as in a layout of the objects, and it does what the objects' program does if
--- interrupts write to the objects' shared sections
-pub record SharesSections (L : TextLayout) (elf : List ℕ) : Type 0 where
-  pub image : Image
-  pub read : image_in elf L.inputs.map ≡ Some image
-  pub shares :
-      SharesCells (program_of (parsed L.inputs)) image (pace_of (program_of (parsed L.inputs)) (stretch_in L))
-      (shared_ranges (parsed L.inputs))

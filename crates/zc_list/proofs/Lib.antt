@@ -6,3 +6,5 @@ pub mod SegmentLaws
 pub mod FirstLaws
 pub mod RunLaws
 pub mod ExactLaws
+pub mod FrontLaws
+pub mod ReadLaws

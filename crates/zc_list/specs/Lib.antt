@@ -1,3 +1,4 @@
 pub mod Listing
 pub mod Spelled
 pub mod Fault
+pub mod Reader

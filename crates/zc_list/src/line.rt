@@ -1,28 +1,16 @@
 // The lines of a segment.
 
-ghost use Rattle.std.specs.Prelude.{◌≡◌, ◌++◌, ◌∷◌, ◌<◌, [], IfOk};
-ghost use Rattle.text_lines.specs.Hex.{hex_at, hex_byte, hex_word};
+ghost use Rattle.std.specs.Prelude.{◌≡◌, ◌++◌, ◌∷◌, [], IfOk};
+ghost use Rattle.text_lines.specs.Hex.{hex_byte, hex_word};
 ghost use Rattle.zc_list.specs.Listing.{Bytes, Instruction, Zeros, content_line, content_text, kind_word, segment_line};
 ghost use Rattle.elf32_read.specs.Segment.{segment_data};
 
+use crate::digits::{address, hex_digit};
 use elf32_read::segment::Segment;
 use instruction_text::machine_code::MachineCode;
 use instruction_text::push::push_code;
 use itoa::Buffer;
 use std::alloc::AllocError;
-
-// The hexadecimal digit of the four bits from bit `shift` up.
-fn hex_digit(number: u64, shift: u32) -> u8
-    requires { shift < 32 }
-    ensures { result ≡ hex_at number shift }
-{
-    let digit = ((number >> shift) % 16) as u8;
-    if digit < 10 {
-        b'0' + digit
-    } else {
-        b'a' - 10 + digit
-    }
-}
 
 // Adds a byte as two hexadecimal digits.
 fn push_hex_byte(text: &mut Vec<u8>, byte: u8) -> Result<(), AllocError>
@@ -32,28 +20,11 @@ fn push_hex_byte(text: &mut Vec<u8>, byte: u8) -> Result<(), AllocError>
     text.extend_from_slice(&[hex_digit(number, 4), hex_digit(number, 0)])
 }
 
-// Adds the low 32 bits of a number as eight hexadecimal digits.
-fn push_hex_word(text: &mut Vec<u8>, number: u64) -> Result<(), AllocError>
-    ensures { IfOk result (λ _. text.new.items ≡ text.old.items ++ hex_word number) }
-{
-    text.extend_from_slice(&[
-        hex_digit(number, 28),
-        hex_digit(number, 24),
-        hex_digit(number, 20),
-        hex_digit(number, 16),
-        hex_digit(number, 12),
-        hex_digit(number, 8),
-        hex_digit(number, 4),
-        hex_digit(number, 0),
-    ])
-}
-
 // Adds the address that a line begins with, and a space.
 fn push_address(text: &mut Vec<u8>, at: u64) -> Result<(), AllocError>
     ensures { IfOk result (λ _. text.new.items ≡ text.old.items ++ (hex_word at ++ 32 ∷ [])) }
 {
-    push_hex_word(text, at)?;
-    text.extend_from_slice(b" ")
+    text.extend_from_slice(&address(at))
 }
 
 // Adds the text of bytes.
