@@ -1,6 +1,6 @@
-//! Tests of `zc_base`, `rv_decode`, `rv_encode`, `zc_decode`, `zc_encode`, `psabi_reloc` and
-//! `zca_zcb_pass`, by their public calls: words, halfwords and relocations as other tools encode them. They
-//! have a crate of their own, since a crate with tests is proved twice.
+//! Tests of `zc_base`, `rv_decode`, `rv_encode`, `zc_decode`, `zc_encode`, `psabi_reloc`, `zca_zcb_pass` and
+//! `instruction_text`, by their public calls: words, halfwords and relocations as other tools encode them, and the
+//! texts of instructions. They have a crate of their own, since a crate with tests is proved twice.
 #![tactic(auto)]
 
 #[cfg(test)]
@@ -15,6 +15,8 @@ mod instrs;
 mod relocs;
 #[cfg(test)]
 mod rows;
+#[cfg(test)]
+mod texts;
 #[cfg(test)]
 mod words;
 #[cfg(test)]

@@ -7,6 +7,7 @@ use crate::base::map_of;
 use crate::forms::long_form;
 use crate::halfwords::{halfword, numbered, spelled};
 use crate::relocs::{branch_with, call_with, fitting, jal_with, kind, parts, put, reaching};
+use crate::texts::{spelled_code, text_of};
 use crate::words::{instr, normal_form};
 use crate::zcmp::short;
 use std::alloc::Global;
@@ -31,6 +32,8 @@ fn answer(alloc: Global, call: &str, given: &str) -> Result<String, Fail> {
         "decode16" => spelled(alloc, given),
         "row" => numbered(alloc, given),
         "short" => short(alloc, given),
+        "text" => text_of(alloc, given),
+        "spelled" => spelled_code(alloc, given),
         "encode16" | "short_of" | "short_branch" | "short_jump" => halfword(alloc, call, given),
         "long_branch" => long_form(alloc, given),
         "kind" => kind(alloc, given),

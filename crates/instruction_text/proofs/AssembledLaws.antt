@@ -1,6 +1,6 @@
 -- An instruction that is assembled has an immediate that fits (`assembled_in_range`).
 use Rattle.std.proofs.Common.{◌≡◌, ℕ, ℤ, pos, negsuc, ◌-◌, ◌%◌, ◌^◌, ◌<◌, Option, Some, None, Bool, true, false, cond, refl, sym, arith, subst, eqb, eqb-true, ltb}
-use Rattle.std.specs.Prelude.{◌&&◌, IfSome}
+use Rattle.std.specs.Prelude.{IfSome}
 use Rattle.std.specs.Option.{option_map}
 use Rattle.std.proofs.lemmas.Bool.{and_parts, ltb-true}
 use Rattle.std.proofs.lemmas.Option.{cond_some, none-some, same_Some}
@@ -13,7 +13,7 @@ use Rattle.rv_decode.specs.declared.instr.Instr.TheVariants as instr
 use Rattle.zc_encode.specs.Halves.{has_bits, is_offset, is_signed, low_bits}
 use Rattle.instruction_text.specs.Assembly.{assembled, fitting_instr, imm_fits, natural_below}
 use Rattle.instruction_text.specs.declared.operands.Operands.{Operands}
-use Rattle.instruction_text.specs.declared.operands.Operands.TheVariants.{Nothing, OneNumber, TwoNumbers, TwoRegisters, RegisterNumber, RegistersNumber, ThreeRegisters}
+use Rattle.instruction_text.specs.declared.operands.Operands.TheVariants.{Nothing, OneNumber, TwoRegisters, RegisterNumber, RegistersNumber, ThreeRegisters}
 use Rattle.instruction_text.specs.declared.operation.Operation.{Operation}
 use Rattle.instruction_text.specs.declared.operation.Operation.TheVariants as operation
 

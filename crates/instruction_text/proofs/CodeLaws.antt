@@ -1,36 +1,34 @@
 -- The text of an instruction spells it (`code_back`), and a text that spells one is its text (`code_is`).
-use Rattle.std.proofs.Common.{◌≡◌, ◌≢◌, ℕ, ◌%◌, ◌^◌, ◌<◌, Option, Some, None, Bool, true, false, cond, List, [], ◌∷◌, length, refl, sym, ap, ap₂, ◌∙◌, subst, arith, eqb, ltb, eq-eqb, eqb-true, lit<}
-use Rattle.std.specs.Prelude.{not, ◌&&◌, bytes_eq, codes, All}
+use Rattle.std.proofs.Common.{◌≡◌, ℕ, ◌%◌, ◌^◌, ◌<◌, Option, Some, None, Bool, true, false, cond, List, [], ◌∷◌, length, refl, sym, ap, ap₂, ◌∙◌, subst, arith, eqb, ltb, eq-eqb, eqb-true, lit<}
+use Rattle.std.specs.Prelude.{not, bytes_eq, codes, All}
 use Rattle.std.specs.List.{join_with_byte}
 use Rattle.std.specs.Option.{option_and_then, option_map}
 use Rattle.std.proofs.lemmas.Bool.{and_from, and_parts, lt-ltb, ltb-true, ne_eqb}
 use Rattle.std.proofs.lemmas.List.Elements.{All-cons, All-nil}
-use Rattle.std.proofs.lemmas.Option.{none-some, same_Some}
+use Rattle.std.proofs.lemmas.Option.{none-some}
 use Rattle.rv_decode.specs.Decode.{decoded}
-use Rattle.rv_decode.specs.Immediates.{InRange}
 use Rattle.rv_decode.specs.declared.instr.Instr.{Instr}
 use Rattle.rv_decode.proofs.DecodeLaws.{decoded-in_range, decoded-registers}
 use Rattle.rv_encode.specs.Words.{encoded}
 use Rattle.zc_decode.specs.Halfwords.{spelled}
 use Rattle.zc_decode.specs.Rows.{form_of}
 use Rattle.zc_decode.specs.declared.form.Form.{Form}
-use Rattle.text_lines.specs.Hex.{hex_at, hex_word}
+use Rattle.text_lines.specs.Hex.{hex_word}
 use Rattle.text_lines.specs.Lines.{words_of}
 use Rattle.text_lines.specs.Number.{if_text_of}
 use Rattle.text_lines.proofs.HexLaws.{hex_word_of-Some}
 use Rattle.text_lines.proofs.NumberLaws.{if_text_of-Some, spelled_is}
 use Rattle.text_lines.proofs.PlainLaws.{IsLine, IsPlain, joined_line, words_again}
-use Rattle.instruction_text.specs.Assembly.{assembled, assembled_half}
 use Rattle.instruction_text.specs.Names.{form_name, form_named, operation_name, operation_named, operation_of}
 use Rattle.instruction_text.specs.Operands.{operand_words, operands_in, operands_of, operands_of_short}
-use Rattle.instruction_text.specs.Reading.{code_for, code_in_words, code_named, code_spelled, half_in_digits, hex_half_of, word_in_digits}
+use Rattle.instruction_text.specs.Reading.{code_for, code_in_words, code_named, code_spelled, half_in_digits, word_in_digits}
 use Rattle.instruction_text.specs.Texts.{IsMachineCode, code_text, form_text, half_text, hex_half, instr_text, is_machine_code, named_text, word_text}
 use Rattle.instruction_text.specs.declared.machine_code.MachineCode.{MachineCode}
 use Rattle.instruction_text.specs.declared.machine_code.MachineCode.TheVariants.{Half, Word}
 use Rattle.instruction_text.specs.declared.operands.Operands.{Operands}
 use Rattle.instruction_text.proofs.DigitLaws.{hex_half_back, hex_half_plain, hex_word_plain}
 use Rattle.instruction_text.proofs.HalvesBack.{half_back, half_small}
-use Rattle.instruction_text.proofs.NamesBack.{IsName, first_of, named_form, named_operation, plain_is}
+use Rattle.instruction_text.proofs.NamesBack.{IsName, named_form, named_operation, plain_is}
 use Rattle.instruction_text.proofs.OperandsBack.{AreSmall, named_line, named_words, operands_back, word_small}
 use Rattle.instruction_text.proofs.WordsBack.{assembled_back, encoded_back}
 

@@ -3,7 +3,6 @@ use Rattle.std.proofs.Common.{◌≡◌, ℕ, ◌+◌, ◌*◌, ◌/◌, ◌%◌
 use Rattle.std.specs.Option.{option_and_then, option_map}
 use Rattle.std.proofs.lemmas.List.Elements.{All-cons, All-nil}
 use Rattle.text_lines.specs.Hex.{hex_at, hex_byte, hex_digit, hex_word}
-use Rattle.text_lines.specs.Number.{hex_byte_of}
 use Rattle.text_lines.proofs.HexLaws.{hex_byte_of-Some}
 use Rattle.text_lines.proofs.PlainLaws.{IsPlain}
 use Rattle.instruction_text.specs.Reading.{hex_half_of}

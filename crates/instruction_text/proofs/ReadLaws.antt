@@ -1,5 +1,5 @@
 -- Where a text spells nothing: there are more words than there may be, or too few digits.
-use Rattle.std.proofs.Common.{◌≡◌, ℕ, ◌<◌, ◌+◌, ◌*◌, Option, Some, None, List, [], ◌∷◌, length, drop, eqb, ap, ◌∙◌, arith}
+use Rattle.std.proofs.Common.{◌≡◌, ℕ, ◌<◌, ◌+◌, ◌*◌, Some, None, List, [], ◌∷◌, length, eqb, ap, ◌∙◌, arith}
 use Rattle.std.specs.Option.{option_and_then, option_map}
 use Rattle.text_lines.specs.Lines.{words_of}
 use Rattle.text_lines.specs.Number.{hex_byte_of}

@@ -1,10 +1,9 @@
 -- The word of a decoded instruction is the word that it was decoded from (`encoded_back`), and the instruction is that of its operation
 -- and operands (`assembled_back`).
-use Rattle.std.proofs.Common.{◌≡◌, ℕ, ℤ, pos, negsuc, ◌+◌, ◌-◌, ◌*◌, ◌/◌, ◌%◌, ◌^◌, ◌<◌, Some, None, Bool, true, false, cond, refl, sym, ap, ap₂, ◌∙◌, subst, arith, ltb, eqb, eq-eqb}
-use Rattle.std.specs.Prelude.{◌&&◌}
+use Rattle.std.proofs.Common.{◌≡◌, ℕ, ℤ, pos, negsuc, ◌+◌, ◌-◌, ◌*◌, ◌/◌, ◌%◌, ◌^◌, ◌<◌, Some, None, Bool, true, false, cond, refl, sym, ap, ap₂, ◌∙◌, arith, ltb, eqb, eq-eqb}
 use Rattle.std.specs.Option.{option_map}
 use Rattle.std.proofs.lemmas.Bool.{lt-ltb, and_from}
-use Rattle.rv_decode.specs.Bits.{FitsIn, IsEven, as_word, field, signed}
+use Rattle.rv_decode.specs.Bits.{FitsIn, IsEven, field, signed}
 use Rattle.rv_decode.specs.Decode.{branch_ops, decoded, funct_of, imm_ops, load_ops, reg_ops, shift_ops, store_ops}
 use Rattle.rv_decode.specs.Formats.{funct3_of, imm_b_of, imm_i_of, imm_j_of, imm_s_of, imm_u_of, opcode_of, rd_of, rs1_of, rs2_of}
 use Rattle.rv_decode.specs.Immediates.{ImmInRange, InRange, IsAmount}
@@ -17,9 +16,8 @@ use Rattle.rv_decode.proofs.DecodeLaws.{Format, OfBranch, OfCsrrw, OfEbreak, OfE
 use Rattle.rv_decode.proofs.RowLaws.{row_found}
 use Rattle.rv_encode.specs.Codes.{branch_funct3, imm_code, load_funct3, reg_funct, store_funct3}
 use Rattle.rv_encode.specs.Words.{bits_of, branch_five_of, branch_seven_of, branch_word, encoded, fields_word, funct_word, jump_twenty_of, op_imm_word, store_word, twelve_of, upper_word_of}
-use Rattle.rv_encode.specs.declared.codes.ImmCode.{ImmCode}
 use Rattle.rv_encode.specs.declared.codes.ImmCode.TheVariants.{Operand, Shift}
-use Rattle.zc_encode.specs.Halves.{has_bits, is_offset, is_signed, low_bits}
+use Rattle.zc_encode.specs.Halves.{has_bits, is_offset, low_bits}
 use Rattle.instruction_text.specs.Assembly.{assembled, fitting_instr, imm_fits, natural_below}
 use Rattle.instruction_text.specs.Names.{operation_of}
 use Rattle.instruction_text.specs.Operands.{operands_of}

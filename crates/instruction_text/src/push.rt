@@ -117,11 +117,17 @@ fn operands_of(i: Instr) -> Operands
         } => Operands::RegistersNumber(first, second, distance),
         Instr::Load { rd, base, imm, .. } => Operands::RegistersNumber(rd, base, imm),
         Instr::Store {
-            source, base, imm, ..
+            source,
+            base,
+            imm,
+            ..
         } => Operands::RegistersNumber(base, source, imm),
         Instr::WithImm { rd, first, imm, .. } => Operands::RegistersNumber(rd, first, imm),
         Instr::WithReg {
-            rd, first, second, ..
+            rd,
+            first,
+            second,
+            ..
         } => Operands::ThreeRegisters(rd, first, second),
         Instr::Fence { rest } => Operands::OneNumber(rest as i32),
         Instr::Ecall | Instr::Ebreak => Operands::Nothing,

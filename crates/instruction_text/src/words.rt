@@ -49,11 +49,18 @@ fn by_operands(operation: Operation, operands: Operands) -> Option<Instr>
             with_registers(operation, first, second, z)
         }
         Operands::ThreeRegisters(rd, first, second) => match operation {
-            Operation::WithReg(op) => Some(Instr::WithReg { op, rd, first, second }),
+            Operation::WithReg(op) => Some(Instr::WithReg {
+                op,
+                rd,
+                first,
+                second,
+            }),
             _ => None,
         },
         Operands::OneNumber(z) => match operation {
-            Operation::Fence => Some(Instr::Fence { rest: natural_below(1 << 22, z)? }),
+            Operation::Fence => Some(Instr::Fence {
+                rest: natural_below(1 << 22, z)?,
+            }),
             _ => None,
         },
         Operands::TwoRegisters(rd, source) => match operation {

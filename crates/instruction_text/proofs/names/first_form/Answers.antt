@@ -1,4 +1,4 @@
-use Rattle.std.proofs.Common.{◌≡◌, arith, sym, ◌∙◌}
+use Rattle.std.proofs.Common.{arith, sym, ◌∙◌}
 use Rattle.zc_decode.specs.declared.form.Form.TheVariants.{CAddi4spn}
 use Rattle.instruction_text.specs.Names.{form_name}
 use Rattle.instruction_text.proofs.NameLaws.{named_here, named_later}

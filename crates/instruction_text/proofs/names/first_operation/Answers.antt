@@ -1,4 +1,4 @@
-use Rattle.std.proofs.Common.{◌≡◌, arith, sym, ◌∙◌}
+use Rattle.std.proofs.Common.{arith, sym, ◌∙◌}
 use Rattle.rv_decode.specs.declared.instr.UpperOp.TheVariants.{Lui}
 use Rattle.instruction_text.specs.declared.operation.Operation.TheVariants.{Upper}
 use Rattle.instruction_text.specs.Names.{operation_name}
