@@ -152,7 +152,7 @@ module _ (p : Program) (parts : Parts) (out : AreLaidOut p parts) where
       let data_at = out.data_at in (
         omega (arith, text_size, short, at, map.code, map.data_room, map.top),
         All-cons (Apart text_extent) data_extent (stack_extent ∷ []) (omega (arith, text_size, short, at, data_at, map.code))
-        (All-cons (Apart text_extent) stack_extent [] (omega (arith, text_size, short, at, map.code, map.data_room, map.stack)) (All-nil (Apart text_extent))),
+            (All-cons (Apart text_extent) stack_extent [] (omega (arith, text_size, short, at, map.code, map.data_room, map.stack)) (All-nil (Apart text_extent))),
         (
           omega (arith, data_size, most, data_at, map.data_room, map.top),
           All-cons (Apart data_extent) stack_extent [] (omega (arith, data_size, most, data_at, map.data_room, map.stack)) (All-nil (Apart data_extent)),
