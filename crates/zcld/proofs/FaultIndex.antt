@@ -1,6 +1,6 @@
 -- A fault that names a symbol stands in one of the objects that were read, so the line of its refusal is the same if other files come
 -- after them.
-use Rattle.std.proofs.Common.{◌≡◌, ℕ, suc, ◌+◌, ◌<◌, ◌≤◌, Bool, true, false, List, [], ◌∷◌, ◌++◌, length, map, cond, Option, Some, None, refl, sym, ap, subst, ◌∙◌, ◌⊎◌, inl, inr, slice_get, arith}
+use Rattle.std.proofs.Common.{◌≡◌, ℕ, zero, suc, ◌+◌, ◌<◌, ◌≤◌, Bool, true, false, List, [], ◌∷◌, ◌++◌, length, map, cond, Option, Some, None, refl, sym, ap, subst, ◌∙◌, ◌⊎◌, inl, inr, slice_get, arith}
 use Rattle.std.specs.Prelude.{drop, nat_lt}
 use Rattle.std.specs.List.{enumerate_from, find, flat_map, range_with_len}
 use Rattle.std.specs.Option.{option_and_then, option_map, option_or}
@@ -66,8 +66,10 @@ of_both : (n : ℕ) (first rest : List IndexedSymbol) → AreOf n first → AreO
 of_both n [] rest are all = all
 of_both n (l ∷ first) rest are all = (are.0, of_both n first rest are.1 all)
 
-of_object : (n i : ℕ) (symbols : List (ℕ × SymbolParts)) → i < n
-    → AreOf n (map (λ (s : ℕ × SymbolParts). record IndexedSymbol { object = i; index = s.0; symbol = s.1 }) symbols)
+abbrev indexed : ℕ → ℕ × SymbolParts → IndexedSymbol
+indexed i s = record { object = i; index = s.0; symbol = s.1 }
+
+of_object : (n i : ℕ) (symbols : List (ℕ × SymbolParts)) → i < n → AreOf n (map (indexed i) symbols)
 of_object n i [] lt = tt
 of_object n i (s ∷ symbols) lt = (lt, of_object n i symbols lt)
 
@@ -80,11 +82,12 @@ of_all n i (o ∷ objects) within =
 found_among : (n : ℕ) (fault : IndexedSymbol → Fault) (test : IndexedSymbol → Bool) (symbols : List IndexedSymbol) → AreOf n symbols
     → IsAmong n (option_map {T = IndexedSymbol} {U = ℕ × Fault} (λ l. (l.object, fault l)) (find test symbols))
 found_among n fault test [] are = tt
-found_among n fault test (l ∷ symbols) are = by (test l)
+found_among n fault test (l ∷ symbols) are = by (test l) (found_among n fault test symbols are.1)
   where
-    by : (is : Bool) → IsAmong n (option_map {T = IndexedSymbol} {U = ℕ × Fault} (λ l. (l.object, fault l)) (cond is (Some l) (find test symbols)))
-    by true = inr are.0
-    by false = found_among n fault test symbols are.1
+    by : (is : Bool) → IsAmong n (option_map {T = IndexedSymbol} {U = ℕ × Fault} (λ l. (l.object, fault l)) (find test symbols))
+        → IsAmong n (option_map {T = IndexedSymbol} {U = ℕ × Fault} (λ l. (l.object, fault l)) (cond is (Some l) (find test symbols)))
+    by true later = inr are.0
+    by false later = later
 
 symbols_of : (objects : List ObjectParts) → AreOf (length objects) (all_symbols objects)
 unfolding all_symbols
@@ -116,7 +119,7 @@ gathered_among inputs =
 
 get_front : {A : Type 0} (xs ys : List A) (i : ℕ) → i < length xs → slice_get xs i ≡ slice_get (xs ++ ys) i
 get_front [] ys i lt = absurd (omega (arith, lt))
-get_front (x ∷ xs) ys 0 lt = refl
+get_front (x ∷ xs) ys zero lt = refl
 get_front (x ∷ xs) ys (suc i) lt = get_front xs ys i (omega (arith, lt))
 
 pub refusal_line : (inputs : Inputs) (more : List (List ℕ)) (fault : LinkFault) → IsRefusal (gather_fault inputs) fault

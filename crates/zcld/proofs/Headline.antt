@@ -25,7 +25,7 @@ use Rattle.zcld.specs.declared.outcome.Outcome.{Outcome}
 use Rattle.zcld.specs.declared.outcome.Outcome.TheVariants.{Broken, Done, Exited, OutOfMemory, Refused, Spent, Stopped}
 use Rattle.zcld.specs.Call.{Calls, task_of}
 use Rattle.zcld.specs.Gc.{GcWork}
-use Rattle.zcld.specs.Headline.{HoldsImage, HoldsResults, HoldsShared, Links, PreservesMoved}
+use Rattle.zcld.specs.Headline.{HoldsImage, HoldsResults, Links, PreservesMoved}
 use Rattle.zcld.specs.Merge.{MergeWork}
 use Rattle.zcld.specs.ObjectNames.{named_from, names_from}
 use Rattle.zcld.specs.Objects.{objects_wanted, refused_for}
@@ -36,7 +36,7 @@ use Rattle.zcld.specs.Task.{IsWorked, OnlyRead, Performs, Task, UnreadCause}
 use Rattle.zcld.specs.Zc.{ZcWork}
 use Rattle.zcld.specs.declared.limits.TheConstants.{OBJECT_LIMIT}
 use Rattle.zcld.proofs.MovedImages.{collection_preserves, merging_preserves}
-use Rattle.zcld.proofs.ShareEnds.{IsRunEnd, ended_accepted, ended_had, ended_not_memory, ended_put, objects_read, shares_link}
+use Rattle.zcld.proofs.ShareEnds.{IsRunEnd, ended_accepted, ended_had, ended_not_memory, ended_put, objects_read}
 
 -- a refusal of objects isn't Done
 refused_undone : (found : Option (ℕ × Fault)) → refused_for found ≡ Some Done → ⊥
@@ -163,7 +163,7 @@ module _ (before after : World) where
   -- `share` whose run came to its end had put the image of its link
   holds_shared :
       (out plan : List ℕ) (steps : ℕ) (names : List (List ℕ)) (outcome : Outcome) → IsRunEnd outcome → (f g : Files) → before.shelf.files ≡ Some f → after.shelf.files ≡ Some g →
-      Calls (Some (Share out plan steps names)) outcome before after → HoldsShared out names f g
+      Calls (Some (Share out plan steps names)) outcome before after → HoldsImage standard_map out names f g
   holds_shared out plan steps names outcome ends f g told tells calls =
       let command_task = task_of (Share out plan steps names) in
       let worked =
@@ -172,20 +172,18 @@ module _ (before after : World) where
       elim worked.work [
         | inl lack ↦ absurd (ended_not_memory outcome ends lack.0)
         | inr work ↦
-            let inputs = share_inputs calls.files in
             let kept : KeepsFiles (Some f) worked.between.shelf.files = subst (λ a. KeepsFiles a worked.between.shelf.files) told worked.only.shelf.files in
             let there : calls.left.shelf.files ≡ Some g = sym (ap (λ s. s.files) calls.line.shelf) ∙ tells in
             let put : PutsFile worked.between.shelf.files (Some g) out work.link.elf =
             subst (λ b. PutsFile worked.between.shelf.files b out work.link.elf) there (ended_put outcome ends out work.link.elf _ steps worked.between calls.left work.run) in
             let were : AreRead (Some f) (share_wanted plan names) calls.files = subst (λ a. AreRead a (share_wanted plan names) calls.files) told worked.read in
-            record {
-              objects = objects_before calls.files;
-              link = work.link;
-              stood = stood f OBJECT_LIMIT names (objects_before calls.files) (objects_read f OBJECT_LIMIT plan names calls.files were);
-              stands = put_stands f g worked.between.shelf.files out work.link.elf kept put;
-              linked = work.linked;
-              shares = shares_link inputs work.link work.linked;
-            }
+            (
+              objects_before calls.files,
+              work.link.elf,
+              stood f OBJECT_LIMIT names (objects_before calls.files) (objects_read f OBJECT_LIMIT plan names calls.files were),
+              put_stands f g worked.between.shelf.files out work.link.elf kept put,
+              work.linked.image.preserves,
+            )
       ]
 
   by_cases :

@@ -21,6 +21,7 @@ pub mod RewriteFacts
 pub mod RunFacts
 pub mod ShareEnds
 pub mod ShareFacts
+pub mod ShareFiles
 pub mod TraceFacts
 pub mod WithObjects
 pub mod ZcFacts

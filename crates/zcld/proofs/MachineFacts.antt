@@ -60,10 +60,10 @@ pub not_ready :
     TakesAndRuns Runs outcome (world shelf before) (world shelf after)
 not_ready Runs lacks outcome shelf before after (inl untaken) = inl (record { untaken = untaken; shelf = refl })
 not_ready Runs lacks outcome shelf before after (inr memory) = inr (record {
-  input = memory.1.0;
+  input = memory.1;
   between = after;
-  takes = memory.1.1;
-  runs = subst (λ o. Runs memory.1.0 o (world shelf after) (world shelf after)) (sym memory.0) (lacks memory.1.0 (world shelf after));
+  takes = memory.2;
+  runs = subst (λ o. Runs memory.1 o (world shelf after) (world shelf after)) (sym memory.0) (lacks memory.1 (world shelf after));
 })
 
 -- taking input moves only the counts of the console's input

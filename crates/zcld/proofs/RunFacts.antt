@@ -7,6 +7,7 @@ use Rattle.elf32_read.specs.declared.image_fault.ImageFault.{ImageFault}
 use Rattle.elf32_read.specs.Image.{image_fault}
 use Rattle.interrupt_plan.specs.Plan.{Entry}
 use Rattle.interrupt_plan.specs.declared.fault.PlanFault.{PlanFault}
+use Rattle.interrupt_plan.specs.declared.fault.PlanFault.TheVariants as bad
 use Rattle.rv_decode.specs.State.{ZcCore}
 use Rattle.zc_outside.specs.Desk.{Desk}
 use Rattle.zc_outside.specs.declared.console.ConsoleFault.TheVariants as console
@@ -17,8 +18,9 @@ use Rattle.zc_machine.specs.declared.run.RunEnd.TheVariants as end
 use Rattle.command_words.specs.Command.{Run}
 use Rattle.zcld.specs.declared.outcome.FileFault.TheVariants.{Image, Plan}
 use Rattle.zcld.specs.declared.outcome.Outcome.{Outcome}
-use Rattle.zcld.specs.declared.outcome.Outcome.TheVariants.{BadFile}
+use Rattle.zcld.specs.declared.outcome.Outcome.TheVariants.{BadFile, OutOfMemory}
 use Rattle.zcld.specs.Call.{task_of}
+use Rattle.zcld.specs.Outcome.{plan_outcome}
 use Rattle.zcld.specs.Run.{EndsRun, RunWork, Runs, end_outcome, plan_of, plan_refusal, run_refusal}
 use Rattle.zcld.specs.Task.{Task, first_file}
 use Rattle.zcld.proofs.Answering.{Facts, IsAnswer}
@@ -34,6 +36,15 @@ run_refuses map files outcome is = by_faults (image_fault (first_file files) map
     by_faults None (Ok plan) none = absurd (none-some outcome none)
     by_faults None (Err fault) some = subst IsAnswer (same_Some (BadFile (Plan fault)) outcome some) tt
     by_faults (Some fault) plan some = subst IsAnswer (same_Some (BadFile (Image fault)) outcome some) tt
+
+-- with nothing refused before it, a plan that can't be had is refused, or memory ran out
+pub unplanned :
+    {A : Type 0} (before : Option Outcome) (plan : Result A PlanFault) (why : PlanFault) → before ≡ None → (why ≡ bad.OutOfMemory) ⊎ (plan ≡ Err why) →
+    (plan_outcome why ≡ OutOfMemory) ⊎ (option_or before (plan_refusal plan) ≡ Some (plan_outcome why))
+unplanned before plan (bad.BadLine number) none cause = elim cause [ inl memory ↦ absurd (cc) | inr is ↦ inr (rw (none, is) refl) ]
+unplanned before plan (bad.OutOfOrder number) none cause = elim cause [ inl memory ↦ absurd (cc) | inr is ↦ inr (rw (none, is) refl) ]
+unplanned before plan bad.TooLarge none cause = elim cause [ inl memory ↦ absurd (cc) | inr is ↦ inr (rw (none, is) refl) ]
+unplanned before plan bad.OutOfMemory none cause = inl refl
 
 -- each end but a write that was refused is an answer
 pub end_of_run :

@@ -2,23 +2,20 @@
 use Rattle.std.proofs.Common.{◌≡◌, ◌++◌, ℕ, List, [], ◌∷◌, map, Option, Some, None, sym, ap, subst, inl, inr}
 use Rattle.block_cut.specs.Faults.{first_fault}
 use Rattle.interrupt_plan.specs.Text.{shared_in}
-use Rattle.psabi_sym.specs.Inputs.{Inputs}
 use Rattle.rv_decode.specs.State.{ZcCore}
-use Rattle.zc_link.specs.Links.{IsZcLink, Link}
+use Rattle.zc_outside.specs.Desk.{Desk}
 use Rattle.zc_outside.specs.Files.{Files, PutsFile}
 use Rattle.zc_outside.specs.Shelf.{Shelf}
 use Rattle.zc_outside.specs.Wanted.{AreRead, Wanted, each_within}
 use Rattle.zc_outside.specs.World.{World}
 use Rattle.zcld.specs.declared.outcome.Outcome.{Outcome}
 use Rattle.zcld.specs.declared.outcome.Outcome.TheVariants.{Exited, OutOfMemory, Spent, Stopped}
-use Rattle.zcld.specs.Headline.{SharesLink}
 use Rattle.zcld.specs.Input.{UntakenCause}
 use Rattle.zcld.specs.Machines.{TakesAndRuns}
 use Rattle.zcld.specs.Puts.{UnputCause}
 use Rattle.zcld.specs.Run.{plan_wanted}
 use Rattle.zcld.specs.Share.{PutsAndRuns, last_file, objects_before, share_inputs, share_refusal}
 use Rattle.zcld.specs.Task.{UnreadCause}
-use Rattle.zc_outside.specs.Desk.{Desk}
 use Rattle.zcld.proofs.ShareFacts.{by_refusals}
 
 -- the outcome of a run that came to its end
@@ -75,7 +72,3 @@ objects_read f limit plan (name ∷ names) [] read = absurd read
 objects_read f limit plan (name ∷ []) (file ∷ []) read = absurd read.1
 objects_read f limit plan (name ∷ (name' ∷ names)) (file ∷ []) read = absurd read.1
 objects_read f limit plan (name ∷ names) (file ∷ (next ∷ files)) read = (read.0, objects_read f limit plan names (next ∷ files) read.1)
-
--- the link's image shares the objects' data with interrupts
-pub shares_link : (inputs : Inputs) (link : Link) (linked : IsZcLink inputs link) → SharesLink inputs link linked
-shares_link inputs link linked = ?

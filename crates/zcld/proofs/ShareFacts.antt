@@ -16,6 +16,7 @@ use Rattle.psabi_sym.specs.declared.link_fault.LinkFault.{LinkFault}
 use Rattle.psabi_sym.specs.declared.link_fault.LinkFault.TheVariants as link
 use Rattle.rv_decode.specs.State.{ZcCore}
 use Rattle.shared_cells.specs.SharedRun.{shared_by}
+use Rattle.shared_runs.proofs.Linked.{link_shares}
 use Rattle.zc_base.specs.MemMap.{standard_map}
 use Rattle.zc_machine.specs.Load.{first_core_of}
 use Rattle.zc_outside.specs.Desk.{OnlyWrites}
@@ -173,6 +174,7 @@ module _ (out plan : List ℕ) (steps : ℕ) (names : List (List ℕ)) where
         let happens_are : shared_by shared.ranges.items shared.plan ≡ shared_by (shared_ranges (parsed (share_inputs files))) shared.plan =
             sym (any_order (shared_ranges (parsed (inputs_in standard_map objects))) shared.ranges.items ready.ranges shared.plan)
             ∙ ap (λ (is : Inputs). shared_by (shared_ranges (parsed is)) shared.plan) (sym inputs_are) in
+        let linked : IsZcLink (share_inputs files) ready.link = subst (λ is. IsZcLink is ready.link) (sym inputs_are) ready.linked in
         record {
           files = files;
           line = names_in_none outcome left files nothing;
@@ -185,7 +187,8 @@ module _ (out plan : List ℕ) (steps : ℕ) (names : List (List ℕ)) where
                 ∙ ap (λ (p : Result (List SharedEntry) PlanFault). plan_refusal p) ready.spelled;
             work = inr (record {
               link = ready.link;
-              linked = subst (λ is. IsZcLink is ready.link) (sym inputs_are) ready.linked;
+              linked = linked;
+              shares = link_shares (share_inputs files) ready.link linked;
               plan = shared.plan;
               spelled = ap shared_in (plan_is objects text) ∙ ready.spelled;
               run =

@@ -2,19 +2,14 @@
 -- and so on after `gc` or `merge` has ended with Done, over a store that tells its files.
 use Rattle.std.specs.Prelude.{◌≡◌, ℕ, List, length, map, Option, Some, ⊤}
 use Rattle.psabi_sym.specs.Inputs.{Inputs, inputs_in, parsed}
-use Rattle.psabi_sym.specs.Shared.{shared_ranges}
 use Rattle.section_gc.specs.Collected.{collected_place}
-use Rattle.shared_runs.specs.SharesCells.{SharesCells}
 use Rattle.sym_machine.specs.Objects.{program_of}
 use Rattle.tail_merge.specs.Merged.{merged_place}
 use Rattle.zc_base.specs.MemMap.{standard_map}
 use Rattle.zc_base.specs.declared.mem_map.MemMap.{MemMap}
 use Rattle.zc_base.specs.declared.place.Place.{Place}
 use Rattle.zc_link.specs.Image.{Image, image_in}
-use Rattle.zc_link.specs.Links.{IsZcLink, Link, slots_of}
-use Rattle.zc_link.specs.Pace.{pace_of}
 use Rattle.zc_link.specs.Preserves.{FollowsWithin, Preserves}
-use Rattle.zc_link.specs.TextLayout.{stretch_in, zc_layout}
 use Rattle.zc_outside.specs.Files.{Files}
 use Rattle.command_words.specs.Command.{Command, Gc, Merge, Plain, Share, Zc}
 use Rattle.zcld.specs.declared.outcome.Outcome.{Outcome}
@@ -35,23 +30,6 @@ pub record PreservesMoved (most : ℕ) (moved : Place → Place) (inputs : Input
   pub read : image_in elf inputs.map ≡ Some image
   pub follows : FollowsWithin most (program_of (parsed inputs)) (record image { address = λ q. image.address (moved q) })
 
--- the image of a link by `zc` does what the objects' program does, under every plan whose interrupts also write the objects' shared
--- data
-abbrev pub SharesLink : (inputs : Inputs) (link : Link) → IsZcLink inputs link → Type 0
-SharesLink inputs link linked =
-    let program = program_of (parsed inputs) in
-    SharesCells program linked.image.loaded (pace_of program (stretch_in (zc_layout inputs (slots_of link))))
-    (shared_ranges (parsed inputs))
-
--- objects stood under the names, and under OUT stands the image of their link by `zc`, which shares their data with interrupts
-pub record HoldsShared (out : List ℕ) (names : List (List ℕ)) (before after : Files) : Type 0 where
-  pub objects : List (List ℕ)
-  pub link : Link
-  pub stood : map before names ≡ map Some objects
-  pub stands : after out ≡ Some link.elf
-  pub linked : IsZcLink (inputs_in standard_map objects) link
-  pub shares : SharesLink (inputs_in standard_map objects) link linked
-
 -- objects stood under the names, and as many results stand under PREFIX0.o and so on; whatever image does what the results' program
 -- does, does what the objects' program does, within so many commits for each step, with each place where it was moved to
 abbrev pub HoldsResults : ℕ → (Inputs → Place → Place) → List ℕ → List (List ℕ) → Files → Files → Type 0
@@ -62,15 +40,15 @@ HoldsResults most moved prefix names before after =
     PreservesMoved most (moved (inputs_in standard_map objects)) (inputs_in standard_map objects) elf)
 
 -- `zc` or `plain` that ended with Done put such an image, in the map that the words give, and `gc` and `merge` such results, if the
--- store told its files before and tells them after; and so did `share`, if its run came to its end. `gc` moves sections. `merge` moves
--- items, and a step into a removed tail takes a jump before it
+-- store told its files before and tells them after. `gc` moves sections. `merge` moves items, and a step into a removed tail takes a
+-- jump before it. `share` whose run came to its end put such an image, in the standard map
 abbrev pub Links : Option Command → Outcome → Option Files → Option Files → Type 0
 Links (Some (Zc memory out cert names)) Done (Some before) (Some after) = HoldsImage memory out names before after
 Links (Some (Plain memory out names)) Done (Some before) (Some after) = HoldsImage memory out names before after
 Links (Some (Gc prefix names)) Done (Some before) (Some after) = HoldsResults 64 collected_place prefix names before after
 Links (Some (Merge prefix names)) Done (Some before) (Some after) =
     HoldsResults 128 (λ inputs. merged_place (parsed inputs)) prefix names before after
-Links (Some (Share out plan steps names)) (Exited code) (Some before) (Some after) = HoldsShared out names before after
-Links (Some (Share out plan steps names)) (Stopped reason pc) (Some before) (Some after) = HoldsShared out names before after
-Links (Some (Share out plan steps names)) Spent (Some before) (Some after) = HoldsShared out names before after
+Links (Some (Share out plan steps names)) (Exited code) (Some before) (Some after) = HoldsImage standard_map out names before after
+Links (Some (Share out plan steps names)) (Stopped reason pc) (Some before) (Some after) = HoldsImage standard_map out names before after
+Links (Some (Share out plan steps names)) Spent (Some before) (Some after) = HoldsImage standard_map out names before after
 Links command outcome before after = ⊤

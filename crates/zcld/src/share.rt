@@ -37,7 +37,6 @@ use interrupt_plan::read_shared::read_shared;
 use interrupt_plan::shared_plan::SharedPlan;
 use psabi_sym::objects::Objects;
 use shared_cells::run_shared::run_shared;
-
 use std::alloc::{AllocError, Global};
 use zc_base::mem_map::MemMap;
 use zc_link::zc::link_zc;

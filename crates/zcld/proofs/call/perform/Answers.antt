@@ -1,6 +1,6 @@
--- What a command says of itself is said of its words. Three commands leave no file, and words may be no command.
+-- What a command says of itself is said of its words. Four commands leave no file, and words may be no command.
 use Rattle.std.proofs.Common.{◌≡◌, [], Some, None, rules, refl, subst, inl}
-use Rattle.command_words.specs.Command.{command_of, make_meant, run_meant, Check, texts}
+use Rattle.command_words.specs.Command.{command_of, make_meant, run_meant, Check, Listing, texts}
 use Rattle.psabi_sym.specs.Objects.{contents_of}
 use Rattle.zc_outside.specs.World.{world}
 use Rattle.zcld.specs.Call.{CarriesOut, DoesWith}
@@ -40,3 +40,11 @@ returns-in-Make g c =
     let before = world (g.S.Store.shown c.args.store.now) (g.C.Console.shown c.args.console.now) in
     let after = world (g.S.Store.shown c.make.new.store) (g.C.Console.shown c.make.new.console) in
     ended _ left c.alone-in-Make.ensures.outcome (subst (λ command. DoesWith command left c.make.result before after) spelled (c.make.ensures left))
+
+pub returns-in-List : goal.returns-in-List
+returns-in-List g c =
+    let spelled : Some (Listing c.in-List.image.now) ≡ command_of (texts c.args.words.now) = search rules in
+    let left = contents_of c.alone-in-List.result.files.items in
+    let before = world (g.S.Store.shown c.args.store.now) (g.C.Console.shown c.args.console.now) in
+    let after = world (g.S.Store.shown c.list.new.store) (g.C.Console.shown c.list.new.console) in
+    ended _ left c.alone-in-List.ensures.outcome (subst (λ command. DoesWith command left c.list.result before after) spelled (c.list.ensures left))

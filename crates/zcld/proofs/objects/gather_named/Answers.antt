@@ -1,8 +1,13 @@
--- The objects can't be read, or they are gathered, or refused.
-use Rattle.std.proofs.Common.{◌∙◌, refl, sym, ap, subst, inl}
+-- What was read is refused when it is gathered. The check finds the other cases.
 use Rattle.command_words.specs.Command.{texts}
 use Rattle.psabi_sym.specs.Objects.{contents_of}
-use Rattle.zcld.specs.Objects.{EndsWithout}
+use Rattle.zcld.proofs.MakeFacts.{if_err}
 use Rattle.zcld.proofs.WithObjects.{ungathered}
 use Rattle.zcld.proofs.objects.gather_named.Goals as goal
 
+pub returns-in-Ok-clause-err : goal.returns-in-Ok-clause-err
+returns-in-Ok-clause-err g c =
+    let kept = c.in-Ok.ensures.ok in
+    if_err c.gather.result
+    (λ ending is. ungathered c.args.map (texts c.args.names.now) (contents_of ending.files.items) (g.S.Store.shown c.args.store.now) (g.S.Store.shown c.read_all.new.store) kept.files ending.outcome kept.read (is kept.files kept.kept))
+    c.gather.ensures.err

@@ -1,7 +1,7 @@
 -- The files can't be had, or one is refused, or the image ran that was read, in the map that the words gave. No line names anything,
 -- so it is the same for any files.
-use Rattle.std.proofs.Common.{◌≡◌, ◌⊎◌, ℕ, List, Some, None, Ok, Err, rules, refl, sym, ap, ◌∙◌, inl, inr, subst}
-use Rattle.std.specs.Option.{option_copied}
+use Rattle.std.proofs.Common.{◌≡◌, ℕ, List, Some, None, Ok, Err, rules, refl, sym, ap, ◌∙◌, inl, inr, subst}
+use Rattle.std.specs.Option.{option_copied, option_map}
 use Rattle.elf32_read.specs.Image.{image_fault}
 use Rattle.interrupt_plan.specs.Plan.{Entry}
 use Rattle.interrupt_plan.specs.declared.fault.PlanFault.{PlanFault}
@@ -10,13 +10,15 @@ use Rattle.zc_base.specs.declared.mem_map.MemMap.{MemMap}
 use Rattle.zc_machine.specs.Load.{first_core_of}
 use Rattle.zc_outside.specs.World.{World, world}
 use Rattle.zcld.specs.declared.outcome.Outcome.{Outcome}
-use Rattle.zcld.specs.declared.outcome.Outcome.TheVariants.{OutOfMemory}
+use Rattle.zcld.specs.declared.outcome.Outcome.TheVariants.{BadFile, OutOfMemory}
 use Rattle.zcld.specs.ErrLine.{NamesNothing, err_line}
 use Rattle.zcld.specs.Machines.{TakesAndRuns}
 use Rattle.zcld.specs.Outcome.{plan_outcome}
-use Rattle.zcld.specs.Run.{Runs, run_files, plan_of, run_refusal, run_wanted}
+use Rattle.zcld.specs.declared.outcome.FileFault.TheVariants.{Image}
+use Rattle.zcld.specs.Run.{Runs, image_refusal, run_files, plan_of, run_refusal, run_wanted}
 use Rattle.zcld.specs.Task.{UnreadCause, first_file}
 use Rattle.zcld.proofs.Refusals.{names_in_none}
+use Rattle.zcld.proofs.RunFacts.{unplanned}
 use Rattle.zcld.proofs.run.run.Goals as goal
 
 -- without a fault of the image, and with a plan that is spelled, nothing is refused
@@ -29,15 +31,6 @@ of_file :
     TakesAndRuns (Runs (first_core_of a.0 a.1) plan steps) outcome before after →
     TakesAndRuns (Runs (first_core_of b.0 b.1) plan steps) outcome before after
 of_file a b plan steps outcome before after same = subst (λ i. TakesAndRuns (Runs (first_core_of i.0 i.1) plan steps) outcome before after) same
-
--- a plan that can't be had, or is refused
-unplanned :
-    (map : MemMap) (files : List (List ℕ)) (why : PlanFault) → image_fault (first_file files) map ≡ None → (why ≡ fault.OutOfMemory) ⊎ (plan_of files ≡ Err why) →
-    (plan_outcome why ≡ OutOfMemory) ⊎ (run_refusal map files ≡ Some (plan_outcome why))
-unplanned map files (fault.BadLine number) sound cause = elim cause [ inl memory ↦ absurd (cc) | inr is ↦ inr (rw (sound, is) refl) ]
-unplanned map files (fault.OutOfOrder number) sound cause = elim cause [ inl memory ↦ absurd (cc) | inr is ↦ inr (rw (sound, is) refl) ]
-unplanned map files fault.TooLarge sound cause = elim cause [ inl memory ↦ absurd (cc) | inr is ↦ inr (rw (sound, is) refl) ]
-unplanned map files fault.OutOfMemory sound cause = inl refl
 
 -- no line about a plan names anything
 plan_names_nothing : (why : PlanFault) → NamesNothing (plan_outcome why)
@@ -95,7 +88,7 @@ returns g c = λ left.
     let after = g.S.Store.shown c.read_both.new.store in
     let wanted = run_wanted (option_copied c.args.args.plan) c.args.args.image.now in
     let sound : image_fault (first_file files) map ≡ None = subst (λ file. image_fault file map ≡ None) c.as_slice.ensures.value (search rules) in
-    elim (unplanned map files why sound c.in-Err-plan_of.ensures.err) [
+    elim (unplanned (image_refusal map (first_file files)) (plan_of files) why (ap (λ found. option_map (λ fault. BadFile (Image fault)) found) sound) c.in-Err-plan_of.ensures.err) [
       | inl memory ↦ record {
         files = left;
         line = refl;
