@@ -17,11 +17,11 @@ use Rattle.text_lines.proofs.HexLaws.{hex_byte_of-Some, hex_byte_of_is}
 use Rattle.text_lines.proofs.NumberLaws.{decimal_of-Some, number_of_is}
 use Rattle.text_lines.proofs.OptionLaws.{mapped, picked}
 use Rattle.text_lines.proofs.PlainLaws.{IsLine, IsPlain, decimal_plain, joined_line, words_again}
+use Rattle.instruction_text.proofs.CodeLaws.{code_back, code_is, code_words}
 use Rattle.instruction_text.specs.Reading.{code_spelled}
 use Rattle.instruction_text.specs.Texts.{IsMachineCode, code_text, machine_code_bytes}
 use Rattle.zc_list.specs.Listing.{Bytes, Content, Instruction, Zeros, content_line, content_text}
 use Rattle.zc_list.specs.Spelled.{bytes_of_words, content_at, content_of_words, some_bytes, zeros_of_words}
-use Rattle.zc_list.proofs.CodeLaws.{code_back, code_is, code_line, code_words}
 
 -- an instruction has its low bits, bytes are some, and numbers fit their types
 abbrev pub FitsContent : Content → Type 0
@@ -78,7 +78,7 @@ text_back : (content : Content) → FitsContent content → content_of_words (co
 unfolding content_text
 text_back (Instruction code) fits =
     let w = code_words code fits in
-    code_first (code_text code) w.0 w.1 (words_of (code_text code)) w.2 w.3 w.4 ∙ ap (option_map Instruction) (code_back code fits)
+    code_first (code_text code) w.name w.rest (words_of (code_text code)) w.words w.bytes w.zeros ∙ ap (option_map Instruction) (code_back code fits)
 text_back (Bytes bytes) fits =
     ap (content_of_words (join_with_byte 32 (codes ".byte" ∷ map hex_byte bytes))) (words_again (codes ".byte") (map hex_byte bytes) (bytes_plain bytes))
     ∙ some_back bytes fits.0 fits.1
@@ -101,7 +101,7 @@ content_is_line at content fits =
     All-append (λ b. eqb b 10 ≡ false) (hex_word at) (32 ∷ content_text content) plain (All-cons (λ b. eqb b 10 ≡ false) 32 (content_text content) refl (text_line content fits))
   where
     text_line : (content : Content) → FitsContent content → IsLine (content_text content)
-    text_line (Instruction code) fits = code_line code fits
+    text_line (Instruction code) fits = let w = code_words code fits in w.line
     text_line (Bytes bytes) fits = joined_line (codes ".byte" ∷ map hex_byte bytes) (bytes_plain bytes)
     text_line (Zeros n) fits = joined_line (codes ".zero" ∷ (decimal n ∷ [])) (zeros_plain n fits)
 

@@ -1,6 +1,5 @@
 pub mod TextLaws
 pub mod ListLaws
-pub mod CodeLaws
 pub mod ContentLaws
 pub mod SegmentLaws
 pub mod FirstLaws
