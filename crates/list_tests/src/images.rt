@@ -33,7 +33,8 @@ fn file_of(alloc: Global, code: (&str, &str), data: (&str, &str)) -> Result<Vec<
     let at = length.wrapping_add(116);
     let headers = format!(in alloc;
         "{HEADER} 00000001 00000074 00010000 00010000 {length:08x} {} 00000005 00000004
-        00000001 {at:08x} 00100000 00100000 {more:08x} {} 00000006 00000001", code.1, data.1
+        00000001 {at:08x} 00100000 00100000 {more:08x} {} 00000006 00000001",
+        code.1, data.1
     )?;
     let mut file = bytes_of_words(alloc, headers.as_str())?;
     file.extend_from_slice(&text)?;
@@ -52,7 +53,8 @@ pub fn listed(alloc: Global, given: &str) -> Result<String, Fail> {
     line_of(alloc, listing.as_slice())
 }
 
-const IMAGES: &str = "0d459308d00573000000 0000000a,  00000000 = zcld list 1/segment 00010000 10 code/00010000 c.li x10 x0 3/00010002 addi x17 x0 93/00010006 ecall/segment 00100000 0 data/end/ | three instructions
+const IMAGES: &str =
+    "0d459308d00573000000 0000000a,  00000000 = zcld list 1/segment 00010000 10 code/00010000 c.li x10 x0 3/00010002 addi x17 x0 93/00010006 ecall/segment 00100000 0 data/end/ | three instructions
 73000000019c0f10000013 00000010, 68690a 00000003 = zcld list 1/segment 00010000 16 code/00010000 ecall/00010004 .half 9c01/00010006 .word 0000100f/0001000a .byte 13/0001000b .zero 5/segment 00100000 3 data/00100000 .byte 68 69 0a/end/ | what the tables don't have, a cut word, and zeros
 0100130000 00000005, 000102030405060708090a0b0c0d0e0f10 00000013 = zcld list 1/segment 00010000 5 code/00010000 c.addi x0 x0 0/00010002 .byte 13 00 00/segment 00100000 19 data/00100000 .byte 00 01 02 03 04 05 06 07 08 09 0a 0b 0c 0d 0e 0f/00100010 .byte 10/00100011 .zero 2/end/ | rows of sixteen bytes";
 

@@ -27,7 +27,8 @@ pub fn spelled(alloc: Global, given: &str) -> Result<String, Fail> {
     }
 }
 
-const LISTINGS: &str = "zcld list 1/segment 00010000 10 code/00010000 c.li x10 x0 3/00010002 addi x17 x0 93/00010006 ecall/segment 00100000 0 data/end/ = 00010000 10 code 0d459308d00573000000; 00100000 0 data ; | three instructions
+const LISTINGS: &str =
+    "zcld list 1/segment 00010000 10 code/00010000 c.li x10 x0 3/00010002 addi x17 x0 93/00010006 ecall/segment 00100000 0 data/end/ = 00010000 10 code 0d459308d00573000000; 00100000 0 data ; | three instructions
 zcld list 1/segment 00010000 10 code/00010000 c.li x32 x0 3/00010002 addi x17 x0 93/00010006 ecall/segment 00100000 0 data/end/ = line 3 isn't one of a listing | a register that doesn't exist
 zcld list 2/segment 00010000 10 code/00010000 c.li x10 x0 3/00010002 addi x17 x0 93/00010006 ecall/segment 00100000 0 data/end/ = line 1 isn't one of a listing | each line in turn
 zcld list 1/segment 0001000 10 code/00010000 c.li x10 x0 3/00010002 addi x17 x0 93/00010006 ecall/segment 00100000 0 data/end/ = line 2 isn't one of a listing | an address of seven digits

@@ -23,7 +23,6 @@ use Rattle.instruction_text.specs.Texts.{IsMachineCode, code_text, machine_code_
 use Rattle.zc_list.specs.Listing.{Bytes, Content, Instruction, Zeros, content_line, content_text}
 use Rattle.zc_list.specs.Spelled.{bytes_of_words, content_at, content_of_words, some_bytes, zeros_of_words}
 
-
 -- an instruction has its low bits, bytes are some, and numbers fit their types
 abbrev pub FitsContent : Content → Type 0
 FitsContent (Instruction code) = IsMachineCode code

@@ -150,19 +150,21 @@ stuck_here state number line back n good same stops = record {
 
 stuck : (lines : List (List ℕ)) (line : List ℕ) (state : ListState) (number n : ℕ) → Good state → read_lines state number (line ∷ lines) ≡ Err n → Stuck state (line ∷ lines) number n
 stuck [] rest state number n good is =
-    stuck_here state number rest [] n good (ended_err state number rest n is)
-    ((λ line next more same. let size = ap length same in absurd (omega (arith, size))),
-    (λ r same segments ended none.
-    let here : rest ≡ [] = ap (λ ls. get_or ls 0 []) same ∙ none in
-    no_err segments n (sym (ap₂ (λ s t. at_end s number t) ended here) ∙ is)))
+    stuck_here state number rest [] n good (ended_err state number rest n is) (
+      (λ line next more same. let size = ap length same in absurd (omega (arith, size))),
+      (λ r same segments ended none.
+          let here : rest ≡ [] = ap (λ ls. get_or ls 0 []) same ∙ none in
+          no_err segments n (sym (ap₂ (λ s t. at_end s number t) ended here) ∙ is)),
+    )
 stuck (next ∷ lines) line state number n good is = either (λ s g h. stuck lines next s (number + 1) n g h) (after_line state line) refl is
   where
     either : ((s : ListState) → Good s → read_lines s (number + 1) (next ∷ lines) ≡ Err n → Stuck s (next ∷ lines) (number + 1) n) → (o : Option ListState) → after_line state line ≡ o
         → read_on number o (λ s. read_lines s (number + 1) (next ∷ lines)) ≡ Err n → Stuck state (line ∷ (next ∷ lines)) number n
     either later None first h =
-        stuck_here state number line (next ∷ lines) n good (same_err number n h)
-        ((λ l m more same. ap (after_line state) (sym (ap (λ ls. get_or ls 0 []) same)) ∙ first),
-        (λ rest same. let size = ap length same in absurd (omega (arith, size))))
+        stuck_here state number line (next ∷ lines) n good (same_err number n h) (
+          (λ l m more same. ap (after_line state) (sym (ap (λ ls. get_or ls 0 []) same)) ∙ first),
+          (λ rest same. let size = ap length same in absurd (omega (arith, size))),
+        )
     either later (Some s) first h =
         let k = later s (good_step state line s good first) h in
         let count = k.count in

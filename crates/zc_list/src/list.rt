@@ -23,7 +23,11 @@ fn push_first_line(text: &mut Vec<u8>, at: u64, rest: &[u8]) -> Result<usize, Al
     match rest {
         [] => Ok(0),
         [a, b, c, d, ..] if *a % 4 == 3 => {
-            push_code_line(text, at, MachineCode::Word(u32::from_le_bytes([*a, *b, *c, *d])))?;
+            push_code_line(
+                text,
+                at,
+                MachineCode::Word(u32::from_le_bytes([*a, *b, *c, *d])),
+            )?;
             Ok(4)
         }
         [a, b, ..] if *a % 4 != 3 => {
@@ -114,8 +118,7 @@ fn recall_fits(segment: Segment)
 #[inline]
 fn recall_bytes(bytes: &[u8])
     ensures { All (λ b. b < 256) bytes.now }
-{
-}
+{}
 
 /// The listing of an image's segments.
 pub fn list(alloc: Global, image: &Image) -> Result<Vec<u8>, AllocError>

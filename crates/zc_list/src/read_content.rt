@@ -95,7 +95,11 @@ fn stage_after(code: bool, bytes: &[u8]) -> Option<Stage>
     ensures { result ≡ stage_after code bytes.now }
 {
     if code {
-        if is_cut_short(bytes) { Some(Stage::Last) } else { None }
+        if is_cut_short(bytes) {
+            Some(Stage::Last)
+        } else {
+            None
+        }
     } else if bytes.len() < 16 {
         Some(Stage::Last)
     } else if bytes.len() == 16 {
@@ -124,7 +128,11 @@ fn takes_code(segment: Open) -> bool
 }
 
 // Adds an instruction, if it may stand there.
-fn add_code(segment: Open, bytes: &mut Vec<u8>, code: MachineCode) -> Result<Option<Stage>, AllocError>
+fn add_code(
+    segment: Open,
+    bytes: &mut Vec<u8>,
+    code: MachineCode,
+) -> Result<Option<Stage>, AllocError>
     ensures step { IfOk result (λ stage. (done : List SegmentData)
         → after_content done (segment_with segment.head bytes.old.items) segment.last (Instruction code)
         ≡ option_map (state_at done (segment_with segment.head bytes.new.items)) stage) }
@@ -138,10 +146,14 @@ fn add_code(segment: Open, bytes: &mut Vec<u8>, code: MachineCode) -> Result<Opt
 }
 
 // Adds the bytes that words spell, if they may stand there.
-fn add_bytes(segment: Open, bytes: &mut Vec<u8>, words: Option<&[u8]>) -> Result<Option<Stage>, AllocError>
+fn add_bytes(
+    segment: Open,
+    bytes: &mut Vec<u8>,
+    words: Option<&[u8]>,
+) -> Result<Option<Stage>, AllocError>
     ensures step { IfOk result (λ stage. (done : List SegmentData)
         → option_and_then (after_content done (segment_with segment.head bytes.old.items) segment.last)
-            (some_bytes (words_in (option_copied words.entry)))
+        (some_bytes (words_in (option_copied words.entry)))
         ≡ option_map (state_at done (segment_with segment.head bytes.new.items)) stage) }
     ensures within { IfOk result (λ stage. IfSome stage (λ _. length bytes.new.items ≤ segment.head.size)) }
 {

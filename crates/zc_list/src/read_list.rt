@@ -49,7 +49,11 @@ fn read_titled(alloc: Global, text: &[u8]) -> Result<Vec<ListSegment>, ListFault
 }
 
 // Reads segments until the line that ends the listing. What `scratch` holds is lost.
-fn read_segments(alloc: Global, scratch: &mut Vec<u8>, lines: Lines) -> Result<Vec<ListSegment>, ListFault>
+fn read_segments(
+    alloc: Global,
+    scratch: &mut Vec<u8>,
+    lines: Lines,
+) -> Result<Vec<ListSegment>, ListFault>
     requires { lines.number + length lines.rest.now < 2 ^ 32 }
     ensures ok { IfOk result (λ segments. read_left (Between []) lines.entry ≡ Ok segments.items) }
     ensures err { IfErr result (λ fault. StopsAt fault (λ n. read_left (Between []) lines.entry ≡ Err n)) }
