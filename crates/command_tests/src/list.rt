@@ -6,7 +6,8 @@ use std::test::Fail;
 // The store's call 0 reads the image. The console's call 0 writes the listing, or else a line.
 #[test]
 fn the_listing_of_an_image_is_written(rt: HostRuntime) -> Result<(), Fail> {
-    let lines = r#"list image => -- 0 5 "zcld list 1\nsegment 00010000 10 code\n00010000 c.li x10 x0 3\n00010002 addi x17 x0 93\n00010006 ecall\nsegment 00100000 0 data\nend\n" ""
+    let lines =
+        r#"list image => -- 0 5 "zcld list 1\nsegment 00010000 10 code\n00010000 c.li x10 x0 3\n00010002 addi x17 x0 93\n00010006 ecall\nsegment 00100000 0 data\nend\n" ""
 list y => -- 122 5 "" "read fault\n"
 list x => -- 125 5 "" "bad image 1\n"
 list elsewhere.elf => -- 125 5 "" "bad image 3\n"

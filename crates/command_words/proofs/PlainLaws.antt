@@ -8,7 +8,7 @@ use Rattle.clap.specs.Lexer.{usize_max}
 use Rattle.clap.specs.Simple.{App, Shape, built, help_shape}
 use Rattle.clap.specs.Walk.{Row, Text, first_of}
 use Rattle.clap.proofs.OnLiterals.{clap_on_literals}
-use Rattle.command_words.specs.Command.{Command, Meaning, Spelled, Words, check_of, command_of, found_in, gc_of, list_of, make_of, meaning, meaning_named, meanings, merge_of, plain_of, read_by_clap, run_of, share_of, trace_of, values_in, zc_of}
+use Rattle.command_words.specs.Command.{Command, Meaning, Spelled, Words, check_of, command_of, found_in, gc_of, listing_of, make_of, meaning, meaning_named, meanings, merge_of, plain_of, read_by_clap, run_of, share_of, trace_of, values_in, zc_of}
 use Rattle.command_words.specs.PlainForm.{IsReadAsPlain, is_plain_form, plain_command_of, spelled_words}
 use Rattle.command_words.specs.Table.{OptionSyntax, Syntax, check_syntax, gc_syntax, list_syntax, make_syntax, merge_syntax, one, plain_syntax, program_app, run_syntax, several, share_syntax, trace_syntax, zc_syntax}
 use Rattle.command_words.proofs.Given.{Given, all_of-given, first_of-given, lookup, rows_for, same_text}
@@ -274,9 +274,9 @@ list_words : SingleFits (sub 9).rules 1 (codes "IMAGE")
 unfolding built_app sub program_app clap_on_literals
 list_words = record { by_index = refl; by_id = refl }
 
-list_read : (words : List Text) → ReadsForm words (record { form = list_syntax; command = list_of })
+list_read : (words : List Text) → ReadsForm words (record { form = list_syntax; command = listing_of })
 list_read words =
-    form_read (record { form = list_syntax; command = list_of }) words (λ rows. refl)
+    form_read (record { form = list_syntax; command = listing_of }) words (λ rows. refl)
     (one_read (codes "list") list_syntax.options (sub 9) list_enters words (codes "IMAGE") list_leaf list_words) _ refl
 
 -- ---- all commands

@@ -131,9 +131,9 @@ share_of (Words (Some out ∷ Some plan ∷ steps ∷ []) objects) = option_map 
 share_of other = None
 
 -- `list` of its image
-abbrev pub list_of : Spelled → Option Command
-list_of (Words [] (image ∷ [])) = Some (Listing image)
-list_of other = None
+abbrev pub listing_of : Spelled → Option Command
+listing_of (Words [] (image ∷ [])) = Some (Listing image)
+listing_of other = None
 
 -- a command's syntax, and which command it is with these words
 pub record Meaning : Type 0 where
@@ -146,7 +146,7 @@ meanings =
     ∷ record { form = run_syntax; command = run_of } ∷ record { form = trace_syntax; command = trace_of }
     ∷ record { form = check_syntax; command = check_of } ∷ record { form = make_syntax; command = make_of }
     ∷ record { form = gc_syntax; command = gc_of } ∷ record { form = merge_syntax; command = merge_of }
-    ∷ record { form = share_syntax; command = share_of } ∷ record { form = list_syntax; command = list_of } ∷ []
+    ∷ record { form = share_syntax; command = share_of } ∷ record { form = list_syntax; command = listing_of } ∷ []
 
 -- the meaning of a command's name
 abbrev pub meaning_named : Text → Option Meaning

@@ -5,7 +5,7 @@ ghost use Rattle.std.specs.Option.{option_and_then, option_copied};
 ghost use Rattle.clap.specs.Matches.{found_of};
 ghost use Rattle.clap.specs.Simple.{subcommand_rows_of};
 ghost use Rattle.clap.specs.Walk.{all_of, first_of, rows_of};
-ghost use Rattle.command_words.specs.Command.{HasMap, check_of, command_of, found_in, gc_of, list_of, make_of, meaning, meant_command, merge_of, plain_of, read_by_clap, run_of, share_of, steps_given, texts, trace_of, zc_of};
+ghost use Rattle.command_words.specs.Command.{HasMap, check_of, command_of, found_in, gc_of, listing_of, make_of, meaning, meant_command, merge_of, plain_of, read_by_clap, run_of, share_of, steps_given, texts, trace_of, zc_of};
 ghost use Rattle.command_words.specs.MapWords.{address_given, map_given};
 ghost use Rattle.command_words.specs.PlainForm.{IsReadAsPlain};
 ghost use Rattle.command_words.specs.Table.{check_syntax, gc_syntax, list_syntax, make_syntax, merge_syntax, plain_syntax, program_app, run_syntax, share_syntax, trace_syntax, zc_syntax};
@@ -234,7 +234,7 @@ fn share<'a>(alloc: Global, found: &ArgMatches<'a>) -> Result<Option<CommandLine
 }
 
 fn list<'a>(found: &ArgMatches<'a>) -> Option<CommandLine<'a>>
-    ensures spells { option_map meant_command result ≡ list_of (found_in list_syntax (rows_of (found_of found.now))) }
+    ensures spells { option_map meant_command result ≡ listing_of (found_in list_syntax (rows_of (found_of found.now))) }
     ensures maps { IfSome result HasMap }
 {
     let image = value(found, "IMAGE")?;

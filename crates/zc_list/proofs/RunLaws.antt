@@ -10,7 +10,7 @@ use Rattle.elf32_read.specs.Segments.{SegmentData}
 use Rattle.text_lines.specs.Lines.{lines_of, words_of}
 use Rattle.text_lines.proofs.PlainLaws.{IsLine}
 use Rattle.zc_list.specs.Listing.{Bytes, Content, FitsSegment, Zeros, content_line, content_lines, content_size, file_contents, list_lines, list_text, segment_line, segment_lines, text_of_lines, zero_contents}
-use Rattle.zc_list.specs.Spelled.{Between, Ended, Inside, ListState, Untitled, after_content, after_line, at_end, empty_segment, inside, read_lines, read_on, segment_of_words, segments_in, with_bytes, with_room}
+use Rattle.zc_list.specs.Spelled.{Between, Ended, Inside, ListState, Untitled, after_content, after_line, at_end, empty_segment, inside, read_lines, read_on, segment_of_words, segments_in, with_bytes, fits_in_room}
 use Rattle.zc_list.proofs.ContentLaws.{FitsContent, content_back, content_is_line}
 use Rattle.zc_list.proofs.FirstLaws.{First, content_bytes, first_of_bytes, none_contents}
 use Rattle.zc_list.proofs.SegmentLaws.{segment_back, segment_is_line, segment_no_end}

@@ -19,14 +19,14 @@ is_last More = false
 is_last Last = true
 is_last Whole = false
 
-abbrev pub is_whole : Stage → Bool
-is_whole More = false
-is_whole Last = false
-is_whole Whole = true
+abbrev pub has_all_bytes : Stage → Bool
+has_all_bytes More = false
+has_all_bytes Last = false
+has_all_bytes Whole = true
 
 -- the state of a reader at a stage
 abbrev pub state_at : List SegmentData → SegmentData → Stage → ListState
-state_at done s stage = if is_whole stage then Between (done ++ s ∷ []) else inside done s (is_last stage)
+state_at done s stage = if has_all_bytes stage then Between (done ++ s ∷ []) else inside done s (is_last stage)
 
 -- what may follow the bytes of a line
 abbrev pub stage_after : Bool → List ℕ → Option Stage

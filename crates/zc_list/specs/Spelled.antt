@@ -75,8 +75,8 @@ abbrev pub inside : List SegmentData → SegmentData → Bool → ListState
 inside done s last = if length s.bytes == s.size then Between (done ++ s ∷ []) else Inside done s last
 
 -- the state with more bytes, if there is room for them
-abbrev pub with_room : List SegmentData → SegmentData → List ℕ → Bool → Option ListState
-with_room done s bytes last =
+abbrev pub fits_in_room : List SegmentData → SegmentData → List ℕ → Bool → Option ListState
+fits_in_room done s bytes last =
     if nat_le (length s.bytes + length bytes) s.size then Some (inside done (with_bytes s bytes) last) else None
 
 -- bytes that are too short for an instruction
@@ -91,14 +91,14 @@ is_cut_short (a ∷ (b ∷ (c ∷ (d ∷ bytes)))) = false
 abbrev pub after_bytes : List SegmentData → SegmentData → List ℕ → Option ListState
 after_bytes done s bytes =
     if s.code
-    then (if is_cut_short bytes then with_room done s bytes true else None)
-    else (if nat_le (length bytes) 16 then with_room done s bytes (nat_lt (length bytes) 16) else None)
+    then (if is_cut_short bytes then fits_in_room done s bytes true else None)
+    else (if nat_le (length bytes) 16 then fits_in_room done s bytes (nat_lt (length bytes) 16) else None)
 
 -- the state after what a line of a segment stands for; zeros are all that is missing
 abbrev pub after_content : List SegmentData → SegmentData → Bool → Content → Option ListState
 after_content done s last (Zeros n) = if n == s.size - length s.bytes then Some (Between (done ++ s ∷ [])) else None
 after_content done s last (Bytes bytes) = if last then None else after_bytes done s bytes
-after_content done s last (Instruction code) = if not last && s.code then with_room done s (machine_code_bytes code) false else None
+after_content done s last (Instruction code) = if not last && s.code then fits_in_room done s (machine_code_bytes code) false else None
 
 -- the state after a line, if the line may stand there
 abbrev pub after_line : ListState → List ℕ → Option ListState

@@ -7,7 +7,7 @@ ghost use Rattle.instruction_text.specs.Texts.{machine_code_bytes};
 ghost use Rattle.text_lines.specs.Hex.{hex_word};
 ghost use Rattle.text_lines.specs.Lines.{words_in};
 ghost use Rattle.zc_list.specs.Listing.{Instruction, Zeros};
-ghost use Rattle.zc_list.specs.Reader.{is_last, is_whole, segment_with, stage_after, state_at};
+ghost use Rattle.zc_list.specs.Reader.{is_last, has_all_bytes, segment_with, stage_after, state_at};
 ghost use Rattle.zc_list.specs.declared.read_content.Stage.TheVariants.{Whole};
 ghost use Rattle.zc_list.specs.Spelled.{Inside, after_content, after_line, bytes_of_words, is_cut_short, some_bytes, zeros_of_words};
 
@@ -44,8 +44,8 @@ impl Stage {
     }
 
     /// Whether no bytes may follow.
-    pub fn is_whole(self) -> bool
-        ensures { result ≡ is_whole self }
+    pub fn has_all_bytes(self) -> bool
+        ensures { result ≡ has_all_bytes self }
     {
         matches!(self, Stage::Whole)
     }
@@ -110,7 +110,7 @@ fn stage_after(code: bool, bytes: &[u8]) -> Option<Stage>
 }
 
 // A stage, if a segment has room for its bytes.
-fn with_room(head: Head, bytes: &[u8], stage: Stage) -> Option<Stage>
+fn fits_in_room(head: Head, bytes: &[u8], stage: Stage) -> Option<Stage>
     ensures { result ≡ (if nat_le (length bytes.now) head.size then Some stage else None) }
 {
     if bytes.len() <= head.size as usize {
@@ -142,7 +142,7 @@ fn add_code(
         return Ok(None);
     }
     push_code_bytes(bytes, code)?;
-    Ok(with_room(segment.head, bytes, Stage::More))
+    Ok(fits_in_room(segment.head, bytes, Stage::More))
 }
 
 // Adds the bytes that words spell, if they may stand there.
@@ -170,7 +170,7 @@ fn add_bytes(
     let Some(stage) = stage_after(segment.head.code, &bytes[start..]) else {
         return Ok(None);
     };
-    Ok(with_room(segment.head, bytes, stage))
+    Ok(fits_in_room(segment.head, bytes, stage))
 }
 
 // The number that words spell, if it is the only one.

@@ -47,7 +47,7 @@ fn read_bytes<'a>(
         };
         rest = behind;
         number += 1;
-        if stage.is_whole() {
+        if stage.has_all_bytes() {
             return Ok(Lines { rest, number });
         }
         last = stage.is_last();

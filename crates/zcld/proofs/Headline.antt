@@ -167,8 +167,8 @@ module _ (before after : World) where
   holds_shared out plan steps names outcome ends f g told tells calls =
       let command_task = task_of (Share out plan steps names) in
       let worked =
-          has_worked command_task (ShareWork out steps) calls.files outcome before calls.left (ended_had outcome ends command_task.wanted before.shelf calls.left.shelf)
-          (ended_accepted outcome ends calls.files) calls.does in
+      has_worked command_task (ShareWork out steps) calls.files outcome before calls.left (ended_had outcome ends command_task.wanted before.shelf calls.left.shelf)
+      (ended_accepted outcome ends calls.files) calls.does in
       elim worked.work [
         | inl lack ↦ absurd (ended_not_memory outcome ends lack.0)
         | inr work ↦
@@ -176,8 +176,7 @@ module _ (before after : World) where
             let there : calls.left.shelf.files ≡ Some g = sym (ap (λ s. s.files) calls.line.shelf) ∙ tells in
             let put : PutsFile worked.between.shelf.files (Some g) out work.link.elf =
             subst (λ b. PutsFile worked.between.shelf.files b out work.link.elf) there (ended_put outcome ends out work.link.elf _ steps worked.between calls.left work.run) in
-            let were : AreRead (Some f) (share_wanted plan names) calls.files = subst (λ a. AreRead a (share_wanted plan names) calls.files) told worked.read in
-            (
+            let were : AreRead (Some f) (share_wanted plan names) calls.files = subst (λ a. AreRead a (share_wanted plan names) calls.files) told worked.read in (
               objects_before calls.files,
               work.link.elf,
               stood f OBJECT_LIMIT names (objects_before calls.files) (objects_read f OBJECT_LIMIT plan names calls.files were),

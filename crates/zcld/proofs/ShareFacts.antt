@@ -90,7 +90,7 @@ module _ (out plan : List ℕ) (steps : ℕ) (names : List (List ℕ)) where
         elim (ended_ends task (EndsRun first happens steps input) end_outcome (end_of_run first happens steps input) outcome (world put.between before.desk) after put.does) [
           | inl answer ↦ inl answer
           | inr fault ↦ inr (faulted_later task outcome before (world put.between before.desk) after (put_moves before put.between put.only)
-            (λ sure. record { store = put.only.sure ∙ sure.store; console = sure.console; input = sure.input }) fault)
+              (λ sure. record { store = put.only.sure ∙ sure.store; console = sure.console; input = sure.input }) fault)
         ]
 
     run_put_moves : (outcome : Outcome) (before after : World) → PutsAndRuns out image happens steps input outcome before after → Moves before after
@@ -172,8 +172,8 @@ module _ (out plan : List ℕ) (steps : ℕ) (names : List (List ℕ)) where
     shared_ran left outcome shared end nothing ready ran =
         let inputs_are : share_inputs files ≡ inputs_in standard_map objects = ap (inputs_in standard_map) (objects_are objects text) in
         let happens_are : shared_by shared.ranges.items shared.plan ≡ shared_by (shared_ranges (parsed (share_inputs files))) shared.plan =
-            sym (any_order (shared_ranges (parsed (inputs_in standard_map objects))) shared.ranges.items ready.ranges shared.plan)
-            ∙ ap (λ (is : Inputs). shared_by (shared_ranges (parsed is)) shared.plan) (sym inputs_are) in
+        sym (any_order (shared_ranges (parsed (inputs_in standard_map objects))) shared.ranges.items ready.ranges shared.plan)
+        ∙ ap (λ (is : Inputs). shared_by (shared_ranges (parsed is)) shared.plan) (sym inputs_are) in
         let linked : IsZcLink (share_inputs files) ready.link = subst (λ is. IsZcLink is ready.link) (sym inputs_are) ready.linked in
         record {
           files = files;

@@ -20,4 +20,4 @@ returns-clause-step c = λ done.
     (c.in_ok-push_words.ensures ∙ cond-true c.in_ok-push_words.field-0 (Some new) None all)
     c.if-segment.false
     (ap₂ (λ bs k. stage_after head.code (take (length bs - k) (drop k bs))) (sym c.deref.ensures.value) start ∙ sym c.in-Some-stage_after.ensures)
-    ∙ ap (option_map (state_at done (segment_with head new))) (sym (c.with_room.ensures ∙ ap (λ bs. cond (leb (length bs) head.size) (Some stage) None) c.deref-2.ensures.value))
+    ∙ ap (option_map (state_at done (segment_with head new))) (sym (c.fits_in_room.ensures ∙ ap (λ bs. cond (leb (length bs) head.size) (Some stage) None) c.deref-2.ensures.value))

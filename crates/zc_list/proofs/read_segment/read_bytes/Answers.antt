@@ -20,8 +20,8 @@ returns-in_default-2-clause-err c = λ done.
     ∙ line_bad (Inside done s last) number rest c.in-Some.line.now c.in-Some.behind.now c.in-Some.ensures.lines
     (c.in_ok-stage.ensures.step done ∙ ap (option_map (state_at done (segment_with head c.read_content.new.bytes.items))) c.in_default-2.is)
 
-pub returns-then-is_whole-clause-ok : goal.returns-then-is_whole-clause-ok
-returns-then-is_whole-clause-ok c = λ done.
+pub returns-then-has_all_bytes-clause-ok : goal.returns-then-has_all_bytes-clause-ok
+returns-then-has_all_bytes-clause-ok c = λ done.
     let head = c.args.head in
     let s = segment_with head c.loop-head.bytes.items in
     let t = segment_with head c.read_content.new.bytes.items in
@@ -32,7 +32,7 @@ returns-then-is_whole-clause-ok c = λ done.
     c.loop-head.invariant.so_far done
     ∙ ap (λ state. read_lines state number (lines_of rest)) (is_open done s last missing)
     ∙ line_good (Inside done s last) (Between (done ++ (t ∷ []))) number rest c.in-Some.line.now c.in-Some.behind.now c.in-Some.ensures.lines
-    (c.in_ok-stage.ensures.step done ∙ ap (option_map (state_at done t)) c.in-Some-2.is ∙ ap Some (whole_state done t c.in-Some-2.stage (sym c.if-is_whole.ensures)))
+    (c.in_ok-stage.ensures.step done ∙ ap (option_map (state_at done t)) c.in-Some-2.is ∙ ap Some (whole_state done t c.in-Some-2.stage (sym c.if-has_all_bytes.ensures)))
 
 pub loop-head-preserved : goal.loop-head-preserved
 loop-head-preserved c =
@@ -52,7 +52,7 @@ loop-head-preserved c =
           c.loop-head.invariant.so_far done
           ∙ ap (λ state. read_lines state number (lines_of rest)) (is_open done s last missing)
           ∙ line_good (Inside done s last) (inside done t (is_last stage)) number rest c.in-Some.line.now behind c.in-Some.ensures.lines
-          (c.in_ok-stage.ensures.step done ∙ ap (option_map (state_at done t)) c.in-Some-2.is ∙ ap Some (open_state done t stage (sym c.if-is_whole.ensures)))
+          (c.in_ok-stage.ensures.step done ∙ ap (option_map (state_at done t)) c.in-Some-2.is ∙ ap Some (open_state done t stage (sym c.if-has_all_bytes.ensures)))
           ∙ ap (λ l. read_lines (inside done t l) (number + 1) (lines_of behind)) (sym c.is_last-last.ensures);
       within = subst (λ o. IfSome o (λ _. length c.read_content.new.bytes.items ≤ head.size)) c.in-Some-2.is c.in_ok-stage.ensures.within;
       shorter = omega (arith, line, parts, c.loop-head.invariant.shorter);

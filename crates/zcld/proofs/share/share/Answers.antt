@@ -89,8 +89,8 @@ returns g c =
     let after = world (g.S.Store.shown c.read_files.new.store) desk in
     let left = contents_of c.alone-in-Err-shared_image.result.files.items in
     let why =
-        subst (λ t. (outcome ≡ OutOfMemory) ⊎ (option_or (refused_for (first_fault (inputs_in standard_map read.0))) (plan_refusal (shared_in t)) ≡ Some outcome)) c.as_slice.ensures.value
-        (subst (λ (is : Inputs). (outcome ≡ OutOfMemory) ⊎ (option_or (refused_for (first_fault is)) (plan_refusal (shared_in c.as_slice.result.now)) ≡ Some outcome)) same c.in-Err-shared_image.ensures.err) in
+    subst (λ t. (outcome ≡ OutOfMemory) ⊎ (option_or (refused_for (first_fault (inputs_in standard_map read.0))) (plan_refusal (shared_in t)) ≡ Some outcome)) c.as_slice.ensures.value
+    (subst (λ (is : Inputs). (outcome ≡ OutOfMemory) ⊎ (option_or (refused_for (first_fault is)) (plan_refusal (shared_in c.as_slice.result.now)) ≡ Some outcome)) same c.in-Err-shared_image.ensures.err) in
     subst (λ (outcome : Outcome). DoesWith (Some (share_meant args)) left outcome before after) (sym c.alone-in-Err-shared_image.ensures.outcome)
     (unshared_files args.out.now args.plan.now args.steps (texts args.objects.items) read.0 text before after (record { shelf = c.read_files.ensures.reads; desk = refl }) read.2
     left outcome c.in-Err-shared_image.ensures.line why)
