@@ -11,4 +11,6 @@ mod objects;
 #[cfg(test)]
 mod plans;
 #[cfg(test)]
+mod ranges;
+#[cfg(test)]
 mod row;
