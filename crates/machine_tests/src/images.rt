@@ -181,6 +181,40 @@ fn an_interrupted_push_or_pop_starts_again(rt: HostRuntime) -> Result<(), Fail> 
     Ok(())
 }
 
+// What is left by a byte that is written from outside, by its address: in and beside four bytes of data, in code, and at
+// the ends of the stack. First the data, and then the first and last byte of the stack.
+const POKES: &str = "
+at 000FFFFF | left [1, 2, 3, 4] [0] [0]
+at 00100000 | left [238, 2, 3, 4] [0] [0]
+at 00100003 | left [238, 2, 3, 238] [0] [0]
+at 00100004 | left [238, 2, 3, 238] [0] [0]
+at 00010000 | left [238, 2, 3, 238] [0] [0]
+at 0FF00000 | left [238, 2, 3, 238] [0] [0]
+at 0FFFFFFF | left [238, 2, 3, 238] [0] [0]
+at FFFFFFFF | left [238, 2, 3, 238] [0] [0]";
+
+// Writes the byte of a row, and returns what is left.
+fn poked(alloc: Global, machine: &mut Machine, row: &str) -> Result<String, Fail> {
+    machine.poke(u32::from_str_radix(column(row, "at"), 16)?, 0xEE);
+    let data = machine.piece(0x0010_0000, 4).ok_or("no data")?;
+    let first = machine.piece(0x0FF0_0000, 1).ok_or("no stack")?;
+    let last = machine.piece(0x0FFF_FFFF, 1).ok_or("no stack")?;
+    Ok(format!(in alloc; "{data:?} {first:?} {last:?}")?)
+}
+
+#[test]
+fn a_byte_from_outside_is_written_to_data_alone(rt: HostRuntime) -> Result<(), Fail> {
+    let mut machine = load_with(rt.alloc(), "4525", "00100000 00000004 0 01 02 03 04;")?;
+    for row in POKES.trim().lines() {
+        let left = poked(rt.alloc(), &mut machine, row)?;
+        assert_eq!(rt; left.as_str(), column(row, "left"), "{row}");
+    }
+    // The text is still c.li a0,9.
+    go(&mut machine, 1);
+    assert_eq!(rt; machine.register(Reg::new(10).ok_or("no register")?), 9);
+    Ok(())
+}
+
 // Makes a step, and returns its result as text.
 fn step_text(alloc: Global, machine: &mut Machine) -> Result<String, AllocError> {
     if machine.commits() >= 9 {

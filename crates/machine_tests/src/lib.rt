@@ -11,6 +11,8 @@ mod objects;
 #[cfg(test)]
 mod plans;
 #[cfg(test)]
+mod ranges;
+#[cfg(test)]
 mod row;
 #[cfg(test)]
 mod shared_plans;
