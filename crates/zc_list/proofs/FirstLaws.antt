@@ -1,10 +1,10 @@
 -- The lines of a segment's bytes begin with the line of its first bytes, and go on with the lines of the others.
-use Rattle.std.proofs.Common.{◌≡◌, ◌⊎◌, ℕ, zero, suc, ◌+◌, ◌-◌, ◌*◌, ◌/◌, ◌%◌, ◌^◌, ◌<◌, ◌≤◌, Some, None, Bool, true, false, cond, Option, List, [], ◌∷◌, ◌++◌, length, take, drop, eqb, ltb, leb, eqb-true, eq-eqb, inl, inr, refl, sym, ap, ap₂, subst, ◌∙◌, arith, append-nil, length-append}
-use Rattle.std.specs.Prelude.{All, not, ◌&&◌, ◌==◌}
+use Rattle.std.proofs.Common.{◌≡◌, ◌⊎◌, ℕ, zero, suc, ◌+◌, ◌-◌, ◌*◌, ◌/◌, ◌%◌, ◌^◌, ◌<◌, ◌≤◌, Some, None, Bool, true, false, cond, List, [], ◌∷◌, ◌++◌, length, take, drop, eqb, ltb, leb, eqb-true, eq-eqb, inl, inr, refl, sym, ap, ap₂, subst, ◌∙◌, arith, append-nil, length-append}
+use Rattle.std.specs.Prelude.{All, not, ◌&&◌}
 use Rattle.std.proofs.Math.Seq.{drop-append_seam, take-append_seam}
 use Rattle.std.proofs.lemmas.Bool.{and_parts, cases_lt, cond-false, cond-true, eqb-false, le-leb, leb-true, lt-ltb, ltb-true, ne_eqb, not-true}
 use Rattle.std.proofs.lemmas.List.{drop_all, length-take, take-append-drop, take_all}
-use Rattle.std.proofs.lemmas.List.Elements.{All-drop, All-from_recursion, All-head, All-tail, All-take}
+use Rattle.std.proofs.lemmas.List.Elements.{All-from_recursion, All-head, All-tail, All-take}
 use Rattle.std.proofs.lemmas.Option.{cond_some, none-some}
 use Rattle.text_lines.proofs.OptionLaws.{picked}
 use Rattle.elf32_read.specs.Segments.{SegmentData}
@@ -12,7 +12,7 @@ use Rattle.instruction_text.specs.Texts.{IsMachineCode, machine_code_bytes}
 use Rattle.instruction_text.specs.declared.machine_code.MachineCode.{MachineCode}
 use Rattle.instruction_text.specs.declared.machine_code.MachineCode.TheVariants.{Half, Word}
 use Rattle.zc_list.specs.Listing.{Bytes, Content, Instruction, Zeros, code_contents, content_size, file_contents, half_code, sixteens, word_code}
-use Rattle.zc_list.specs.Spelled.{Between, ListState, after_bytes, after_content, inside, is_cut_short, with_bytes, with_room}
+use Rattle.zc_list.specs.Spelled.{Between, ListState, after_content, inside, is_cut_short, with_bytes, with_room}
 use Rattle.zc_list.proofs.ContentLaws.{FitsContent}
 
 -- the bytes from the file that a line stands for

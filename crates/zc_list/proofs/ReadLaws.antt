@@ -1,7 +1,7 @@
 -- What the reader's functions find out about a line.
-use Rattle.std.proofs.Common.{◌≡◌, ◌⊎◌, ℕ, ◌+◌, ◌-◌, ◌<◌, ◌≤◌, Some, None, Ok, Err, Bool, true, false, cond, Option, Result, List, [], ◌∷◌, ◌++◌, length, take, drop, eqb, eqb-true, eq-eqb, ltb, leb, refl, sym, ap, ap₂, subst, ◌∙◌, arith, length-append}
+use Rattle.std.proofs.Common.{◌≡◌, ℕ, ◌+◌, ◌-◌, ◌<◌, Some, None, Ok, Err, Bool, true, false, cond, Option, Result, List, [], ◌∷◌, ◌++◌, length, take, drop, eqb, eqb-true, eq-eqb, ltb, leb, refl, sym, ap, ap₂, subst, ◌∙◌, arith, length-append}
 use Rattle.std.specs.Prelude.{IfOk, bytes_eq, codes}
-use Rattle.std.specs.List.{slice_split, join_with_byte}
+use Rattle.std.specs.List.{join_with_byte}
 use Rattle.std.specs.Option.{option_and_then, option_map}
 use Rattle.std.proofs.lemmas.Bool.{cond-false, cond-true, eqb-false, false_from_ne_true, leb-true, le-leb, ltb-false, ltb-true, ne_eqb}
 use Rattle.std.proofs.Math.Seq.{drop-append_seam}
@@ -18,7 +18,7 @@ use Rattle.text_lines.proofs.OptionLaws.{mapped}
 use Rattle.text_lines.proofs.SplitLaws.{some_part}
 use Rattle.zc_list.specs.Listing.{Bytes, Content, Instruction, Zeros}
 use Rattle.zc_list.specs.Reader.{is_last, is_whole, segment_with, stage_after, state_at}
-use Rattle.zc_list.specs.Spelled.{Between, Ended, Inside, ListState, Untitled, after_bytes, after_content, after_line, at_end, bytes_of_words, content_at, content_of_words, inside, is_cut_short, read_lines, read_on, segments_in, some_bytes, with_bytes, with_room, zeros_of_words}
+use Rattle.zc_list.specs.Spelled.{Between, Ended, Inside, ListState, after_bytes, after_content, after_line, bytes_of_words, content_at, content_of_words, inside, is_cut_short, read_lines, read_on, some_bytes, with_room, zeros_of_words}
 use Rattle.zc_list.specs.declared.read_content.Stage.{Stage}
 use Rattle.zc_list.specs.declared.read_content.Stage.TheVariants.{Last, More, Whole}
 use Rattle.zc_list.specs.declared.read_head.Head.{Head}
