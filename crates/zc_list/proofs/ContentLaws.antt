@@ -1,5 +1,5 @@
 -- The line of an instruction, of bytes or of zeros spells it, and no other line does.
-use Rattle.std.proofs.Common.{◌≡◌, ℕ, ◌+◌, ◌/◌, ◌%◌, ◌^◌, ◌<◌, ◌≤◌, Some, None, Bool, true, false, cond, Option, List, [], ◌∷◌, ◌++◌, map, length, take, drop, get_or, eqb, ltb, refl, sym, ap, ap₂, subst, ◌∙◌, arith, lit<}
+use Rattle.std.proofs.Common.{◌≡◌, ℕ, ◌+◌, ◌/◌, ◌%◌, ◌^◌, ◌<◌, Some, None, Bool, true, false, cond, List, [], ◌∷◌, ◌++◌, map, length, take, drop, eqb, ltb, refl, sym, ap, ap₂, subst, ◌∙◌, arith, lit<}
 use Rattle.std.specs.Prelude.{All, bytes_eq, codes}
 use Rattle.std.specs.Fmt.{decimal}
 use Rattle.std.specs.List.{join_with_byte}
@@ -8,7 +8,7 @@ use Rattle.std.proofs.lemmas.Bool.{cond_both, cond-false, cond-true, ne_eqb}
 use Rattle.std.proofs.lemmas.List.{length-map, take-append-drop}
 use Rattle.std.proofs.lemmas.List.Elements.{All-append, All-cons, All-from_recursion, All-head, All-map, All-nil, All-tail, All-weaker}
 use Rattle.std.proofs.lemmas.List.Splits.{join_with_byte-slice_split}
-use Rattle.std.proofs.lemmas.Option.{cond_some, none-some, option_and_then_some, same_Some}
+use Rattle.std.proofs.lemmas.Option.{none-some, option_and_then_some, same_Some}
 use Rattle.std.proofs.lemmas.Slice.Eq.{bytes_eq-Decides}
 use Rattle.text_lines.specs.Hex.{hex_byte, hex_digit, hex_word}
 use Rattle.text_lines.specs.Lines.{words_of}
@@ -19,7 +19,7 @@ use Rattle.text_lines.proofs.OptionLaws.{mapped, picked}
 use Rattle.text_lines.proofs.PlainLaws.{IsLine, IsPlain, decimal_plain, joined_line, words_again}
 use Rattle.instruction_text.proofs.CodeLaws.{code_back, code_is, code_words}
 use Rattle.instruction_text.specs.Reading.{code_spelled}
-use Rattle.instruction_text.specs.Texts.{IsMachineCode, code_text, machine_code_bytes}
+use Rattle.instruction_text.specs.Texts.{IsMachineCode, code_text}
 use Rattle.zc_list.specs.Listing.{Bytes, Content, Instruction, Zeros, content_line, content_text}
 use Rattle.zc_list.specs.Spelled.{bytes_of_words, content_at, content_of_words, some_bytes, zeros_of_words}
 

@@ -1,8 +1,8 @@
 -- A text that is read as segments is their listing.
-use Rattle.std.proofs.Common.{◌≡◌, ◌⊎◌, ℕ, ◌+◌, ◌-◌, ◌^◌, ◌<◌, ◌≤◌, Some, None, Ok, Err, Bool, true, false, cond, Option, Result, List, [], ◌∷◌, ◌++◌, length, eqb, eqb-true, inl, inr, refl, sym, ap, ap₂, subst, ◌∙◌, arith, append_assoc, append-nil, length-append}
+use Rattle.std.proofs.Common.{◌≡◌, ◌⊎◌, ℕ, ◌+◌, ◌^◌, ◌<◌, ◌≤◌, Some, None, Ok, Err, Bool, true, false, cond, Option, Result, List, [], ◌∷◌, ◌++◌, length, eqb, eqb-true, inl, inr, refl, sym, ap, ap₂, subst, ◌∙◌, arith, append_assoc, append-nil, length-append}
 use Rattle.std.specs.Prelude.{All, bytes_eq, codes, flat_map}
 use Rattle.std.specs.List.{join_with_byte}
-use Rattle.std.specs.Option.{option_and_then, option_map}
+use Rattle.std.specs.Option.{option_map}
 use Rattle.std.proofs.lemmas.Bool.{eqb-false}
 use Rattle.std.proofs.lemmas.List.Elements.{All-append, All-cons, All-nil}
 use Rattle.std.proofs.lemmas.List.Splits.{join_with_byte-slice_split}
@@ -11,7 +11,7 @@ use Rattle.std.proofs.lemmas.Slice.Eq.{bytes_eq-Decides}
 use Rattle.elf32_read.specs.Segments.{SegmentData}
 use Rattle.text_lines.specs.Lines.{lines_of, words_of}
 use Rattle.text_lines.proofs.OptionLaws.{mapped}
-use Rattle.zc_list.specs.Listing.{Content, FitsSegment, IsListText, Zeros, content_line, content_lines, content_size, file_contents, list_lines, list_text, segment_line, segment_lines, text_of_lines, zero_contents}
+use Rattle.zc_list.specs.Listing.{Content, FitsSegment, IsListText, content_line, content_lines, content_size, file_contents, list_lines, list_text, segment_line, segment_lines, text_of_lines}
 use Rattle.zc_list.specs.Spelled.{Between, Ended, Inside, ListState, Untitled, after_content, after_line, at_end, content_at, inside, read_lines, read_on, segment_of_words, segments_in, with_bytes}
 use Rattle.zc_list.proofs.ContentLaws.{content_is}
 use Rattle.zc_list.proofs.FirstLaws.{Took, TookZeros, content_bytes, none_contents, taken}

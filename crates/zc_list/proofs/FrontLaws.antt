@@ -1,11 +1,11 @@
 -- The first bad line of a text is the first that no listing has after the lines before it.
-use Rattle.std.proofs.Common.{◌≡◌, ◌⊎◌, ℕ, zero, suc, ◌+◌, ◌-◌, ◌^◌, ◌<◌, ◌≤◌, Some, None, Ok, Err, Bool, true, false, cond, Option, Result, List, [], ◌∷◌, ◌++◌, length, get_or, drop, eqb, inl, inr, refl, sym, ap, ap₂, subst, ◌∙◌, arith, append_assoc}
-use Rattle.std.specs.Prelude.{All, bytes_eq, codes, flat_map}
-use Rattle.std.specs.List.{join_with_byte, onto_first, slice_split}
+use Rattle.std.proofs.Common.{◌≡◌, ℕ, suc, ◌+◌, ◌-◌, Some, None, Ok, Err, Bool, true, false, cond, Option, Result, List, [], ◌∷◌, ◌++◌, length, get_or, drop, eqb, refl, sym, ap, ap₂, subst, ◌∙◌, arith, append_assoc}
+use Rattle.std.specs.Prelude.{All, bytes_eq, codes}
+use Rattle.std.specs.List.{join_with_byte, onto_first}
 use Rattle.std.specs.Option.{option_and_then}
-use Rattle.std.proofs.lemmas.Bool.{cond-true, eqb-true, ne_eqb}
+use Rattle.std.proofs.lemmas.Bool.{ne_eqb}
 use Rattle.std.proofs.lemmas.Grind.{flat_map-append}
-use Rattle.std.proofs.lemmas.List.Elements.{All-cons, All-head, All-nil, All-same, All-tail}
+use Rattle.std.proofs.lemmas.List.Elements.{All-cons, All-head, All-nil, All-tail}
 use Rattle.std.proofs.lemmas.List.Splits.{join_with_byte-slice_split}
 use Rattle.std.proofs.lemmas.Option.{none-some, option_and_then_some, same_Some}
 use Rattle.elf32_read.specs.Segments.{SegmentData}
@@ -13,8 +13,8 @@ use Rattle.text_lines.specs.Lines.{lines_of}
 use Rattle.text_lines.proofs.PlainLaws.{IsLine}
 use Rattle.text_lines.proofs.SplitLaws.{some_part}
 use Rattle.zc_list.specs.Fault.{IsFirstBad, StartsListing, front}
-use Rattle.zc_list.specs.Listing.{FitsSegment, list_lines, list_text, text_of_lines}
-use Rattle.zc_list.specs.Spelled.{Between, Ended, Inside, ListState, Untitled, after_line, at_end, inside, read_lines, read_on, segments_in}
+use Rattle.zc_list.specs.Listing.{list_lines, list_text, text_of_lines}
+use Rattle.zc_list.specs.Spelled.{Between, Ended, Inside, ListState, Untitled, after_line, at_end, read_lines, read_on, segments_in}
 use Rattle.zc_list.proofs.ExactLaws.{Good, good_step, run_is_list}
 use Rattle.zc_list.proofs.RunLaws.{list_are_lines, run, run_list, run_more, run_zeros, zero_lines}
 

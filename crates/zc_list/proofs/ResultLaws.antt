@@ -1,5 +1,5 @@
 -- What the results of reading a text mean for the text.
-use Rattle.std.proofs.Common.{◌≡◌, ℕ, Some, None, Ok, Err, Bool, true, false, cond, Result, List, [], ◌∷◌, eqb, refl, sym, ap, subst, ◌∙◌}
+use Rattle.std.proofs.Common.{◌≡◌, ℕ, Some, None, Ok, Err, true, false, Result, List, [], ◌∷◌, refl, sym, ap, ◌∙◌}
 use Rattle.std.specs.Prelude.{IfErr, IfOk, MatchResult, bytes_eq, codes}
 use Rattle.std.specs.Option.{option_map}
 use Rattle.std.proofs.lemmas.Bool.{cond-false, cond-true}
@@ -8,7 +8,7 @@ use Rattle.text_lines.specs.Lines.{lines_of, words_of}
 use Rattle.zc_list.specs.Fault.{IsListFault, bad_line, memory}
 use Rattle.zc_list.specs.Listing.{IsListText}
 use Rattle.zc_list.specs.Reader.{StopsAt, segment_with}
-use Rattle.zc_list.specs.Spelled.{Between, Ended, ListState, Untitled, after_line, inside, read_lines, segment_of_words, segments_in}
+use Rattle.zc_list.specs.Spelled.{Between, Ended, Untitled, after_line, inside, read_lines, segment_of_words, segments_in}
 use Rattle.zc_list.specs.declared.fault.ListFault.{ListFault}
 use Rattle.zc_list.specs.declared.fault.ListFault.TheVariants.{BadLine, OutOfMemory, TooLarge}
 use Rattle.zc_list.specs.declared.read_head.Head.{Head}

@@ -1,5 +1,5 @@
 -- The lines of a listing are read as the segments that they list.
-use Rattle.std.proofs.Common.{◌≡◌, ℕ, zero, suc, ◌+◌, ◌-◌, ◌^◌, ◌<◌, ◌≤◌, Some, None, Ok, Err, Bool, true, false, cond, Option, Result, List, [], ◌∷◌, ◌++◌, length, eqb, eqb-true, eq-eqb, refl, sym, ap, ap₂, subst, ◌∙◌, arith, append_assoc, append-nil, length-append}
+use Rattle.std.proofs.Common.{◌≡◌, ℕ, zero, suc, ◌+◌, ◌-◌, ◌^◌, ◌<◌, ◌≤◌, Some, None, Ok, Bool, true, false, cond, Option, List, [], ◌∷◌, ◌++◌, length, eqb, eqb-true, eq-eqb, refl, sym, ap, ap₂, subst, ◌∙◌, arith, append_assoc, append-nil, length-append}
 use Rattle.std.specs.Prelude.{All, codes, flat_map}
 use Rattle.std.specs.Option.{option_and_then, option_map}
 use Rattle.std.proofs.lemmas.Bool.{cond-false, cond-true, eqb-false, false_from_ne_true, le-leb, ne_eqb}
@@ -9,10 +9,10 @@ use Rattle.std.proofs.lemmas.Option.{option_and_then_some, same_Some}
 use Rattle.elf32_read.specs.Segments.{SegmentData}
 use Rattle.text_lines.specs.Lines.{lines_of, words_of}
 use Rattle.text_lines.proofs.PlainLaws.{IsLine}
-use Rattle.zc_list.specs.Listing.{Bytes, Content, FitsSegment, Zeros, content_line, content_lines, content_size, file_contents, list_lines, list_text, segment_line, segment_lines, text_of_lines, zero_contents}
-use Rattle.zc_list.specs.Spelled.{Between, Ended, Inside, ListState, Untitled, after_content, after_line, at_end, empty_segment, inside, read_lines, read_on, segment_of_words, segments_in, with_bytes, fits_in_room}
+use Rattle.zc_list.specs.Listing.{Content, FitsSegment, Zeros, content_line, content_lines, content_size, file_contents, list_lines, list_text, segment_line, segment_lines, text_of_lines, zero_contents}
+use Rattle.zc_list.specs.Spelled.{Between, Ended, Inside, ListState, Untitled, after_content, after_line, at_end, empty_segment, inside, read_lines, read_on, segment_of_words, segments_in, with_bytes}
 use Rattle.zc_list.proofs.ContentLaws.{FitsContent, content_back, content_is_line}
-use Rattle.zc_list.proofs.FirstLaws.{First, content_bytes, first_of_bytes, none_contents}
+use Rattle.zc_list.proofs.FirstLaws.{content_bytes, first_of_bytes, none_contents}
 use Rattle.zc_list.proofs.SegmentLaws.{segment_back, segment_is_line, segment_no_end}
 
 -- ---- lines, one after another

@@ -1,5 +1,5 @@
 -- What each fault of a listing's text means.
-use Rattle.std.specs.Prelude.{◌≡◌, ◌≢◌, ◌<◌, ◌≤◌, ℕ, zero, suc, ◌-◌, ◌==◌, if◌then◌else◌, List, [], ◌∷◌, length, All, Err}
+use Rattle.std.specs.Prelude.{◌≡◌, ◌<◌, ℕ, zero, suc, ◌-◌, ◌==◌, if◌then◌else◌, List, [], ◌∷◌, length, All, Err}
 use Rattle.elf32_read.specs.Segments.{SegmentData}
 use Rattle.zc_list.specs.Listing.{FitsSegment, list_text}
 use Rattle.zc_list.specs.Spelled.{segments_in}

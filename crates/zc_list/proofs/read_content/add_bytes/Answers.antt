@@ -1,4 +1,4 @@
-use Rattle.std.proofs.Common.{◌≡◌, ◌∙◌, ◌++◌, ◌-◌, ap, ap₂, sym, arith, rules, cond, leb, length, take, drop, Some, None, true}
+use Rattle.std.proofs.Common.{◌≡◌, ◌∙◌, ◌-◌, ap, ap₂, sym, arith, rules, cond, leb, length, take, drop, Some, None, true}
 use Rattle.std.specs.Option.{option_and_then, option_copied, option_map}
 use Rattle.std.proofs.lemmas.Bool.{cond-true, not-false}
 use Rattle.text_lines.specs.Lines.{words_in}

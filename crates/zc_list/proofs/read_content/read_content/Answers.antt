@@ -1,10 +1,10 @@
 use Rattle.std.proofs.Common.{◌≡◌, ◌∙◌, ◌+◌, ◌-◌, ap, sym, arith, cond, eqb, length, Some, None}
 use Rattle.std.specs.Prelude.{bytes_eq}
-use Rattle.std.specs.Option.{option_and_then, option_copied, option_map}
+use Rattle.std.specs.Option.{option_copied, option_map}
 use Rattle.text_lines.specs.Lines.{words_in}
 use Rattle.zc_list.specs.Listing.{Instruction, Zeros}
 use Rattle.zc_list.specs.Reader.{segment_with, state_at}
-use Rattle.zc_list.specs.Spelled.{after_content, some_bytes}
+use Rattle.zc_list.specs.Spelled.{some_bytes}
 use Rattle.zc_list.specs.declared.read_content.Stage.TheVariants.{Whole}
 use Rattle.zc_list.proofs.ReadLaws.{carried, found_bytes, found_code, found_zeros, step_found, step_none, zeros_law}
 use Rattle.zc_list.proofs.read_content.read_content.Goals as goal
