@@ -12,7 +12,7 @@ use Rattle.instruction_text.specs.Texts.{IsMachineCode, machine_code_bytes}
 use Rattle.instruction_text.specs.declared.machine_code.MachineCode.{MachineCode}
 use Rattle.instruction_text.specs.declared.machine_code.MachineCode.TheVariants.{Half, Word}
 use Rattle.zc_list.specs.Listing.{Bytes, Content, Instruction, Zeros, code_contents, content_size, file_contents, half_code, sixteens, word_code}
-use Rattle.zc_list.specs.Spelled.{Between, ListState, after_content, inside, is_cut_short, with_bytes, with_room}
+use Rattle.zc_list.specs.Spelled.{Between, ListState, after_content, inside, is_cut_short, with_bytes, fits_in_room}
 use Rattle.zc_list.proofs.ContentLaws.{FitsContent}
 
 -- the bytes from the file that a line stands for
@@ -94,7 +94,7 @@ pub record First (code : Bool) (bytes : List ℕ) : Type 0 where
   pub size : content_size content ≡ length (content_bytes content)
   pub same : bytes ≡ content_bytes content ++ rest
   pub next : file_contents code bytes ≡ content ∷ file_contents code rest
-  pub after : (done : List SegmentData) (s : SegmentData) → s.code ≡ code → after_content done s false content ≡ with_room done s (content_bytes content) last
+  pub after : (done : List SegmentData) (s : SegmentData) → s.code ≡ code → after_content done s false content ≡ fits_in_room done s (content_bytes content) last
   pub ended : last ≡ true → rest ≡ []
 
 -- sixteen bytes or fewer, before others only if they are sixteen
@@ -123,7 +123,7 @@ first_code code rest is = record {
   size = refl;
   same = refl;
   next = code_next code rest is;
-  after = λ done s kind. cond-true s.code (with_room done s (machine_code_bytes code) false) None kind;
+  after = λ done s kind. cond-true s.code (fits_in_room done s (machine_code_bytes code) false) None kind;
   ended = λ h. absurd cc;
 }
 
@@ -139,8 +139,8 @@ first_short bytes some small short = record {
   same = sym (append-nil bytes);
   next = short_contents bytes short;
   after = λ done s kind.
-      cond-true s.code (cond (is_cut_short bytes) (with_room done s bytes true) None) (cond (leb (length bytes) 16) (with_room done s bytes (ltb (length bytes) 16)) None) kind
-      ∙ cond-true (is_cut_short bytes) (with_room done s bytes true) None short;
+      cond-true s.code (cond (is_cut_short bytes) (fits_in_room done s bytes true) None) (cond (leb (length bytes) 16) (fits_in_room done s bytes (ltb (length bytes) 16)) None) kind
+      ∙ cond-true (is_cut_short bytes) (fits_in_room done s bytes true) None short;
   ended = λ _. refl;
 }
 
@@ -155,8 +155,8 @@ first_data bytes rest some few small alone = record {
   same = refl;
   next = data_contents bytes rest some few alone;
   after = λ done s kind.
-      cond-false s.code (cond (is_cut_short bytes) (with_room done s bytes true) None) (cond (leb (length bytes) 16) (with_room done s bytes (ltb (length bytes) 16)) None) kind
-      ∙ cond-true (leb (length bytes) 16) (with_room done s bytes (ltb (length bytes) 16)) None (le-leb (length bytes) 16 few);
+      cond-false s.code (cond (is_cut_short bytes) (fits_in_room done s bytes true) None) (cond (leb (length bytes) 16) (fits_in_room done s bytes (ltb (length bytes) 16)) None) kind
+      ∙ cond-true (leb (length bytes) 16) (fits_in_room done s bytes (ltb (length bytes) 16)) None (le-leb (length bytes) 16 few);
   ended = λ h. alone (ltb-true (length bytes) 16 h);
 }
 
@@ -235,7 +235,7 @@ small_code : (code : MachineCode) → All (λ b. b < 256) (machine_code_bytes co
 small_code (Half h) = All-from_recursion (λ b. b < 256) (machine_code_bytes (Half h)) (omega arith, (omega arith, tt))
 small_code (Word w) = All-from_recursion (λ b. b < 256) (machine_code_bytes (Word w)) (omega arith, (omega arith, (omega arith, (omega arith, tt))))
 
-roomy : (done : List SegmentData) (s : SegmentData) (bytes : List ℕ) (last : Bool) (state : ListState) → with_room done s bytes last ≡ Some state
+roomy : (done : List SegmentData) (s : SegmentData) (bytes : List ℕ) (last : Bool) (state : ListState) → fits_in_room done s bytes last ≡ Some state
     → (length s.bytes + length bytes ≤ s.size) × (inside done (with_bytes s bytes) last ≡ state)
 roomy done s bytes last state is =
     let parts = cond_some (leb (length s.bytes + length bytes) s.size) (inside done (with_bytes s bytes) last) state is in
@@ -244,7 +244,7 @@ roomy done s bytes last state is =
 took_code : (done : List SegmentData) (s : SegmentData) (last : Bool) (code : MachineCode) (state : ListState) → IsMachineCode code → after_content done s last (Instruction code) ≡ Some state → Took done s last (Instruction code) state
 unfolding file_contents
 took_code done s last code state fits is =
-    let parts = picked (not last && s.code) (with_room done s (machine_code_bytes code) false) state is in
+    let parts = picked (not last && s.code) (fits_in_room done s (machine_code_bytes code) false) state is in
     let tests = and_parts (not last) s.code parts.0 in
     let found = roomy done s (machine_code_bytes code) false state parts.1 in
     record {
@@ -268,10 +268,10 @@ took_bytes done s false bytes state fits is = either s.code refl is
         ∙ sym (ap (λ k. Bytes bytes ∷ file_contents k rest) kind ∙ ap (λ r. Bytes bytes ∷ code_contents r) none)
 
     either : (k : Bool) → s.code ≡ k
-        → cond k (cond (is_cut_short bytes) (with_room done s bytes true) None) (cond (leb (length bytes) 16) (with_room done s bytes (ltb (length bytes) 16)) None) ≡ Some state
+        → cond k (cond (is_cut_short bytes) (fits_in_room done s bytes true) None) (cond (leb (length bytes) 16) (fits_in_room done s bytes (ltb (length bytes) 16)) None) ≡ Some state
         → Took done s false (Bytes bytes) state
     either true kind h =
-        let parts = picked (is_cut_short bytes) (with_room done s bytes true) state h in
+        let parts = picked (is_cut_short bytes) (fits_in_room done s bytes true) state h in
         let found = roomy done s bytes true state parts.1 in
         record {
           open_yet = refl;
@@ -283,7 +283,7 @@ took_bytes done s false bytes state fits is = either s.code refl is
           next = λ rest none. short kind parts.0 rest (none refl);
         }
     either false kind h =
-        let parts = picked (leb (length bytes) 16) (with_room done s bytes (ltb (length bytes) 16)) state h in
+        let parts = picked (leb (length bytes) 16) (fits_in_room done s bytes (ltb (length bytes) 16)) state h in
         let found = roomy done s bytes (ltb (length bytes) 16) state parts.1 in
         record {
           open_yet = refl;

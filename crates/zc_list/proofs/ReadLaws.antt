@@ -17,8 +17,8 @@ use Rattle.text_lines.specs.Lines.{lines_of, words_in, words_of}
 use Rattle.text_lines.proofs.OptionLaws.{mapped}
 use Rattle.text_lines.proofs.SplitLaws.{some_part}
 use Rattle.zc_list.specs.Listing.{Bytes, Content, Instruction, Zeros}
-use Rattle.zc_list.specs.Reader.{is_last, is_whole, segment_with, stage_after, state_at}
-use Rattle.zc_list.specs.Spelled.{Between, Ended, Inside, ListState, after_bytes, after_content, after_line, bytes_of_words, content_at, content_of_words, inside, is_cut_short, read_lines, read_on, some_bytes, with_room, zeros_of_words}
+use Rattle.zc_list.specs.Reader.{is_last, has_all_bytes, segment_with, stage_after, state_at}
+use Rattle.zc_list.specs.Spelled.{Between, Ended, Inside, ListState, after_bytes, after_content, after_line, bytes_of_words, content_at, content_of_words, inside, is_cut_short, read_lines, read_on, some_bytes, fits_in_room, zeros_of_words}
 use Rattle.zc_list.specs.declared.read_content.Stage.{Stage}
 use Rattle.zc_list.specs.declared.read_content.Stage.TheVariants.{Last, More, Whole}
 use Rattle.zc_list.specs.declared.read_head.Head.{Head}
@@ -36,10 +36,10 @@ some_words line = let count = length-slice_split (λ b. eqb b 32) line in omega 
 
 -- bytes that were added, if there is room for them
 pub room_law : (done : List SegmentData) (head : Head) (old new bytes : List ℕ) (stage : Stage) (last : Bool) → new ≡ old ++ bytes → ((t : SegmentData) → state_at done t stage ≡ inside done t last)
-    → with_room done (segment_with head old) bytes last ≡ option_map (state_at done (segment_with head new)) (cond (leb (length new) head.size) (Some stage) None)
+    → fits_in_room done (segment_with head old) bytes last ≡ option_map (state_at done (segment_with head new)) (cond (leb (length new) head.size) (Some stage) None)
 room_law done head old new bytes stage last made is =
     let t : SegmentData = segment_with head (old ++ bytes) in
-    let P : List ℕ → Type 0 = λ xs. with_room done (segment_with head old) bytes last ≡ option_map (state_at done (segment_with head xs)) (cond (leb (length xs) head.size) (Some stage) None) in
+    let P : List ℕ → Type 0 = λ xs. fits_in_room done (segment_with head old) bytes last ≡ option_map (state_at done (segment_with head xs)) (cond (leb (length xs) head.size) (Some stage) None) in
     subst P (sym made) (ap (λ n. cond (leb n head.size) (Some (inside done t last)) None) (sym (length-append old bytes)) ∙ either (leb (length (old ++ bytes)) head.size))
   where
     either : (b : Bool) → cond b (Some (inside done (segment_with head (old ++ bytes)) last)) None ≡ option_map (state_at done (segment_with head (old ++ bytes))) (cond b (Some stage) None)
@@ -51,29 +51,29 @@ pub stage_law : (done : List SegmentData) (head : Head) (old new bytes : List �
     → after_bytes done (segment_with head old) bytes ≡ option_and_then (λ stage. option_map (state_at done (segment_with head new)) (cond (leb (length new) head.size) (Some stage) None)) (stage_after head.code bytes)
 stage_law done head old new bytes made = by_kind head.code
   where
-    more : with_room done (segment_with head old) bytes false ≡ option_map (state_at done (segment_with head new)) (cond (leb (length new) head.size) (Some More) None)
+    more : fits_in_room done (segment_with head old) bytes false ≡ option_map (state_at done (segment_with head new)) (cond (leb (length new) head.size) (Some More) None)
     more = room_law done head old new bytes More false made (λ t. refl)
 
-    ending : with_room done (segment_with head old) bytes true ≡ option_map (state_at done (segment_with head new)) (cond (leb (length new) head.size) (Some Last) None)
+    ending : fits_in_room done (segment_with head old) bytes true ≡ option_map (state_at done (segment_with head new)) (cond (leb (length new) head.size) (Some Last) None)
     ending = room_law done head old new bytes Last true made (λ t. refl)
 
-    short : (b : Bool) → cond b (with_room done (segment_with head old) bytes true) None ≡ option_and_then (λ stage. option_map (state_at done (segment_with head new)) (cond (leb (length new) head.size) (Some stage) None)) (cond b (Some Last) None)
+    short : (b : Bool) → cond b (fits_in_room done (segment_with head old) bytes true) None ≡ option_and_then (λ stage. option_map (state_at done (segment_with head new)) (cond (leb (length new) head.size) (Some stage) None)) (cond b (Some Last) None)
     short true = ending
     short false = refl
 
-    whole : (b : Bool) → eqb (length bytes) 16 ≡ b → ltb (length bytes) 16 ≡ false → cond (leb (length bytes) 16) (with_room done (segment_with head old) bytes false) None
+    whole : (b : Bool) → eqb (length bytes) 16 ≡ b → ltb (length bytes) 16 ≡ false → cond (leb (length bytes) 16) (fits_in_room done (segment_with head old) bytes false) None
         ≡ option_and_then (λ stage. option_map (state_at done (segment_with head new)) (cond (leb (length new) head.size) (Some stage) None)) (cond b (Some More) None)
-    whole true is many = cond-true (leb (length bytes) 16) (with_room done (segment_with head old) bytes false) None (le-leb (length bytes) 16 (let e = eqb-true (length bytes) 16 is in omega (arith, e))) ∙ more
+    whole true is many = cond-true (leb (length bytes) 16) (fits_in_room done (segment_with head old) bytes false) None (le-leb (length bytes) 16 (let e = eqb-true (length bytes) 16 is in omega (arith, e))) ∙ more
     whole false is many =
-        cond-false (leb (length bytes) 16) (with_room done (segment_with head old) bytes false) None
+        cond-false (leb (length bytes) 16) (fits_in_room done (segment_with head old) bytes false) None
         (false_from_ne_true (leb (length bytes) 16) (λ h. let le = leb-true (length bytes) 16 h in let ge = ltb-false (length bytes) 16 many in eqb-false (length bytes) 16 is (omega (arith, le, ge))))
 
-    few : (b : Bool) → ltb (length bytes) 16 ≡ b → cond (leb (length bytes) 16) (with_room done (segment_with head old) bytes b) None
+    few : (b : Bool) → ltb (length bytes) 16 ≡ b → cond (leb (length bytes) 16) (fits_in_room done (segment_with head old) bytes b) None
         ≡ option_and_then (λ stage. option_map (state_at done (segment_with head new)) (cond (leb (length new) head.size) (Some stage) None)) (cond b (Some Last) (cond (eqb (length bytes) 16) (Some More) None))
-    few true is = cond-true (leb (length bytes) 16) (with_room done (segment_with head old) bytes true) None (le-leb (length bytes) 16 (let lt = ltb-true (length bytes) 16 is in omega (arith, lt))) ∙ ending
+    few true is = cond-true (leb (length bytes) 16) (fits_in_room done (segment_with head old) bytes true) None (le-leb (length bytes) 16 (let lt = ltb-true (length bytes) 16 is in omega (arith, lt))) ∙ ending
     few false is = whole (eqb (length bytes) 16) refl is
 
-    by_kind : (k : Bool) → cond k (cond (is_cut_short bytes) (with_room done (segment_with head old) bytes true) None) (cond (leb (length bytes) 16) (with_room done (segment_with head old) bytes (ltb (length bytes) 16)) None)
+    by_kind : (k : Bool) → cond k (cond (is_cut_short bytes) (fits_in_room done (segment_with head old) bytes true) None) (cond (leb (length bytes) 16) (fits_in_room done (segment_with head old) bytes (ltb (length bytes) 16)) None)
         ≡ option_and_then (λ stage. option_map (state_at done (segment_with head new)) (cond (leb (length new) head.size) (Some stage) None)) (stage_after k bytes)
     by_kind true = short (is_cut_short bytes)
     by_kind false = few (ltb (length bytes) 16) refl
@@ -178,11 +178,11 @@ is_open done s last missing = cond-false (eqb (length s.bytes) s.size) (Between 
 pub is_closed : (done : List SegmentData) (s : SegmentData) (last : Bool) → length s.bytes ≡ s.size → inside done s last ≡ Between (done ++ (s ∷ []))
 is_closed done s last whole = cond-true (eqb (length s.bytes) s.size) (Between (done ++ (s ∷ []))) (Inside done s last) (eq-eqb (length s.bytes) s.size whole)
 
-pub open_state : (done : List SegmentData) (s : SegmentData) (stage : Stage) → is_whole stage ≡ false → state_at done s stage ≡ inside done s (is_last stage)
-open_state done s stage part = cond-false (is_whole stage) (Between (done ++ (s ∷ []))) (inside done s (is_last stage)) part
+pub open_state : (done : List SegmentData) (s : SegmentData) (stage : Stage) → has_all_bytes stage ≡ false → state_at done s stage ≡ inside done s (is_last stage)
+open_state done s stage part = cond-false (has_all_bytes stage) (Between (done ++ (s ∷ []))) (inside done s (is_last stage)) part
 
-pub whole_state : (done : List SegmentData) (s : SegmentData) (stage : Stage) → is_whole stage ≡ true → state_at done s stage ≡ Between (done ++ (s ∷ []))
-whole_state done s stage whole = cond-true (is_whole stage) (Between (done ++ (s ∷ []))) (inside done s (is_last stage)) whole
+pub whole_state : (done : List SegmentData) (s : SegmentData) (stage : Stage) → has_all_bytes stage ≡ true → state_at done s stage ≡ Between (done ++ (s ∷ []))
+whole_state done s stage whole = cond-true (has_all_bytes stage) (Between (done ++ (s ∷ []))) (inside done s (is_last stage)) whole
 
 -- nothing may follow the last line
 pub nothing_after : (done : List SegmentData) (number : ℕ) (rest : List ℕ) → (rest ≡ [] → ⊥) → read_lines (Ended done) number (lines_of rest) ≡ Err number
