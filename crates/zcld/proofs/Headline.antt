@@ -16,6 +16,7 @@ use Rattle.zc_base.specs.declared.mem_map.MemMap.{MemMap}
 use Rattle.zc_base.specs.declared.place.Place.{Place}
 use Rattle.elf32_read.specs.declared.fault.Fault.{Fault}
 use Rattle.block_cut.specs.Faults.{first_fault}
+use Rattle.shared_runs.proofs.Linked.{link_shares}
 use Rattle.zc_link.specs.Preserves.{Preserves}
 use Rattle.zc_outside.specs.Files.{Files, KeepsFiles, PutsFile}
 use Rattle.zc_outside.specs.Wanted.{AreRead, each_within}
@@ -25,7 +26,7 @@ use Rattle.zcld.specs.declared.outcome.Outcome.{Outcome}
 use Rattle.zcld.specs.declared.outcome.Outcome.TheVariants.{Broken, Done, Exited, OutOfMemory, Refused, Spent, Stopped}
 use Rattle.zcld.specs.Call.{Calls, task_of}
 use Rattle.zcld.specs.Gc.{GcWork}
-use Rattle.zcld.specs.Headline.{HoldsImage, HoldsResults, Links, PreservesMoved}
+use Rattle.zcld.specs.Headline.{HoldsImage, HoldsResults, HoldsShared, Links, PreservesMoved}
 use Rattle.zcld.specs.Merge.{MergeWork}
 use Rattle.zcld.specs.ObjectNames.{named_from, names_from}
 use Rattle.zcld.specs.Objects.{objects_wanted, refused_for}
@@ -163,7 +164,7 @@ module _ (before after : World) where
   -- `share` whose run came to its end had put the image of its link
   holds_shared :
       (out plan : List ℕ) (steps : ℕ) (names : List (List ℕ)) (outcome : Outcome) → IsRunEnd outcome → (f g : Files) → before.shelf.files ≡ Some f → after.shelf.files ≡ Some g →
-      Calls (Some (Share out plan steps names)) outcome before after → HoldsImage standard_map out names f g
+      Calls (Some (Share out plan steps names)) outcome before after → HoldsShared out names f g
   holds_shared out plan steps names outcome ends f g told tells calls =
       let command_task = task_of (Share out plan steps names) in
       let worked =
@@ -172,17 +173,20 @@ module _ (before after : World) where
       elim worked.work [
         | inl lack ↦ absurd (ended_not_memory outcome ends lack.0)
         | inr work ↦
+            let inputs = share_inputs calls.files in
             let kept : KeepsFiles (Some f) worked.between.shelf.files = subst (λ a. KeepsFiles a worked.between.shelf.files) told worked.only.shelf.files in
             let there : calls.left.shelf.files ≡ Some g = sym (ap (λ s. s.files) calls.line.shelf) ∙ tells in
             let put : PutsFile worked.between.shelf.files (Some g) out work.link.elf =
             subst (λ b. PutsFile worked.between.shelf.files b out work.link.elf) there (ended_put outcome ends out work.link.elf _ steps worked.between calls.left work.run) in
-            let were : AreRead (Some f) (share_wanted plan names) calls.files = subst (λ a. AreRead a (share_wanted plan names) calls.files) told worked.read in (
-              objects_before calls.files,
-              work.link.elf,
-              stood f OBJECT_LIMIT names (objects_before calls.files) (objects_read f OBJECT_LIMIT plan names calls.files were),
-              put_stands f g worked.between.shelf.files out work.link.elf kept put,
-              work.linked.image.preserves,
-            )
+            let were : AreRead (Some f) (share_wanted plan names) calls.files = subst (λ a. AreRead a (share_wanted plan names) calls.files) told worked.read in
+            record {
+              objects = objects_before calls.files;
+              link = work.link;
+              stood = stood f OBJECT_LIMIT names (objects_before calls.files) (objects_read f OBJECT_LIMIT plan names calls.files were);
+              stands = put_stands f g worked.between.shelf.files out work.link.elf kept put;
+              linked = work.linked;
+              shares = link_shares inputs work.link work.linked;
+            }
       ]
 
   by_cases :

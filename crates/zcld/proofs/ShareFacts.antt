@@ -1,6 +1,6 @@
 -- What is known of `share`: its refusals, how its work ends, and what that does to the counts; and how it ends without its files, with
 -- files that are refused, and with its run.
-use Rattle.std.proofs.Common.{◌≡◌, ◌++◌, ℕ, List, [], ◌∷◌, Option, Some, None, Result, Ok, Err, IsTrue, refl, sym, ap, ap₂, subst, ◌∙◌, ◌⊎◌, inl, inr}
+use Rattle.std.proofs.Common.{◌≡◌, ◌++◌, ℕ, List, [], ◌∷◌, Option, Some, None, Result, Ok, Err, refl, sym, ap, ap₂, subst, ◌∙◌, ◌⊎◌, inl, inr}
 use Rattle.std.proofs.lemmas.Option.{same_Some, none-some}
 use Rattle.std.specs.Option.{option_or}
 use Rattle.block_cut.specs.Faults.{first_fault}
@@ -16,7 +16,6 @@ use Rattle.psabi_sym.specs.declared.link_fault.LinkFault.{LinkFault}
 use Rattle.psabi_sym.specs.declared.link_fault.LinkFault.TheVariants as link
 use Rattle.rv_decode.specs.State.{ZcCore}
 use Rattle.shared_cells.specs.SharedRun.{shared_by}
-use Rattle.shared_runs.proofs.Linked.{link_shares}
 use Rattle.zc_base.specs.MemMap.{standard_map}
 use Rattle.zc_machine.specs.Load.{first_core_of}
 use Rattle.zc_outside.specs.Desk.{OnlyWrites}
@@ -174,7 +173,6 @@ module _ (out plan : List ℕ) (steps : ℕ) (names : List (List ℕ)) where
         let happens_are : shared_by shared.ranges.items shared.plan ≡ shared_by (shared_ranges (parsed (share_inputs files))) shared.plan =
         sym (any_order (shared_ranges (parsed (inputs_in standard_map objects))) shared.ranges.items ready.ranges shared.plan)
         ∙ ap (λ (is : Inputs). shared_by (shared_ranges (parsed is)) shared.plan) (sym inputs_are) in
-        let linked : IsZcLink (share_inputs files) ready.link = subst (λ is. IsZcLink is ready.link) (sym inputs_are) ready.linked in
         record {
           files = files;
           line = names_in_none outcome left files nothing;
@@ -187,8 +185,7 @@ module _ (out plan : List ℕ) (steps : ℕ) (names : List (List ℕ)) where
                 ∙ ap (λ (p : Result (List SharedEntry) PlanFault). plan_refusal p) ready.spelled;
             work = inr (record {
               link = ready.link;
-              linked = linked;
-              shares = link_shares (share_inputs files) ready.link linked;
+              linked = subst (λ is. IsZcLink is ready.link) (sym inputs_are) ready.linked;
               plan = shared.plan;
               spelled = ap shared_in (plan_is objects text) ∙ ready.spelled;
               run =

@@ -11,11 +11,7 @@ use Rattle.psabi_sym.specs.Shared.{shared_ranges}
 use Rattle.rv_decode.specs.State.{ZcCore}
 use Rattle.shared_cells.specs.SharedRun.{shared_by}
 use Rattle.zc_base.specs.MemMap.{standard_map}
-use Rattle.shared_runs.specs.SharesCells.{SharesCells}
-use Rattle.sym_machine.specs.Objects.{program_of}
-use Rattle.zc_link.specs.Links.{IsZcLink, Link, slots_of}
-use Rattle.zc_link.specs.Pace.{pace_of}
-use Rattle.zc_link.specs.TextLayout.{stretch_in, zc_layout}
+use Rattle.zc_link.specs.Links.{IsZcLink, Link}
 use Rattle.zc_machine.specs.Load.{first_core_of}
 use Rattle.zc_outside.specs.Files.{KeepsFiles, PutsFile}
 use Rattle.zc_outside.specs.Shelf.{OnlyPuts, Shelf}
@@ -91,21 +87,12 @@ pub record IsReadyToShare (inputs : Inputs) (text : List ℕ) (shared : SharedIm
   pub spelled : shared_in text ≡ Ok shared.plan
   pub ranges : IsPermutation (shared_ranges (parsed inputs)) shared.ranges.items
 
--- the image of a link by `zc` does what the objects' program does, under every plan whose interrupts also write the objects' shared
--- data
-abbrev pub SharesLink : (inputs : Inputs) (link : Link) → IsZcLink inputs link → Type 0
-SharesLink inputs link linked =
-    let program = program_of (parsed inputs) in
-    SharesCells program linked.image.loaded (pace_of program (stretch_in (zc_layout inputs (slots_of link))))
-    (shared_ranges (parsed inputs))
-
 -- the objects were linked, the input was taken, the image was put, and it ran under the plan, whose cells are written where they lie
--- in the objects' sections of shared data; and under every such plan that image does what the objects' program does
+-- in the objects' sections of shared data
 pub record LinksAndRuns
     (out : List ℕ) (steps : ℕ) (files : List (List ℕ)) (outcome : Outcome) (before after : World) : Type 0 where
   pub link : Link
   pub linked : IsZcLink (share_inputs files) link
-  pub shares : SharesLink (share_inputs files) link linked
   pub plan : List SharedEntry
   pub spelled : shared_in (last_file files) ≡ Ok plan
   pub run :
