@@ -1,8 +1,8 @@
 -- A fault that names a symbol stands in one of the objects that were read, so the line of its refusal is the same if other files come
 -- after them.
-use Rattle.std.proofs.Common.{◌≡◌, ℕ, zero, suc, ◌+◌, ◌<◌, ◌≤◌, Bool, true, false, List, [], ◌∷◌, ◌++◌, length, map, cond, Option, Some, None, refl, sym, ap, subst, ◌∙◌, ◌⊎◌, inl, inr, slice_get, arith}
+use Rattle.std.proofs.Common.{◌≡◌, ℕ, zero, suc, ◌+◌, ◌<◌, ◌≤◌, Bool, true, false, List, [], ◌∷◌, ◌++◌, length, map, cond, Option, Some, None, refl, ap, subst, ◌⊎◌, inl, inr, slice_get, arith}
 use Rattle.std.specs.Prelude.{drop, nat_lt}
-use Rattle.std.specs.List.{enumerate_from, find, flat_map, range_with_len}
+use Rattle.std.specs.List.{enumerate_from, find, flat_map}
 use Rattle.std.specs.Option.{option_and_then, option_map, option_or}
 use Rattle.std.proofs.lemmas.List.{length-map}
 use Rattle.elf32_read.specs.Fault.{fault_symbol}

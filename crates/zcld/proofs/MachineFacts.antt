@@ -1,5 +1,5 @@
 -- What is known of a command that runs a machine over the console's whole input: how that ends, and what it does to the counts.
-use Rattle.std.proofs.Common.{◌≡◌, ◌≢◌, ℕ, refl, ap, length, List, [], Option, Some, None, IsTrue, sym, subst, ◌∙◌, ◌⊎◌, inl, inr, arith}
+use Rattle.std.proofs.Common.{◌≡◌, ◌≢◌, ℕ, refl, ap, length, List, Option, Some, None, IsTrue, sym, subst, ◌∙◌, ◌⊎◌, inl, inr, arith}
 use Rattle.zc_outside.specs.Desk.{Desk, OnlyTakes}
 use Rattle.zc_outside.specs.Files.{Rose}
 use Rattle.zc_outside.specs.Shelf.{OnlyPuts, Shelf}

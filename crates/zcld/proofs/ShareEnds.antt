@@ -1,5 +1,5 @@
 -- What is known of `share` if its run came to its end: its files were read and accepted, and the image was put.
-use Rattle.std.proofs.Common.{◌≡◌, ◌++◌, ℕ, List, [], ◌∷◌, map, Option, Some, None, sym, ap, subst, inl, inr}
+use Rattle.std.proofs.Common.{◌≡◌, ◌++◌, ℕ, List, [], ◌∷◌, Some, sym, subst, inl, inr}
 use Rattle.block_cut.specs.Faults.{first_fault}
 use Rattle.interrupt_plan.specs.Text.{shared_in}
 use Rattle.rv_decode.specs.State.{ZcCore}

@@ -1,7 +1,7 @@
 -- The files of `share`: objects, and a plan after them.
 use Rattle.std.proofs.Common.{◌++◌, ◌∷◌, [], ℕ, List, Some}
 use Rattle.zc_outside.specs.Shelf.{Shelf}
-use Rattle.zc_outside.specs.Wanted.{AreRead, IsRead, ReadCause, ReadsAll, Wanted}
+use Rattle.zc_outside.specs.Wanted.{AreRead, ReadCause, ReadsAll, Wanted}
 use Rattle.zc_outside.specs.declared.read_files.ReadFault.{ReadFault}
 use Rattle.zc_outside.specs.declared.read_files.ReadFault.TheVariants.{OutOfMemory, Unread}
 use Rattle.zc_outside.proofs.Wanted.{AreRead-append, AreUnread-front, AreUnread-rest, KeepsFiles-AreRead, ReadsAll-append, ReadsAll-front}

@@ -1,5 +1,5 @@
 -- The line that is written is that of the certificate's net. No line names anything, so it is the same for any files.
-use Rattle.std.proofs.Common.{◌≡◌, ◌∙◌, List, [], ◌∷◌, Some, rules, refl, sym, inl, inr, subst}
+use Rattle.std.proofs.Common.{◌≡◌, ◌∙◌, [], ◌∷◌, Some, rules, refl, sym, inl, inr, subst}
 use Rattle.pick_check.specs.Text.{certificate_in}
 use Rattle.zc_outside.specs.World.{world}
 use Rattle.zcld.specs.Check.{certificate_refusal, check_line, check_wanted}

@@ -1,9 +1,7 @@
 -- The file can't be had, or it is refused, or its listing is written. No line names anything, so it is the same for any files.
-use Rattle.std.proofs.Common.{◌≡◌, List, [], ◌∷◌, Some, None, rules, refl, sym, inl, inr, subst}
+use Rattle.std.proofs.Common.{◌≡◌, [], ◌∷◌, Some, None, rules, refl, sym, inl, inr, subst}
 use Rattle.elf32_read.specs.Image.{image_fault}
 use Rattle.zc_base.specs.MemMap.{standard_map}
-use Rattle.zc_outside.specs.Shelf.{Shelf}
-use Rattle.zc_outside.specs.Wanted.{ReadCause, Wanted}
 use Rattle.zc_outside.specs.World.{world}
 use Rattle.zcld.specs.List.{IsListing, list_wanted}
 use Rattle.zcld.specs.Puts.{PutsInTurn, text_alone}

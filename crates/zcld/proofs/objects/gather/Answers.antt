@@ -1,5 +1,5 @@
 -- What is kept is refused before it is gathered. The check finds the other cases.
-use Rattle.std.proofs.Common.{◌≡◌, ◌∙◌, List, sym, subst}
+use Rattle.std.proofs.Common.{◌≡◌, ◌∙◌, sym, subst}
 use Rattle.psabi_sym.specs.Objects.{contents_of}
 use Rattle.zcld.specs.ErrLine.{err_line}
 use Rattle.zcld.specs.Outcome.{link_outcome}

@@ -1,6 +1,6 @@
 -- The files can't be had, or one is refused, or the image ran that was read, in the map that the words gave. No line names anything,
 -- so it is the same for any files.
-use Rattle.std.proofs.Common.{◌≡◌, ℕ, List, Some, None, Ok, Err, rules, refl, sym, ap, ◌∙◌, inl, inr, subst}
+use Rattle.std.proofs.Common.{◌≡◌, ℕ, List, Some, None, Ok, rules, refl, sym, ap, ◌∙◌, inl, inr, subst}
 use Rattle.std.specs.Option.{option_copied, option_map}
 use Rattle.elf32_read.specs.Image.{image_fault}
 use Rattle.interrupt_plan.specs.Plan.{Entry}

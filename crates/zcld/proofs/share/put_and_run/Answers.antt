@@ -1,5 +1,5 @@
 -- The image was put, and the machine came to an end.
-use Rattle.std.proofs.Common.{rules, ◌≡◌, ℕ, List, refl, sym, ap, ap₂, subst, ◌∙◌, inr}
+use Rattle.std.proofs.Common.{rules, ◌≡◌, ℕ, List, refl, ap, ap₂, subst, ◌∙◌, inr}
 use Rattle.rv_decode.specs.State.{ZcCore}
 use Rattle.shared_cells.specs.SharedRun.{shared_by}
 use Rattle.zc_machine.specs.Load.{first_core, first_core_of}

@@ -1,5 +1,5 @@
 -- The objects were read, and then the plan; or reading stopped before.
-use Rattle.std.proofs.Common.{◌≡◌, List, ap, subst}
+use Rattle.std.proofs.Common.{subst}
 use Rattle.std.proofs.lemmas.Result.{err_from_is_err_and}
 use Rattle.command_words.specs.Command.{texts}
 use Rattle.zc_outside.specs.Wanted.{AreRead, ReadsAll}
