@@ -1,35 +1,14 @@
-// Rows of tables. A listing is one line of text, in which `/` stands for a line feed.
+// Rows of tables.
 
-use crate::images::listed;
-use crate::texts::spelled;
+use crate::texts::{changed, spelled};
 use std::alloc::Global;
 use std::process::Abort;
 use std::test::Fail;
 
-/// The bytes of a listing.
-pub fn bytes_of(alloc: Global, text: &str) -> Result<Vec<u8>, Fail> {
-    let mut bytes = Vec::new(alloc);
-    for byte in text.as_bytes() {
-        let byte = if *byte == b'/' { b'\n' } else { *byte };
-        bytes.push(byte)?;
-    }
-    Ok(bytes)
-}
-
-/// A listing as a line.
-pub fn line_of(alloc: Global, listing: &[u8]) -> Result<String, Fail> {
-    let mut line = String::new(alloc);
-    for byte in listing {
-        let byte = if *byte == b'\n' { b'/' } else { *byte };
-        line.push(char::from(byte))?;
-    }
-    Ok(line)
-}
-
 // What a call returns for a row.
 fn answer(alloc: Global, call: &str, given: &str) -> Result<String, Fail> {
     match call {
-        "list" => listed(alloc, given),
+        "changed" => changed(alloc, given),
         _ => spelled(alloc, given),
     }
 }

@@ -1,13 +1,12 @@
 // Listings of images.
 
-use crate::fixture::{expect, line_of};
 use elf32_read::image::Image;
 use std::alloc::Global;
 use std::test::Fail;
 use zc_base::mem_map::MemMap;
 use zc_list::list::list;
 
-// A file's header up to the number of segments, in words.
+// A file's header, in words.
 const HEADER: &str = "464C457F 00010101 00000000 00000000 00F30002 00000001 00010000
 00000034 00000000 00000001 00200034 00280002 00000000";
 
@@ -42,23 +41,55 @@ fn file_of(alloc: Global, code: (&str, &str), data: (&str, &str)) -> Result<Vec<
     Ok(file)
 }
 
-/// The listing of an image, by its code's bytes and size and its data's bytes and size.
-pub fn listed(alloc: Global, given: &str) -> Result<String, Fail> {
+// The listing of an image, by its code's bytes and size and its data's bytes and size.
+fn listed(alloc: Global, given: &str) -> Result<Vec<u8>, Fail> {
     let (code, data) = given.split_once(", ").ok_or("no data")?;
     let code = code.split_once(" ").ok_or("no size")?;
     let data = data.split_once(" ").ok_or("no size")?;
     let file = file_of(alloc, code, data)?;
     let image = Image::read(file.as_slice(), MemMap::standard())?;
-    let listing = list(alloc, &image)?;
-    line_of(alloc, listing.as_slice())
+    Ok(list(alloc, &image)?)
 }
 
-const IMAGES: &str =
-    "0d459308d00573000000 0000000a,  00000000 = zcld list 1/segment 00010000 10 code/00010000 c.li x10 x0 3/00010002 addi x17 x0 93/00010006 ecall/segment 00100000 0 data/end/ | three instructions
-73000000019c0f10000013 00000010, 68690a 00000003 = zcld list 1/segment 00010000 16 code/00010000 ecall/00010004 .half 9c01/00010006 .word 0000100f/0001000a .byte 13/0001000b .zero 5/segment 00100000 3 data/00100000 .byte 68 69 0a/end/ | what the tables don't have, a cut word, and zeros
-0100130000 00000005, 000102030405060708090a0b0c0d0e0f10 00000013 = zcld list 1/segment 00010000 5 code/00010000 c.addi x0 x0 0/00010002 .byte 13 00 00/segment 00100000 19 data/00100000 .byte 00 01 02 03 04 05 06 07 08 09 0a 0b 0c 0d 0e 0f/00100010 .byte 10/00100011 .zero 2/end/ | rows of sixteen bytes";
+// Each image, and then its listing: three instructions; what the tables don't have, a word that is cut off, and zeros; and
+// rows of sixteen bytes. Examples of the tables' rows are in the tests of `instruction_text`.
+const IMAGES: &str = "0d459308d00573000000 0000000a,  00000000
+zcld list 1
+segment 00010000 10 code
+00010000 c.li x10 x0 3
+00010002 addi x17 x0 93
+00010006 ecall
+segment 00100000 0 data
+end
+;73000000019c0f10000013 00000010, 68690a 00000003
+zcld list 1
+segment 00010000 16 code
+00010000 ecall
+00010004 .half 9c01
+00010006 .word 0000100f
+0001000a .byte 13
+0001000b .zero 5
+segment 00100000 3 data
+00100000 .byte 68 69 0a
+end
+;0100130000 00000005, 000102030405060708090a0b0c0d0e0f10 00000013
+zcld list 1
+segment 00010000 5 code
+00010000 c.addi x0 x0 0
+00010002 .byte 13 00 00
+segment 00100000 19 data
+00100000 .byte 00 01 02 03 04 05 06 07 08 09 0a 0b 0c 0d 0e 0f
+00100010 .byte 10
+00100011 .zero 2
+end
+";
 
 #[test]
 fn images_are_listed(rt: HostRuntime) -> Result<(), Fail> {
-    expect(&rt, "list", IMAGES)
+    for row in IMAGES.split(';') {
+        let (given, want) = row.split_once("\n").ok_or("no listing")?;
+        let found = listed(rt.alloc(), given)?;
+        assert_eq!(&rt; found.as_slice(), want.as_bytes(), "{row}");
+    }
+    Ok(())
 }

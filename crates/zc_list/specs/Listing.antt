@@ -80,7 +80,8 @@ segment_line s = join_with_byte 32 (codes "segment" ∷ hex_word s.at ∷ decima
 abbrev pub segment_lines : SegmentData → List (List ℕ)
 segment_lines s =
     let held = length s.bytes in
-    segment_line s ∷ (content_lines s.at (file_contents s.code s.bytes) ++ content_lines (s.at + held) (zero_contents (s.size - held)))
+    segment_line s
+    ∷ (content_lines s.at (file_contents s.code s.bytes) ++ content_lines (s.at + held) (zero_contents (s.size - held)))
 
 abbrev pub list_lines : List SegmentData → List (List ℕ)
 list_lines segments = codes "zcld list 1" ∷ (flat_map segment_lines segments ++ codes "end" ∷ [])

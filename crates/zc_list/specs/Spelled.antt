@@ -53,7 +53,8 @@ empty_segment at size code = record { at = at; size = size; code = code; bytes =
 abbrev pub segment_of_words : List (List ℕ) → Option SegmentData
 segment_of_words (first ∷ (at ∷ (size ∷ (kind ∷ [])))) =
     if bytes_eq first (codes "segment")
-    then option_and_then (λ a. option_and_then (λ n. option_map (empty_segment a n) (kind_of_word kind)) (decimal_of 0xFFFF_FFFF size)) (hex_word_of at)
+    then option_and_then (λ a. option_and_then (λ n.
+    option_map (empty_segment a n) (kind_of_word kind)) (decimal_of 0xFFFF_FFFF size)) (hex_word_of at)
     else None
 segment_of_words words = None
 
@@ -98,7 +99,8 @@ after_bytes done s bytes =
 abbrev pub after_content : List SegmentData → SegmentData → Bool → Content → Option ListState
 after_content done s last (Zeros n) = if n == s.size - length s.bytes then Some (Between (done ++ s ∷ [])) else None
 after_content done s last (Bytes bytes) = if last then None else after_bytes done s bytes
-after_content done s last (Instruction code) = if not last && s.code then fits_in_room done s (machine_code_bytes code) false else None
+after_content done s last (Instruction code) =
+    if not last && s.code then fits_in_room done s (machine_code_bytes code) false else None
 
 -- the state after a line, if the line may stand there
 abbrev pub after_line : ListState → List ℕ → Option ListState

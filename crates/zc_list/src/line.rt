@@ -90,7 +90,8 @@ fn push_kind(text: &mut Vec<u8>, code: bool) -> Result<(), AllocError>
 
 /// Adds the first line of a segment.
 pub fn push_segment_line(text: &mut Vec<u8>, segment: &Segment) -> Result<(), AllocError>
-    ensures { IfOk result (λ _. text.new.items ≡ text.old.items ++ (segment_line (segment_data segment.now) ++ 10 ∷ [])) }
+    ensures { IfOk result (λ _. text.new.items
+        ≡ text.old.items ++ (segment_line (segment_data segment.now) ++ 10 ∷ [])) }
 {
     let mut digits = Buffer::new();
     text.extend_from_slice(b"segment ")?;

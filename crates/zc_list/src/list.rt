@@ -15,7 +15,8 @@ use std::alloc::{AllocError, Global};
 // Adds the first line of code, and returns how many bytes it stands for.
 #[tactic(auto, unfolding(crate::specs::Listing::code_contents))]
 fn push_first_line(text: &mut Vec<u8>, at: u64, rest: &[u8]) -> Result<usize, AllocError>
-    ensures lines { IfOk result (λ n. text.new.items ++ text_of_lines (content_lines (at + n) (code_contents (drop n rest.now)))
+    ensures lines { IfOk result (λ n.
+        text.new.items ++ text_of_lines (content_lines (at + n) (code_contents (drop n rest.now)))
         ≡ text.old.items ++ text_of_lines (content_lines at (code_contents rest.now))) }
     ensures some { IfOk result (λ n. 0 < length rest.now → 0 < n) }
     ensures within { IfOk result (λ n. n ≤ length rest.now) }
@@ -44,7 +45,8 @@ fn push_first_line(text: &mut Vec<u8>, at: u64, rest: &[u8]) -> Result<usize, Al
 // Adds the lines of code.
 #[tactic(auto, unfolding(crate::specs::Listing::code_contents))]
 fn push_code_lines(text: &mut Vec<u8>, at: u32, bytes: &[u8]) -> Result<(), AllocError>
-    ensures { IfOk result (λ _. text.new.items ≡ text.old.items ++ text_of_lines (content_lines at (code_contents bytes.now))) }
+    ensures { IfOk result (λ _. text.new.items
+        ≡ text.old.items ++ text_of_lines (content_lines at (code_contents bytes.now))) }
 {
     let mut done = 0;
     while done < bytes.len() {
@@ -71,7 +73,8 @@ fn push_data_lines(text: &mut Vec<u8>, at: u32, bytes: &[u8]) -> Result<(), Allo
 #[tactic(auto, unfolding(crate::specs::Listing::file_contents))]
 fn push_file_lines(text: &mut Vec<u8>, segment: &Segment) -> Result<(), AllocError>
     ensures { let s = segment_data segment.now in
-        IfOk result (λ _. text.new.items ≡ text.old.items ++ text_of_lines (content_lines s.at (file_contents s.code s.bytes))) }
+        IfOk result (λ _. text.new.items
+        ≡ text.old.items ++ text_of_lines (content_lines s.at (file_contents s.code s.bytes))) }
 {
     if segment.code {
         push_code_lines(text, segment.at, segment.bytes)
@@ -82,7 +85,8 @@ fn push_file_lines(text: &mut Vec<u8>, segment: &Segment) -> Result<(), AllocErr
 
 // Adds the line of the zeros after a segment's bytes, if there are any.
 fn push_zeros(text: &mut Vec<u8>, at: u64, count: u32) -> Result<(), AllocError>
-    ensures { IfOk result (λ _. text.new.items ≡ text.old.items ++ text_of_lines (content_lines at (zero_contents count))) }
+    ensures { IfOk result (λ _. text.new.items
+        ≡ text.old.items ++ text_of_lines (content_lines at (zero_contents count))) }
 {
     if count == 0 {
         return Ok(());
@@ -93,7 +97,8 @@ fn push_zeros(text: &mut Vec<u8>, at: u64, count: u32) -> Result<(), AllocError>
 // Adds the lines of a segment.
 fn push_segment(text: &mut Vec<u8>, segment: &Segment) -> Result<(), AllocError>
     requires { length segment.now.bytes.now ≤ segment.now.size }
-    ensures { IfOk result (λ _. text.new.items ≡ text.old.items ++ text_of_lines (segment_lines (segment_data segment.now))) }
+    ensures { IfOk result (λ _. text.new.items
+        ≡ text.old.items ++ text_of_lines (segment_lines (segment_data segment.now))) }
 {
     let held = segment.bytes.len() as u32;
     push_segment_line(text, segment)?;

@@ -63,7 +63,8 @@ fn push_code_bytes(bytes: &mut Vec<u8>, code: MachineCode) -> Result<(), AllocEr
 
 // Adds the bytes that words spell, if all of them spell bytes.
 fn push_words(bytes: &mut Vec<u8>, words: Option<&[u8]>) -> Result<bool, AllocError>
-    ensures { IfOk result (λ all. option_map (λ more. bytes.old.items ++ more) (bytes_of_words (words_in (option_copied words.entry)))
+    ensures { IfOk result (λ all.
+        option_map (λ more. bytes.old.items ++ more) (bytes_of_words (words_in (option_copied words.entry)))
         ≡ (if all then Some bytes.new.items else None)) }
 {
     let mut rest = words;

@@ -64,7 +64,8 @@ pub fn read_segment<'a>(
 ) -> Result<(ListSegment, Lines<'a>), ListFault>
     requires { lines.number + length lines.rest.now < 2 ^ 32 }
     ensures ok { IfOk result (λ r. (done : List SegmentData)
-        → read_left (inside done (segment_with head []) false) lines.entry ≡ read_left (Between (done ++ r.0 ∷ [])) r.1) }
+        → read_left (inside done (segment_with head []) false) lines.entry
+        ≡ read_left (Between (done ++ r.0 ∷ [])) r.1) }
     ensures err { IfErr result (λ fault. StopsAt fault (λ n. (done : List SegmentData)
         → read_left (inside done (segment_with head []) false) lines.entry ≡ Err n)) }
     ensures further { IfOk result (λ r. IsFurther lines.entry r.1) }
