@@ -31,7 +31,7 @@ use Rattle.zcld.specs.ObjectNames.{named_from, names_from}
 use Rattle.zcld.specs.Objects.{objects_wanted, refused_for}
 use Rattle.zcld.specs.Puts.{HasFiles, PutsFiles}
 use Rattle.zcld.specs.Plain.{PlainWork}
-use Rattle.zcld.specs.Share.{ShareWork, objects_before, share_inputs, share_wanted}
+use Rattle.zcld.specs.Share.{ShareWork, objects_before, share_wanted}
 use Rattle.zcld.specs.Task.{IsWorked, OnlyRead, Performs, Task, UnreadCause}
 use Rattle.zcld.specs.Zc.{ZcWork}
 use Rattle.zcld.specs.declared.limits.TheConstants.{OBJECT_LIMIT}
