@@ -100,7 +100,7 @@ def odd_image(rng):
     rng.shuffle(parts)
     others = [rng.randrange(len(parts) + 1) for _ in range(rng.choice((0, 0, 1, 3)))]
     entry = entry_of(rng, parts)
-    return None if entry is None else executable_of(parts, entry, rng.choice((0, RVC, TSO, RVC | TSO)), others)
+    return None if entry is None or len(parts) > MOST_SEGMENTS else executable_of(parts, entry, rng.choice((0, RVC, TSO, RVC | TSO)), others)
 
 
 def image_of_link(rng):
