@@ -660,14 +660,14 @@ fn left_marks(alloc: Global, call: &str, store: &MemStore) -> Result<(char, char
     ))
 }
 
-// What `o` should be: what `plain` or `zc` makes of the object, or of `short` or `frames` if that is named last, or of `cell` or
-// `echo`; in a call with `--text`, what `plain` makes of the object elsewhere, or `zc` of the two objects.
+// What `o` should be: what `plain` or `zc` makes of the object, or of `short` or `frames` if that is named last, or of `echo` or
+// `cell`; in a call with `--text`, what `plain` makes of the object elsewhere, or `zc` of the two objects.
 fn image_wanted(call: &str) -> &str {
-    if call.contains(" cell") {
-        return CELL_IMAGE;
-    }
     if call.contains(" echo") {
         return ECHO_LINKED;
+    }
+    if call.contains(" cell") {
+        return CELL_IMAGE;
     }
     if call.ends_with(" short") {
         return SHORT_IMAGE;
