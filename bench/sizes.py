@@ -11,7 +11,7 @@ the others link the same objects of RV32IM, the same ones with C, and the same o
 relax, but where a column says otherwise. With `gc` they leave out the sections that nothing needs; for `zcld` GNU ld does
 that before, in a link that keeps relocations (`ld -r --gc-sections`), or `zcld gc` does where a column says so. Where one says
 `merge`, `zcld merge` shares equal ends of functions in a section before; in the columns with `one`, all functions of a file are in
-one section. GNU ld and LLD put constants after the text, and in the columns of far constants where `zcld` puts them. In those of
+one section, and in those with `save`, functions of libgcc save and restore registers for them (-msave-restore). GNU ld and LLD put constants after the text, and in the columns of far constants where `zcld` puts them. In those of
 GNU ld without gp nothing is called `__global_pointer$`, so that it doesn't reach data by gp, and all data, constants too, lie
 where `zcld` puts them.
 
@@ -20,6 +20,7 @@ doesn't take is printed. Each image that `zcld` makes is run, and must do what i
 that their machines don't know, as of picolibc for RV32IMAC, or `trace` is stuck in `library`, that is printed.
 """
 import os
+import subprocess
 import sys
 import tempfile
 from typing import NamedTuple
@@ -37,7 +38,9 @@ from zcld_tools.programs import Failed, told
 
 EXAMPLES, LARGER = (os.path.join(TOP, *it) for it in (('examples',), ('bench', 'sizes')))
 # The layout of what GNU ld links without gp, but for the name that it gives to what gp holds.
-OBJCOPIES = tuple(prefix + 'objcopy' for prefix in programs.PREFIXES)
+OBJCOPIES, ARCHIVERS = (tuple(prefix + it for prefix in programs.PREFIXES) for it in ('objcopy', 'ar'))
+# The member of libgcc that saves and restores registers.
+SAVING_MEMBER = 'save-restore.o'
 # Why `trace` may be stuck in the library.
 KNOWN_CAUSES = (b'NoInstruction', b'ConditionUnknown')
 SCRIPT, POINTER, OTHER_POINTER = os.path.join(TOP, 'fuzz', 'c_runtime', 'memory.ld'), '__global_pointer$', 'pointer'
@@ -45,6 +48,8 @@ FIRMWARE = os.path.join(EXAMPLES, 'firmware')
 PLAIN, COMPRESSED, ZCB, ZCMP = 'rv32im', 'rv32imc', 'rv32imc_zcb', 'rv32im_zca_zcb_zcmp'
 # The same with all functions of a file in one section.
 ONE, ONE_COMPRESSED = 'rv32im -fno-function-sections', 'rv32imc -fno-function-sections'
+# And with calls of libgcc that save and restore registers.
+SAVING = ONE + ' -msave-restore'
 USUAL = ('-Os', '-mabi=ilp32', '-ffreestanding', '-fno-pic', '-ffunction-sections', '-fdata-sections', '-w')
 # What each compiler is called, of which the first that is installed is taken, and its own words. GCC would make a call of
 # memset of the loop in memset.
@@ -57,7 +62,7 @@ WORDS = {'ld': (), 'LLD': ('--relax-gp',)}
 ZLIB = [name + '.c' for name in ('adler32', 'crc32', 'deflate', 'inffast', 'inflate', 'inftrees', 'trees', 'zutil')]
 # Where Debian has picolibc, for which of its targets libraries are made, and what each compiler is told to find its headers.
 PICOLIBC = '/usr/lib/picolibc/riscv64-unknown-elf'
-MULTILIBS = {PLAIN: 'rv32im', ONE: 'rv32im', COMPRESSED: 'rv32imac', ONE_COMPRESSED: 'rv32imac', ZCMP: 'rv32imac'}
+MULTILIBS = {PLAIN: 'rv32im', ONE: 'rv32im', SAVING: 'rv32im', COMPRESSED: 'rv32imac', ONE_COMPRESSED: 'rv32imac', ZCMP: 'rv32imac'}
 HEADERS = {'GCC': ('--specs=picolibc.specs',), 'Clang': (f'-isystem{PICOLIBC}/include',)}
 INPUT = b''.join(b'%d.%de%d\n' % (k * 7919 % 211, k, k % 5 - 2) for k in range(1, 20))
 
@@ -110,6 +115,10 @@ class Compiler:
         if program.has_library:
             merge(os.path.join(folder, 'merged.o'), *paths, *self.libraries(target))
             return [os.path.join(folder, 'merged.o')]
+        if target == SAVING:
+            paths.append(os.path.join(folder, SAVING_MEMBER))
+            words = [programs.found(*ARCHIVERS), 'p', self.libraries(target)[-2], SAVING_MEMBER]
+            write(paths[-1], subprocess.run(words, check=True, capture_output=True).stdout)
         return paths
 
     def libraries(self, target):
@@ -249,7 +258,9 @@ MERGED = (('`zc`', 'zc', PLAIN), ('`merge`, `zc`', 'zc', PLAIN, SHARED), ('one: 
           ('one: `merge`, `zc`', 'zc', ONE, SHARED), ('C: `zc`', 'zc', COMPRESSED),
           ('C: `merge`, `zc`', 'zc', COMPRESSED, SHARED), ('one, C: `zc`', 'zc', ONE_COMPRESSED),
           ('one, C: `merge`, `zc`', 'zc', ONE_COMPRESSED, SHARED))
-TABLES = SAME, SHORT, TODAY, COLLECTED, MERGED, FRAMES
+BOTH = tuple((head + names, 'zc', target, *words) for head, target in (('one: ', ONE), ('one, save: ', SAVING))
+             for names, words in (('`zc`', ()), ('`merge`, `zc`', (SHARED,)), ('`gc`, `zc`', (OWN,)), ('`gc`, `merge`, `zc`', (OWN, SHARED))))
+TABLES = SAME, SHORT, TODAY, COLLECTED, MERGED, BOTH, FRAMES
 
 
 def measured(zcld, zlib, room):
@@ -257,7 +268,7 @@ def measured(zcld, zlib, room):
     tables, said = [[] for _ in TABLES], []
     for compiler in filter(lambda it: it.command, map(Compiler, COMPILERS)):
         for program in listed(zlib):
-            targets = [it for it in (PLAIN, ONE, COMPRESSED, ONE_COMPRESSED, ZCB, ZCMP) if compiler.has(program, it)]
+            targets = [it for it in (PLAIN, ONE, SAVING, COMPRESSED, ONE_COMPRESSED, ZCB, ZCMP) if compiler.has(program, it)]
             if targets:
                 folder = os.path.join(room, f'{compiler.name}-{program.name}')
                 objects = {it: compiler.compiled(program, it, os.path.join(folder, it)) for it in targets}
