@@ -32,7 +32,8 @@ use Rattle.sym_machine.specs.declared.run.TraceEnd.{TraceEnd}
 use Rattle.sym_machine.specs.declared.run.TraceEnd.TheVariants as trace
 use Rattle.zc_link.specs.Image.{Image, image_in, loaded_core}
 use Rattle.zc_link.specs.Places.{listed_address}
-use Rattle.zc_link.specs.Preserves.{Preserves}
+use Rattle.zc_link.specs.Preserves.{Preserves, aligns_of}
+use Rattle.zc_link.proofs.Induction.{without_devices}
 use Rattle.zc_outside.specs.Course.{EndsWithStop, Exit, ExitsAt}
 use Rattle.zc_outside.specs.Desk.{Desk}
 use Rattle.zc_outside.specs.MemConsole.{ConsoleState, desk_of}
@@ -114,7 +115,7 @@ pub eventually_exits :
     (files : List (List ℕ)) (elf : List ℕ) → Preserves (standard_inputs files) elf → (count : ℕ) (exit : Exit)
     → IsTraced (standard_inputs files) count exit → (plan : List Entry) → IsPlan plan → EventuallyExits elf plan
 eventually_exits files elf preserves count exit traced plan is_plan =
-    let follows = preserves.follows [] count traced.exits.last (All-nil (λ b. b < 256)) traced.exits.state in
+    let follows = without_devices (program_of (parsed (standard_inputs files))) (aligns_of (parsed (standard_inputs files))) preserves.image preserves.follows [] count traced.exits.last (All-nil (λ b. b < 256)) traced.exits.state in
     let under = follows.2 plan is_plan in
     let core = image_core elf standard_map preserves.image preserves.read in
     let after : machine_after (first_core_of elf standard_map) [] (interrupts_by plan) follows.0 ≡ Ok under.0 =

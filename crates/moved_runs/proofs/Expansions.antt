@@ -218,7 +218,7 @@ module _ (K V : Place → Type 0) (M : Place → Place) (p p' : Program) (law : 
 module _ (K V : Place → Type 0) (M : Place → Place) (p p' : Program) (law : Moves K V M p p') (m : MemMap) (s : PlainCore) (n : NamedCore K s) (running : s.exit ≡ None) where
   pub step-moved :
       (i : Item) → V (p.next s.place) → ItemLeads K V p s.place i → PcMoves M p p' i
-      → item_step m p' (Some (moved_item M i)) (moved_at M (M s.place) s) (M (p.next s.place)) ≡ moved_step M (M s.place) (item_step m p (Some i) s (p.next s.place))
+      → item_step [] m p' (Some (moved_item M i)) (moved_at M (M s.place) s) (M (p.next s.place)) ≡ moved_step M (M s.place) (item_step [] m p (Some i) s (p.next s.place))
   step-moved i visited leads pc =
       ap (λ o. option_map_or (λ is. in_turn m is (M next) t) o (applied m t (item_does p' (Some (moved_item M i)) t (M next)))) (expansion-moved M i)
       ∙ by (item_expansion (Some i)) (item-few i)
@@ -237,7 +237,7 @@ module _ (K V : Place → Type 0) (M : Place → Place) (p p' : Program) (law : 
       by (Some is) few = in_turn-moved K V M p p' law m next visited is s few.0 n running
 
   pub step-fit :
-      (i : Item) (s' : PlainCore) (events : List Event) → V (p.next s.place) → ItemLeads K V p s.place i → item_step m p (Some i) s (p.next s.place) ≡ Went s' events
+      (i : Item) (s' : PlainCore) (events : List Event) → V (p.next s.place) → ItemLeads K V p s.place i → item_step [] m p (Some i) s (p.next s.place) ≡ Went s' events
       → Fit K V s' × ((s'.exit ≡ None) ⊎ (s'.place ≡ s.place)) × Quiet m s'
   step-fit i s' events visited leads h = by (item_expansion (Some i)) (item-few i) h
     where

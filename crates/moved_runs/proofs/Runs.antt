@@ -16,9 +16,10 @@ use Rattle.sym_machine.specs.declared.word.SymByte.{SymByte}
 use Rattle.sym_machine.specs.declared.word.SymByte.TheVariants.{Undef}
 use Rattle.sym_machine.specs.Words.{number_word, undef_word}
 use Rattle.sym_machine.specs.Program.{Program}
-use Rattle.sym_machine.specs.Run.{plain_turn, program_after, recorded}
+use Rattle.sym_machine.specs.Run.{plain_turn, program_after, recorded, program_after_with}
 use Rattle.sym_machine.specs.State.{PlainCore, PlainState, first_plain}
 use Rattle.sym_machine.specs.Step.{PlainStep, Went, Stuck, plain_step}
+use Rattle.sym_machine.proofs.RunLaws.{all_stay, turn_devices, turns_devices}
 use Rattle.sym_machine.proofs.StepLaws.{step_past_exit}
 use Rattle.sym_machine.proofs.WordLaws.{number_back}
 use Rattle.moved_runs.specs.Moved.{landing, moved_at, moved_byte, moved_result, moved_state, moved_step}
@@ -27,7 +28,7 @@ use Rattle.moved_runs.specs.Moves.{IsDead, IsMovedState, ItemLeads, KeepsItem, K
 use Rattle.moved_runs.proofs.Words.{number-named, undef-named}
 use Rattle.moved_runs.proofs.Ends.{Fit, Quiet}
 use Rattle.moved_runs.proofs.States.{NamedCore}
-use Rattle.moved_runs.proofs.Steps.{dead-stops, keeps-step, leads-on, shares-jump, shares-step, stays, step-at, turn_goes, turn_ok}
+use Rattle.moved_runs.proofs.Steps.{dead-stops, keeps-step, leads-on, shares-jump, shares-step, step-at, turn_goes, turn_is, turn_ok}
 
 -- ---- the start
 
@@ -89,73 +90,82 @@ module _ (K V : Place → Type 0) (M : Place → Place) (p p' : Program) (exact 
 
   record Turned (r : PlainState) (o : Result PlainState (Place × Why)) : Type 0 where
     same : plain_turn p' (moved_state M r) ≡ moved_result M o
-    fit : (r' : PlainState) → o ≡ Ok r' → Fit K V r'.core
+    fit : (r' : PlainState) → o ≡ Ok r' → Fit K V r'.core × (r'.devices ≡ r.devices)
 
-  answered : (r : PlainState) (i : Item) (t : PlainStep) → Fit K V r.core → r.core.exit ≡ None → p.item r.core.place ≡ Some i → plain_step p r.core ≡ t → Turned r (recorded t r)
-  unfolding plain_turn
-  answered r i (Went s' events) fit running here h =
+  answered :
+      (r : PlainState) (i : Item) (t : PlainStep) → r.devices ≡ [] → Fit K V r.core → r.core.exit ≡ None → p.item r.core.place ≡ Some i → plain_step p r.core ≡ t
+      → Turned r (recorded t r)
+  answered r i (Went s' events) none fit running here h =
       let k = exact.keeps r.core.place i (fit.visits running) here in
       let on = leads-on K V M p p' exact.moves r.core s' events i fit (fit.visits running) running here k.leads h in
       record {
-        same = ap (λ t. recorded t (moved_state M r)) (keeps-step K V M p p' exact.moves r.core i fit running here k ∙ ap (moved_step M (M r.core.place)) h)
-            ∙ ap (λ q. Ok (record { core = moved_at M q s'; events = r.events ++ events })) (lands r.core s' on.1);
-        fit = λ r' e. let core : s' ≡ r'.core = cc in subst (Fit K V) core on.0;
+        same = turn_is p' (moved_state M r) none
+            ∙ ap (λ t. recorded t (moved_state M r)) (keeps-step K V M p p' exact.moves r.core i fit running here k ∙ ap (moved_step M (M r.core.place)) h)
+            ∙ ap (λ q. Ok (record r { core = moved_at M q s'; events = r.events ++ events })) (lands r.core s' on.1);
+        fit = λ r' e.
+            let here : record r { core = s'; events = r.events ++ events } ≡ r' = cc in
+            (subst (λ x. Fit K V x.core) here on.0, ap (λ x. x.devices) (sym here));
       }
-  answered r i (Stuck why) fit running here h =
+  answered r i (Stuck why) none fit running here h =
       let k = exact.keeps r.core.place i (fit.visits running) here in
       record {
-        same = ap (λ t. recorded t (moved_state M r)) (keeps-step K V M p p' exact.moves r.core i fit running here k ∙ ap (moved_step M (M r.core.place)) h);
+        same = turn_is p' (moved_state M r) none
+            ∙ ap (λ t. recorded t (moved_state M r)) (keeps-step K V M p p' exact.moves r.core i fit running here k ∙ ap (moved_step M (M r.core.place)) h);
         fit = λ r' e. absurd cc;
       }
 
-  turned : (r : PlainState) → Fit K V r.core → Turned r (plain_turn p r)
-  unfolding plain_turn
-  turned r fit = by-exit r.core.exit refl
+  turned : (r : PlainState) → r.devices ≡ [] → Fit K V r.core → Turned r (plain_turn p r)
+  turned r none fit = subst (Turned r) (sym (turn_is p r none)) (by-exit r.core.exit refl)
     where
       by-item : r.core.exit ≡ None → (o : Option Item) → p.item r.core.place ≡ o → Turned r (recorded (plain_step p r.core) r)
-      by-item running (Some i) here = answered r i (plain_step p r.core) fit running here refl
+      by-item running (Some i) here = answered r i (plain_step p r.core) none fit running here refl
       by-item running None here =
           let stuck = step-at p r.core None running here in
           subst (λ t. Turned r (recorded t r)) (sym stuck) (record {
-            same = ap (λ t. recorded t (moved_state M r)) (step-at p' (moved_at M (M r.core.place) r.core) None running (exact.nowhere r.core.place (fit.visits running) here));
+            same = turn_is p' (moved_state M r) none ∙ ap (λ t. recorded t (moved_state M r)) (step-at p' (moved_at M (M r.core.place) r.core) None running (exact.nowhere r.core.place (fit.visits running) here));
             fit = λ r' e. absurd cc;
           })
 
       by-exit : (o : Option ℕ) → r.core.exit ≡ o → Turned r (recorded (plain_step p r.core) r)
       by-exit None running = by-item running (p.item r.core.place) refl
       by-exit (Some status) exited =
-          let stays = step_past_exit p r.core status exited in
+          let stays = step_past_exit [] p r.core status exited in
           subst (λ t. Turned r (recorded t r)) (sym stays) (record {
-            same = ap (λ t. recorded t (moved_state M r)) (step_past_exit p' (moved_at M (M r.core.place) r.core) status exited);
-            fit = λ r' e. let core : r.core ≡ r'.core = cc in subst (Fit K V) core fit;
+            same = turn_is p' (moved_state M r) none ∙ ap (λ t. recorded t (moved_state M r)) (step_past_exit [] p' (moved_at M (M r.core.place) r.core) status exited);
+            fit = λ r' e.
+                let here : record r { core = r.core; events = r.events ++ [] } ≡ r' = cc in
+                (subst (λ x. Fit K V x.core) here fit, ap (λ x. x.devices) (sym here));
           })
 
-  turns : (n : ℕ) (r : PlainState) → Fit K V r.core → iterate (plain_turn p') n (moved_state M r) ≡ moved_result M (iterate (plain_turn p) n r)
-  turns zero r fit = refl
-  turns (suc n) r fit = let t = turned r fit in ap (λ x. x >>= iterate (plain_turn p') n) t.same ∙ rest (plain_turn p r) t.fit (λ r' f. turns n r' f)
+  turns : (n : ℕ) (r : PlainState) → r.devices ≡ [] → Fit K V r.core → iterate (plain_turn p') n (moved_state M r) ≡ moved_result M (iterate (plain_turn p) n r)
+  turns zero r none fit = refl
+  turns (suc n) r none fit = let t = turned r none fit in ap (λ x. x >>= iterate (plain_turn p') n) t.same ∙ rest (plain_turn p r) t.fit (λ r' bare f. turns n r' bare f)
     where
-      rest : (o : Result PlainState (Place × Why)) → ((r' : PlainState) → o ≡ Ok r' → Fit K V r'.core) → ((r' : PlainState) → Fit K V r'.core → iterate (plain_turn p') n (moved_state M r') ≡ moved_result M (iterate (plain_turn p) n r')) → (moved_result M o >>= iterate (plain_turn p') n) ≡ moved_result M (o >>= iterate (plain_turn p) n)
-      rest (Ok r') fit again = again r' (fit r' refl)
+      rest :
+          (o : Result PlainState (Place × Why)) → ((r' : PlainState) → o ≡ Ok r' → Fit K V r'.core × (r'.devices ≡ r.devices))
+          → ((r' : PlainState) → r'.devices ≡ [] → Fit K V r'.core → iterate (plain_turn p') n (moved_state M r') ≡ moved_result M (iterate (plain_turn p) n r'))
+          → (moved_result M o >>= iterate (plain_turn p') n) ≡ moved_result M (o >>= iterate (plain_turn p) n)
+      rest (Ok r') fit again = let f = fit r' refl in again r' (f.1 ∙ none) f.0
       rest (Err e) fit again = refl
 
   pub same-runs : SameRuns M p p'
-  unfolding program_after
+  unfolding program_after_with
   same-runs input n =
-      ap (λ s. iterate (plain_turn p') n (record { core = s; events = [] })) (first-moved K V M p p' exact.moves input)
-      ∙ turns n (record { core = first_plain p input; events = [] }) (first-fit K V M p p' exact.moves input)
+      ap (λ s. iterate (plain_turn p') n (record { core = s; events = []; devices = [] })) (first-moved K V M p p' exact.moves input)
+      ∙ turns n (record { core = first_plain p input; events = []; devices = [] }) refl (first-fit K V M p p' exact.moves input)
 
-  fits : (n : ℕ) (r r' : PlainState) → Fit K V r.core → iterate (plain_turn p) n r ≡ Ok r' → Fit K V r'.core
-  fits zero r r' fit h = let same : r ≡ r' = cc in subst (λ x. Fit K V x.core) same fit
-  fits (suc n) r r' fit h =
+  fits : (n : ℕ) (r r' : PlainState) → r.devices ≡ [] → Fit K V r.core → iterate (plain_turn p) n r ≡ Ok r' → Fit K V r'.core
+  fits zero r r' none fit h = let same : r ≡ r' = cc in subst (λ x. Fit K V x.core) same fit
+  fits (suc n) r r' none fit h =
       let first = bind_ok (plain_turn p r) (iterate (plain_turn p) n) r' h in
-      let turn = turned r fit in
-      fits n first.0 r' (turn.fit first.0 first.1) first.2
+      let turn = (turned r none fit).fit first.0 first.1 in
+      fits n first.0 r' (turn.1 ∙ none) turn.0 first.2
 
   -- the places in the state that a run comes to are named
   pub after-named : (input : List ℕ) (n : ℕ) (r : PlainState) → program_after p input n ≡ Ok r → NamedCore K r.core
-  unfolding program_after
+  unfolding program_after_with
   after-named input n r h =
-      let fit = fits n (record { core = first_plain p input; events = [] }) r (first-fit K V M p p' exact.moves input) h in
+      let fit = fits n (record { core = first_plain p input; events = []; devices = [] }) r refl (first-fit K V M p p' exact.moves input) h in
       fit.named
 
 -- ---- within twice the steps
@@ -174,10 +184,11 @@ module _ (K V : Place → Type 0) (M : Place → Place) (p p' : Program) (shared
   at-own-place r t running h =
       let core : t.core ≡ moved_at M (M r.core.place) r.core = h.core ∙ ap (λ q. moved_at M q r.core) (h.place running) in
       let events = h.events in
-      λ i. record { core = core i; events = events i }
+      let devices = h.devices in
+      λ i. record { core = core i; events = events i; devices = devices i }
 
-  one-turn : (r r' : PlainState) → Fit K V r.core → Quiet p.map r.core → r.core.exit ≡ None → plain_turn p r ≡ Ok r' → Onward r' (moved_state M r)
-  one-turn r r' fit quiet running h = at-item (p.item r.core.place) refl
+  one-turn : (r r' : PlainState) → r.devices ≡ [] → Fit K V r.core → Quiet p.map r.core → r.core.exit ≡ None → plain_turn p r ≡ Ok r' → Onward r' (moved_state M r)
+  one-turn r r' none fit quiet running h = at-item (p.item r.core.place) refl
     where
       s : PlainCore
       s = r.core
@@ -185,11 +196,11 @@ module _ (K V : Place → Type 0) (M : Place → Place) (p p' : Program) (shared
       t0 : PlainState
       t0 = moved_state M r
 
-      turned2 : (events : List Event) × (plain_step p r.core ≡ Went r'.core events) × (r'.events ≡ r.events ++ events)
-      turned2 = turn_ok p r r' h
+      turned2 : (events : List Event) × (plain_step p r.core ≡ Went r'.core events) × (r'.events ≡ r.events ++ events) × (r'.devices ≡ r.devices)
+      turned2 = turn_ok p r r' none h
 
-      ends-moved : (q : Place) → IsMovedState M r' (record { core = moved_at M (landing M q r'.core.exit r'.core.place) r'.core; events = r.events ++ turned2.0 })
-      ends-moved q = record { core = refl; place = λ e. ap (λ o. landing M q o r'.core.place) e; events = sym turned2.2 }
+      ends-moved : (q : Place) → IsMovedState M r' (record r { core = moved_at M (landing M q r'.core.exit r'.core.place) r'.core; events = r.events ++ turned2.0 })
+      ends-moved q = record { core = refl; place = λ e. ap (λ o. landing M q o r'.core.place) e; events = sym turned2.2; devices = sym turned2.3 }
 
       keeps : (i : Item) → p.item s.place ≡ Some i → KeepsItem K V M p p' s.place i → Onward r' t0
       keeps i here k =
@@ -197,8 +208,8 @@ module _ (K V : Place → Type 0) (M : Place → Place) (p p' : Program) (shared
           record {
             steps = 1;
             few = omega arith;
-            after = record { core = moved_at M (landing M (M s.place) r'.core.exit r'.core.place) r'.core; events = r.events ++ turned2.0 };
-            runs = iterate-one (plain_turn p') _ _ (turn_goes p' t0 (moved_at M (landing M (M s.place) r'.core.exit r'.core.place) r'.core) turned2.0 (keeps-step K V M p p' shared.moves s i fit running here k ∙ ap (moved_step M (M s.place)) turned2.1));
+            after = record r { core = moved_at M (landing M (M s.place) r'.core.exit r'.core.place) r'.core; events = r.events ++ turned2.0 };
+            runs = iterate-one (plain_turn p') _ _ (turn_goes p' t0 (moved_at M (landing M (M s.place) r'.core.exit r'.core.place) r'.core) turned2.0 none (keeps-step K V M p p' shared.moves s i fit running here k ∙ ap (moved_step M (M s.place)) turned2.1));
             moved = ends-moved (M s.place);
             fit = on.0;
             quiet = on.2;
@@ -206,10 +217,10 @@ module _ (K V : Place → Type 0) (M : Place → Place) (p p' : Program) (shared
 
       shares : (i : Item) → p.item s.place ≡ Some i → SharesItem K M p p' s.place i → Onward r' t0
       shares i here k =
-          let t1 : PlainState = record { core = moved_at M k.host s; events = r.events } in
-          let t2 : PlainState = record { core = moved_at M (landing M k.host r'.core.exit r'.core.place) r'.core; events = r.events ++ turned2.0 } in
-          let one : plain_turn p' t0 ≡ Ok t1 = turn_goes p' t0 (moved_at M k.host s) [] (shares-jump K V M p p' shared.moves s i quiet running k) ∙ ap (λ e. Ok (record { core = moved_at M k.host s; events = e })) (append-nil r.events) in
-          let two : plain_turn p' t1 ≡ Ok t2 = turn_goes p' t1 t2.core turned2.0 (shares-step K V M p p' shared.moves s i fit running here k ∙ ap (moved_step M k.host) turned2.1) in
+          let t1 : PlainState = record r { core = moved_at M k.host s } in
+          let t2 : PlainState = record r { core = moved_at M (landing M k.host r'.core.exit r'.core.place) r'.core; events = r.events ++ turned2.0 } in
+          let one : plain_turn p' t0 ≡ Ok t1 = turn_goes p' t0 (moved_at M k.host s) [] none (shares-jump K V M p p' shared.moves s i quiet running k) ∙ ap (λ e. Ok (record r { core = moved_at M k.host s; events = e })) (append-nil r.events) in
+          let two : plain_turn p' t1 ≡ Ok t2 = turn_goes p' t1 t2.core turned2.0 none (shares-step K V M p p' shared.moves s i fit running here k ∙ ap (moved_step M k.host) turned2.1) in
           let leads : ItemLeads K V p s.place i = subst (ItemLeads K V p s.place) (sym k.is) k.leads in
           let on = leads-on K V M p p' shared.moves s r'.core turned2.0 i fit (fit.visits running) running here leads turned2.1 in
           record {
@@ -232,19 +243,22 @@ module _ (K V : Place → Type 0) (M : Place → Place) (p p' : Program) (shared
   abbrev Comes : ℕ → PlainState → PlainState → Type 0
   Comes n r' t = (m : ℕ) × (m ≤ 2 * n) × (t' : PlainState) × (iterate (plain_turn p') m t ≡ Ok t') × IsMovedState M r' t'
 
-  all-turns : (n : ℕ) (r r' t : PlainState) → Fit K V r.core → Quiet p.map r.core → IsMovedState M r t → iterate (plain_turn p) n r ≡ Ok r' → Comes n r' t
-  all-turns zero r r' t fit quiet moved h = let same : r ≡ r' = cc in (0, omega arith, t, refl, subst (λ x. IsMovedState M x t) same moved)
-  all-turns (suc n) r r' t fit quiet moved h = by-exit r.core.exit refl (λ r1 fit1 quiet1 t1 moved1 rest. all-turns n r1 r' t1 fit1 quiet1 moved1 rest)
+  all-turns : (n : ℕ) (r r' t : PlainState) → r.devices ≡ [] → Fit K V r.core → Quiet p.map r.core → IsMovedState M r t → iterate (plain_turn p) n r ≡ Ok r' → Comes n r' t
+  all-turns zero r r' t none fit quiet moved h = let same : r ≡ r' = cc in (0, omega arith, t, refl, subst (λ x. IsMovedState M x t) same moved)
+  all-turns (suc n) r r' t none fit quiet moved h = by-exit r.core.exit refl (λ r1 none1 fit1 quiet1 t1 moved1 rest. all-turns n r1 r' t1 none1 fit1 quiet1 moved1 rest)
     where
-      by-exit : (o : Option ℕ) → r.core.exit ≡ o → ((r1 : PlainState) → Fit K V r1.core → Quiet p.map r1.core → (t1 : PlainState) → IsMovedState M r1 t1 → iterate (plain_turn p) n r1 ≡ Ok r' → Comes n r' t1) → Comes (suc n) r' t
+      by-exit :
+          (o : Option ℕ) → r.core.exit ≡ o
+          → ((r1 : PlainState) → r1.devices ≡ [] → Fit K V r1.core → Quiet p.map r1.core → (t1 : PlainState) → IsMovedState M r1 t1 → iterate (plain_turn p) n r1 ≡ Ok r' → Comes n r' t1)
+          → Comes (suc n) r' t
       by-exit (Some status) exited again =
-          let same = stays p (suc n) r r' status exited h in
-          (0, omega arith, t, refl, record { core = moved.core ∙ ap (moved_at M t.core.place) (sym same.0); place = λ e. absurd (let x : None ≡ Some status = sym e ∙ ap (λ s. s.exit) same.0 ∙ exited in cc); events = moved.events ∙ sym same.1 })
+          let same = all_stay p (suc n) r r' status exited h in
+          (0, omega arith, t, refl, record { core = moved.core ∙ ap (moved_at M t.core.place) (sym same.0); place = λ e. absurd (let x : None ≡ Some status = sym e ∙ ap (λ s. s.exit) same.0 ∙ exited in cc); events = moved.events ∙ sym same.1; devices = moved.devices ∙ sym (turns_devices p (suc n) r r' h) })
       by-exit None running again =
           let first = bind_ok (plain_turn p r) (iterate (plain_turn p) n) r' h in
           let start = at-own-place r t running moved in
-          let one = one-turn r first.0 fit quiet running first.1 in
-          let rest = again first.0 one.fit one.quiet one.after one.moved first.2 in
+          let one = one-turn r first.0 none fit quiet running first.1 in
+          let rest = again first.0 (turn_devices p r first.0 first.1 ∙ none) one.fit one.quiet one.after one.moved first.2 in
           let few = one.few in (
             one.steps + rest.0,
             omega (arith, rest.1, few),
@@ -254,26 +268,28 @@ module _ (K V : Place → Type 0) (M : Place → Place) (p p' : Program) (shared
           )
 
   pub keeps-runs : KeepsRuns M p p'
-  unfolding program_after
+  unfolding program_after_with
   keeps-runs input n r h =
-      let first : PlainState = record { core = first_plain p input; events = [] } in
-      all-turns n first r (record { core = first_plain p' input; events = [] }) (first-fit K V M p p' shared.moves input) (first-quiet p shared.starts input)
-      (record { core = first-moved K V M p p' shared.moves input ∙ ap (λ q. moved_at M q (first_plain p input)) (sym shared.moves.entry); place = λ _. shared.moves.entry; events = refl }) h
+      let first : PlainState = record { core = first_plain p input; events = []; devices = [] } in
+      all-turns n first r (record { core = first_plain p' input; events = []; devices = [] }) refl (first-fit K V M p p' shared.moves input) (first-quiet p shared.starts input)
+      (record { core = first-moved K V M p p' shared.moves input ∙ ap (λ q. moved_at M q (first_plain p input)) (sym shared.moves.entry); place = λ _. shared.moves.entry; events = refl; devices = refl }) h
 
-  fits-on : (n : ℕ) (r r' : PlainState) → Fit K V r.core → Quiet p.map r.core → iterate (plain_turn p) n r ≡ Ok r' → Fit K V r'.core
-  fits-on zero r r' fit quiet h = let same : r ≡ r' = cc in subst (λ x. Fit K V x.core) same fit
-  fits-on (suc n) r r' fit quiet h = by-exit r.core.exit refl (λ r1 fit1 quiet1 rest. fits-on n r1 r' fit1 quiet1 rest)
+  fits-on : (n : ℕ) (r r' : PlainState) → r.devices ≡ [] → Fit K V r.core → Quiet p.map r.core → iterate (plain_turn p) n r ≡ Ok r' → Fit K V r'.core
+  fits-on zero r r' none fit quiet h = let same : r ≡ r' = cc in subst (λ x. Fit K V x.core) same fit
+  fits-on (suc n) r r' none fit quiet h = by-exit r.core.exit refl (λ r1 none1 fit1 quiet1 rest. fits-on n r1 r' none1 fit1 quiet1 rest)
     where
-      by-exit : (o : Option ℕ) → r.core.exit ≡ o → ((r1 : PlainState) → Fit K V r1.core → Quiet p.map r1.core → iterate (plain_turn p) n r1 ≡ Ok r' → Fit K V r'.core) → Fit K V r'.core
-      by-exit (Some status) exited again = let same = stays p (suc n) r r' status exited h in subst (Fit K V) (sym same.0) fit
+      by-exit :
+          (o : Option ℕ) → r.core.exit ≡ o
+          → ((r1 : PlainState) → r1.devices ≡ [] → Fit K V r1.core → Quiet p.map r1.core → iterate (plain_turn p) n r1 ≡ Ok r' → Fit K V r'.core) → Fit K V r'.core
+      by-exit (Some status) exited again = let same = all_stay p (suc n) r r' status exited h in subst (Fit K V) (sym same.0) fit
       by-exit None running again =
           let first = bind_ok (plain_turn p r) (iterate (plain_turn p) n) r' h in
-          let one = one-turn r first.0 fit quiet running first.1 in
-          again first.0 one.fit one.quiet first.2
+          let one = one-turn r first.0 none fit quiet running first.1 in
+          again first.0 (turn_devices p r first.0 first.1 ∙ none) one.fit one.quiet first.2
 
   -- the places in the state that a run comes to are named
   pub sharing-named : (input : List ℕ) (n : ℕ) (r : PlainState) → program_after p input n ≡ Ok r → NamedCore K r.core
-  unfolding program_after
+  unfolding program_after_with
   sharing-named input n r h =
-      let fit = fits-on n (record { core = first_plain p input; events = [] }) r (first-fit K V M p p' shared.moves input) (first-quiet p shared.starts input) h in
+      let fit = fits-on n (record { core = first_plain p input; events = []; devices = [] }) r refl (first-fit K V M p p' shared.moves input) (first-quiet p shared.starts input) h in
       fit.named

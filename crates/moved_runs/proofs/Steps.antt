@@ -1,25 +1,22 @@
 -- Steps of a program whose places are moved.
-use Rattle.std.proofs.Common.{◌≡◌, ℕ, zero, suc, List, [], ◌++◌, Ok, Option, Some, None, refl, sym, ap, ap₂, ◌∙◌, subst, inl, inr}
+use Rattle.std.proofs.Common.{◌≡◌, List, [], ◌++◌, Ok, Option, Some, None, refl, sym, ap, ap₂, ◌∙◌, subst, inl, inr}
 use Rattle.std.specs.Prelude.{◌⊎◌}
 use Rattle.std.specs.Option.{option_map_or}
-use Rattle.std.proofs.lemmas.List.{append-nil}
 use Rattle.zc_base.specs.declared.mem_map.MemMap.{MemMap}
 use Rattle.zc_base.specs.declared.place.Place.{Place}
 use Rattle.rv_decode.specs.declared.instr.Instr.{Instr}
 use Rattle.rv_decode.specs.declared.instr.Instr.TheVariants as instr
 use Rattle.block_cut.specs.declared.item.Item.{Item}
 use Rattle.block_cut.specs.declared.item.Item.TheVariants as item
-use Rattle.rv_decode.specs.Run.{iterate}
 use Rattle.rv_decode.specs.State.{Event}
-use Rattle.rv_decode.proofs.RunLaws.{bind_ok}
 use Rattle.sym_machine.specs.declared.why.Why.TheVariants.{NoInstruction}
 use Rattle.sym_machine.specs.Change.{jump_does, op_does}
 use Rattle.sym_machine.specs.Words.{code_of, number_of, sum_word}
 use Rattle.sym_machine.specs.Program.{Program}
 use Rattle.sym_machine.specs.Run.{plain_turn, recorded}
 use Rattle.sym_machine.specs.State.{PlainCore, PlainState, reg_of}
-use Rattle.sym_machine.specs.Step.{PlainStep, Went, Stuck, applied, ends, in_turn, item_step, plain_step, undefined_below}
-use Rattle.sym_machine.proofs.StepLaws.{step_past_exit, step_running}
+use Rattle.sym_machine.specs.Step.{PlainStep, Went, Stuck, applied, ends, in_turn, item_step, plain_step, step_with, undefined_below}
+use Rattle.sym_machine.proofs.StepLaws.{step_running}
 use Rattle.moved_runs.specs.Moved.{moved_at, moved_item, moved_memory, moved_step}
 use Rattle.moved_runs.specs.Moves.{IsDead, IsReturn, ItemLeads, KeepsItem, Moves, OpReturns, SharesItem}
 use Rattle.moved_runs.proofs.Words.{number-moved}
@@ -30,39 +27,34 @@ use Rattle.moved_runs.proofs.Ends.{Fit, Quiet, applied-moved, ends-quiet}
 
 -- ---- steps and turns of any program
 
-pub recorded_ok : (t : PlainStep) (r r' : PlainState) → recorded t r ≡ Ok r' → (events : List Event) × (t ≡ Went r'.core events) × (r'.events ≡ r.events ++ events)
-recorded_ok (Went s events) r r' h = (events, cc, cc)
+pub recorded_ok :
+    (t : PlainStep) (r r' : PlainState) → recorded t r ≡ Ok r' → (events : List Event) × (t ≡ Went r'.core events) × (r'.events ≡ r.events ++ events) × (r'.devices ≡ r.devices)
+recorded_ok (Went s events) r r' h =
+    let same : record r { core = s; events = r.events ++ events } ≡ r' = cc in
+    (events, ap (λ x. Went x.core events) same, ap (λ x. x.events) (sym same), ap (λ x. x.devices) (sym same))
 recorded_ok (Stuck w) r r' h = absurd cc
 
 module _ (p : Program) where
-  pub turn_ok : (r r' : PlainState) → plain_turn p r ≡ Ok r' → (events : List Event) × (plain_step p r.core ≡ Went r'.core events) × (r'.events ≡ r.events ++ events)
+  -- without devices a turn is the step
+  pub turn_is : (r : PlainState) → r.devices ≡ [] → plain_turn p r ≡ recorded (plain_step p r.core) r
   unfolding plain_turn
-  turn_ok r r' h = recorded_ok (plain_step p r.core) r r' h
+  turn_is r none = ap (λ ds. recorded (step_with ds p r.core) r) none
 
-  pub turn_goes : (r : PlainState) (s : PlainCore) (events : List Event) → plain_step p r.core ≡ Went s events → plain_turn p r ≡ Ok (record { core = s; events = r.events ++ events })
-  unfolding plain_turn
-  turn_goes r s events h = ap (λ t. recorded t r) h
+  pub turn_ok :
+      (r r' : PlainState) → r.devices ≡ [] → plain_turn p r ≡ Ok r'
+      → (events : List Event) × (plain_step p r.core ≡ Went r'.core events) × (r'.events ≡ r.events ++ events) × (r'.devices ≡ r.devices)
+  turn_ok r r' none h = recorded_ok (plain_step p r.core) r r' (sym (turn_is r none) ∙ h)
+
+  pub turn_goes :
+      (r : PlainState) (s : PlainCore) (events : List Event) → r.devices ≡ [] → plain_step p r.core ≡ Went s events
+      → plain_turn p r ≡ Ok (record r { core = s; events = r.events ++ events })
+  turn_goes r s events none h = turn_is r none ∙ ap (λ t. recorded t r) h
 
   -- a step at a place, by what stands there
-  pub step-at : (s : PlainCore) (o : Option Item) → s.exit ≡ None → p.item s.place ≡ o → plain_step p s ≡ item_step p.map p o s (p.next s.place)
-  step-at s o running here = step_running p s running ∙ ap (λ i. item_step p.map p i s (p.next s.place)) here
+  pub step-at : (s : PlainCore) (o : Option Item) → s.exit ≡ None → p.item s.place ≡ o → plain_step p s ≡ item_step [] p.map p o s (p.next s.place)
+  step-at s o running here = step_running [] p s running ∙ ap (λ i. item_step [] p.map p i s (p.next s.place)) here
 
-  stays_once : (r r' : PlainState) (status : ℕ) → r.core.exit ≡ Some status → plain_turn p r ≡ Ok r' → (r'.core ≡ r.core) × (r'.events ≡ r.events)
-  stays_once r r' status exited h =
-      let t = turn_ok r r' h in
-      let g : Went r.core [] ≡ Went r'.core t.0 = sym (step_past_exit p r.core status exited) ∙ t.1 in
-      let none : t.0 ≡ [] = cc in
-      (cc, t.2 ∙ ap (λ x. r.events ++ x) none ∙ append-nil r.events)
-
-  pub stays : (n : ℕ) (r r' : PlainState) (status : ℕ) → r.core.exit ≡ Some status → iterate (plain_turn p) n r ≡ Ok r' → (r'.core ≡ r.core) × (r'.events ≡ r.events)
-  stays zero r r' status exited h = let same : r ≡ r' = cc in (ap (λ x. x.core) (sym same), ap (λ x. x.events) (sym same))
-  stays (suc n) r r' status exited h =
-      let first = bind_ok (plain_turn p r) (iterate (plain_turn p) n) r' h in
-      let one = stays_once r first.0 status exited first.1 in
-      let rest = stays n first.0 r' status (ap (λ s. s.exit) one.0 ∙ exited) first.2 in
-      (rest.0 ∙ one.0, rest.1 ∙ one.1)
-
-pub dead-stops : (i : Item) (p : Program) (s s' : PlainCore) (next : Place) (events : List Event) → IsDead i → item_step p.map p (Some i) s next ≡ Went s' events → ⊥
+pub dead-stops : (i : Item) (p : Program) (s s' : PlainCore) (next : Place) (events : List Event) → IsDead i → item_step [] p.map p (Some i) s next ≡ Went s' events → ⊥
 dead-stops (item.Word t) p s s' next events d h = cc
 dead-stops (item.Raw w) p s s' next events d h = cc
 dead-stops (item.RawShort x) p s s' next events d h =
@@ -71,13 +63,13 @@ dead-stops (item.RawPair v w) p s s' next events d h = cc
 dead-stops i p s s' next events d h = absurd d
 
 -- a jump that keeps no link does nothing but go
-jump-goes : (host : Place) (p : Program) (s : PlainCore) (next : Place) → Quiet p.map s → s.exit ≡ None → item_step p.map p (Some (item.Jump 0 host)) s next ≡ Went (record s { place = host }) []
+jump-goes : (host : Place) (p : Program) (s : PlainCore) (next : Place) → Quiet p.map s → s.exit ≡ None → item_step [] p.map p (Some (item.Jump 0 host)) s next ≡ Went (record s { place = host }) []
 jump-goes host p s next quiet running =
     ap (λ o. ends p.map (record { place = host; regs = s.regs; memory = s.memory; input = s.input; exit = o }) []) (sym running)
     ∙ ends-quiet p.map (record s { place = host }) [] (record { sp = quiet.sp; is = quiet.is; low = quiet.low; high = quiet.high; still = quiet.still })
 
 -- a return does the same whatever the next place
-return-free : (i : Item) → IsReturn i → (m : MemMap) (p : Program) (s : PlainCore) (next other : Place) → item_step m p (Some i) s next ≡ item_step m p (Some i) s other
+return-free : (i : Item) → IsReturn i → (m : MemMap) (p : Program) (s : PlainCore) (next other : Place) → item_step [] m p (Some i) s next ≡ item_step [] m p (Some i) s other
 return-free (item.Op i) e m p s next other = op i e
   where
     at : (o : Option Place) → applied m s (jump_does o 0 next) ≡ applied m s (jump_does o 0 other)
@@ -92,8 +84,8 @@ return-free (item.Op i) e m p s next other = op i e
 return-free i e m p s next other = absurd e
 
 module _ (K V : Place → Type 0) (M : Place → Place) (p p' : Program) (law : Moves K V M p p') where
-  onward-free : (i : Item) (at q : Place) (t : PlainCore) → (p'.next at ≡ M (p.next q)) ⊎ IsReturn i → item_step p'.map p' (Some i) t (p'.next at) ≡ item_step p'.map p' (Some i) t (M (p.next q))
-  onward-free i at q t (inl e) = ap (item_step p'.map p' (Some i) t) e
+  onward-free : (i : Item) (at q : Place) (t : PlainCore) → (p'.next at ≡ M (p.next q)) ⊎ IsReturn i → item_step [] p'.map p' (Some i) t (p'.next at) ≡ item_step [] p'.map p' (Some i) t (M (p.next q))
+  onward-free i at q t (inl e) = ap (item_step [] p'.map p' (Some i) t) e
   onward-free i at q t (inr r) = return-free i r p'.map p' t (p'.next at) (M (p.next q))
 
   return-moved : {A : Type 0} (i : Item) → A ⊎ IsReturn i → A ⊎ IsReturn (moved_item M i)
@@ -119,7 +111,7 @@ module _ (K V : Place → Type 0) (M : Place → Place) (p p' : Program) (law : 
       let t = moved_at M (M s.place) s in
       step-at p' t (Some (moved_item M i)) running k.there
       ∙ onward-free (moved_item M i) (M s.place) s.place t (return-moved i k.onward)
-      ∙ ap (λ m. item_step m p' (Some (moved_item M i)) t (M (p.next s.place))) law.map
+      ∙ ap (λ m. item_step [] m p' (Some (moved_item M i)) t (M (p.next s.place))) law.map
       ∙ step-moved K V M p p' law p.map s fit.named running i (law.follows s.place i (fit.visits running) here) k.leads k.pc
       ∙ ap (moved_step M (M s.place)) (sym (step-at p s (Some i) running here))
 
@@ -136,7 +128,7 @@ module _ (K V : Place → Type 0) (M : Place → Place) (p p' : Program) (law : 
       ∙ onward-free (item.Op k.op) k.host s.place t (subst (λ x. (p'.next k.host ≡ M (p.next s.place)) ⊎ IsReturn x) k.is k.onward)
       ∙ ap₂ (λ m d. applied m t d) law.map (op-moved K V M p p' law k.host k.op s (p.next s.place) fit.named)
       ∙ applied-moved M p.map k.host s (op_does k.op s (p.next s.place))
-      ∙ ap (moved_step M k.host) (ap (λ x. item_step p.map p (Some x) s (p.next s.place)) (sym k.is) ∙ sym (step-at p s (Some i) running here))
+      ∙ ap (moved_step M k.host) (ap (λ x. item_step [] p.map p (Some x) s (p.next s.place)) (sym k.is) ∙ sym (step-at p s (Some i) running here))
 
   -- what a step leads to
   pub leads-on : (s s' : PlainCore) (events : List Event) (i : Item) → Fit K V s → V s.place → s.exit ≡ None → p.item s.place ≡ Some i → ItemLeads K V p s.place i → plain_step p s ≡ Went s' events → Fit K V s' × ((s'.exit ≡ None) ⊎ (s'.place ≡ s.place)) × Quiet p.map s'

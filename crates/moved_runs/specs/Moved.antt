@@ -73,7 +73,7 @@ moved_at M q s = record { place = q; regs = moved_regs M s.regs; memory = moved_
 
 -- a state under the map, with its events; its own place is moved as well
 abbrev pub moved_state : (Place → Place) → PlainState → PlainState
-moved_state M r = record { core = moved_at M (M r.core.place) r.core; events = r.events }
+moved_state M r = record r { core = moved_at M (M r.core.place) r.core }
 
 -- what a run comes to: a state, or the place where the machine is stuck, and why
 abbrev pub moved_result : (Place → Place) → Result PlainState (Place × Why) → Result PlainState (Place × Why)

@@ -130,6 +130,7 @@ pub record IsMovedState (M : Place → Place) (r t : PlainState) : Type 0 where
   pub core : t.core ≡ moved_at M t.core.place r.core
   pub place : r.core.exit ≡ None → t.core.place ≡ M r.core.place
   pub events : t.events ≡ r.events
+  pub devices : t.devices ≡ r.devices
 
 -- where the one program comes to in n steps, the other comes to in at most 2n
 abbrev pub KeepsRuns : (Place → Place) → Program → Program → Type 0

@@ -8,15 +8,18 @@ use Rattle.rv_decode.specs.declared.instr.LoadOp.TheVariants.{Lb, Lh, Lw, Lbu, L
 use Rattle.rv_decode.specs.declared.instr.StoreOp.{StoreOp}
 use Rattle.rv_decode.specs.declared.instr.StoreOp.TheVariants.{Sb, Sh, Sw}
 use Rattle.rv_decode.specs.Bits.{add32, as_word, signed}
+use Rattle.rv_decode.specs.Devices.{DeviceAccess, Loads, Stores, sent_bytes}
 use Rattle.rv_decode.specs.Memory.{byte_of, changed, extents_of, is_data, lies_in, written}
 use Rattle.rv_decode.specs.Results.{imm_result, is_taken, reg_result, upper_result}
 use Rattle.rv_decode.specs.State.{ZcCore, byte_in, half_at, reg_in, set_reg, word_at}
 
--- what an instruction comes to: it commits and leaves this state, or it doesn't commit, for this cause
+-- what an instruction comes to: it commits and leaves this state, or it doesn't commit, for this cause; an access outside memory
+-- is a device's, if one lies there
 pub data Effect : Type 0 where
   Commits : ZcCore → Effect
   Misaligned : Effect
   BadAccess : Effect
+  Outside : DeviceAccess → Effect
   Break : Effect
   Call : Effect
 
@@ -46,9 +49,13 @@ branches taken distance size z = Commits (record (onward z size z.regs) { pc = (
 
 -- ---- loads and stores
 
--- an access of n bytes of data: its alignment is looked at before its place
+-- an access of n bytes: its alignment is looked at before its place, and outside memory for data it comes to something else
+abbrev pub attempting : ℕ → ℕ → ZcCore → Effect → Effect → Effect
+attempting n a z other go = if a % n == 0 then (if lies_in is_data (extents_of z.memory) a n then go else other) else Misaligned
+
+-- an access of data
 abbrev pub reaching : ℕ → ℕ → ZcCore → Effect → Effect
-reaching n a z go = if a % n == 0 then (if lies_in is_data (extents_of z.memory) a n then go else BadAccess) else Misaligned
+reaching n a z go = attempting n a z BadAccess go
 
 -- the number of bytes that a load reads
 abbrev pub load_width : LoadOp → ℕ
@@ -72,7 +79,7 @@ load_result Lhu z a = half_at z a
 
 -- a load from an address
 abbrev pub loads : LoadOp → ℕ → ℕ → ℕ → ZcCore → Effect
-loads op a rd size z = reaching (load_width op) a z (gives (load_result op z a) rd size z)
+loads op a rd size z = attempting (load_width op) a z (Outside (Loads op a rd size)) (gives (load_result op z a) rd size z)
 
 -- the number of bytes that a store writes
 abbrev pub store_width : StoreOp → ℕ
@@ -86,7 +93,8 @@ stored n a word z = record z { memory = changed (written a n (byte_of word)) z.m
 
 -- a store to an address
 abbrev pub stores : StoreOp → ℕ → ℕ → ℕ → ZcCore → Effect
-stores op a word size z = reaching (store_width op) a z (Commits (onward (stored (store_width op) a word z) size z.regs))
+stores op a word size z =
+    attempting (store_width op) a z (Outside (Stores a (sent_bytes op word) size)) (Commits (onward (stored (store_width op) a word z) size z.regs))
 
 -- ---- the jump table
 

@@ -4,6 +4,7 @@ pub mod Decode
 pub mod Registers
 pub mod Immediates
 pub mod Memory
+pub mod Devices
 pub mod State
 pub mod Results
 pub mod Effect

@@ -1,12 +1,16 @@
 -- The state of the machine that runs RV32IM and Zc.
 use Rattle.std.specs.Prelude.{◌≡◌, ℕ, ◌+◌, ◌*◌, ◌^◌, ◌<◌, ◌==◌, if◌then◌else◌, List, ◌∷◌, length, Option, replicate, slice_index, slice_set}
+use Rattle.rv_decode.specs.Devices.{Device}
 use Rattle.rv_decode.specs.Memory.{Region, cell_at}
 
--- what a program does to its environment: it reads input, writes output, or exits
+-- what a program does to its environment: it reads input, writes output, or exits; or it loads at a device's address, where it
+-- asks for so many bytes and gets these, or stores bytes there
 pub data Event : Type 0 where
   Read : (bytes : List ℕ) → Event
   Write : (fd : ℕ) (bytes : List ℕ) → Event
   Exit : (status : ℕ) → Event
+  Load : (at width : ℕ) (bytes : List ℕ) → Event
+  Store : (at : ℕ) (bytes : List ℕ) → Event
 
 -- what the machine itself keeps: the program counter, 32 registers, the base of the jump table (jvt, Zc 1.0,
 -- chapter "Zcmt"), memory, the number of instructions that were committed, and the exit's status
@@ -18,11 +22,13 @@ pub record ZcCore : Type 0 where
   pub commits : ℕ
   pub exit : Option ℕ
 
--- a state of the machine, with the input that is left and the events so far
+-- a state of the machine, with the input that is left, from which devices answer as well, the events so far, and where devices
+-- lie
 pub record ZcState : Type 0 where
   pub core : ZcCore
   pub input : List ℕ
   pub events : List Event
+  pub devices : List Device
 
 -- ---- registers
 

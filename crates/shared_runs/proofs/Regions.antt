@@ -1,5 +1,5 @@
 -- Interrupts and commits change what regions hold, but not where they lie; and no interrupt is an exit.
-use Rattle.std.proofs.Common.{◌≡◌, ℕ, ◌%◌, List, [], ◌∷◌, Option, Some, None, Result, Ok, cond, refl, sym, ap, ◌∙◌, eqb, ltb}
+use Rattle.std.proofs.Common.{◌≡◌, ℕ, ◌%◌, List, [], ◌∷◌, Option, Some, None, Result, Ok, Err, Bool, true, false, cond, refl, sym, ap, ◌∙◌, eqb, ltb}
 use Rattle.std.specs.Prelude.{◌&&◌, ◌||◌, slice_get}
 use Rattle.std.specs.Option.{option_map_or}
 use Rattle.std.proofs.lemmas.Bool.{cond_both}
@@ -7,7 +7,8 @@ use Rattle.interrupt_plan.specs.Plan.{Interrupt}
 use Rattle.rv_decode.specs.declared.instr.Instr.{Instr}
 use Rattle.rv_decode.specs.declared.instr.Instr.TheVariants.{Upper, Jal, Jalr, Branch, Load, Store, WithImm, WithReg, Fence, Ecall, Ebreak, Csrrw}
 use Rattle.rv_decode.specs.Effect as act
-use Rattle.rv_decode.specs.Effect.{Effect, Commits, effect, jumps, load_width, onward, reaching, store_width}
+use Rattle.rv_decode.specs.Effect.{Effect, Commits, attempting, effect, jumps, load_width, onward, store_width}
+use Rattle.rv_decode.specs.Devices.{DeviceAccess, Loads, Stores}
 use Rattle.rv_decode.specs.Memory.{Extent, byte_of, changed, extents_of, is_data, is_stack, is_text, lies_in, written}
 use Rattle.rv_decode.specs.State.{ZcCore, ZcState, reg_in}
 use Rattle.rv_decode.proofs.MemoryLaws.{extents-changed}
@@ -20,8 +21,8 @@ use Rattle.zc_machine.specs.declared.answer.EnvCall.{EnvCall}
 use Rattle.zc_machine.specs.declared.answer.EnvCall.TheVariants as call
 use Rattle.zc_machine.specs.Fetch.{Fetched, Found, Missing, fetched_at}
 use Rattle.zc_machine.specs.Interrupt.{all_dirtied, all_interrupted, dirtied, done_all, done_of, done_one, interrupted}
-use Rattle.zc_machine.specs.Run.{answered, committed, turn, zc_turn}
-use Rattle.zc_machine.specs.Step.{Committed, Ended, Stopped, Wants, ZcStep, buffered, called, effect_step, made, zc_step}
+use Rattle.zc_machine.specs.Run.{answered, committed, device_answers, is_answered, turn, zc_turn}
+use Rattle.zc_machine.specs.Step.{Asks, Committed, Ended, Stopped, Wants, ZcStep, buffered, called, effect_step, made, zc_step}
 use Rattle.zc_machine.proofs.TurnLaws.{zc_turn-running}
 
 -- a result has one value
@@ -94,22 +95,23 @@ abbrev Leaves : List Extent → Effect → Type 0
 Leaves es (Commits y) = extents_of y.memory ≡ es
 Leaves es act.Misaligned = Unit {0}
 Leaves es act.BadAccess = Unit {0}
+Leaves es (act.Outside x) = Unit {0}
 Leaves es act.Break = Unit {0}
 Leaves es act.Call = Unit {0}
 
-reaching_leaves : (n a : ℕ) (z : ZcCore) (es : List Extent) (go : Effect) → Leaves es go → Leaves es (reaching n a z go)
-reaching_leaves n a z es go h =
-    cond_both (eqb (a % n) 0) (cond (lies_in is_data (extents_of z.memory) a n) go act.BadAccess) act.Misaligned (Leaves es)
-    (λ _. cond_both (lies_in is_data (extents_of z.memory) a n) go act.BadAccess (Leaves es) (λ _. h) (λ _. tt)) (λ _. tt)
+attempting_leaves : (n a : ℕ) (z : ZcCore) (es : List Extent) (other go : Effect) → Leaves es other → Leaves es go → Leaves es (attempting n a z other go)
+attempting_leaves n a z es other go o h =
+    cond_both (eqb (a % n) 0) (cond (lies_in is_data (extents_of z.memory) a n) go other) act.Misaligned (Leaves es)
+    (λ _. cond_both (lies_in is_data (extents_of z.memory) a n) go other (Leaves es) (λ _. h) (λ _. o)) (λ _. tt)
 
 effect_leaves : (i : Instr) (size : ℕ) (z : ZcCore) → Leaves (extents_of z.memory) (effect i size z)
 effect_leaves (Upper op rd imm) size z = refl
 effect_leaves (Jal rd distance) size z = refl
 effect_leaves (Jalr rd base imm) size z = refl
 effect_leaves (Branch op first second distance) size z = refl
-effect_leaves (Load op rd base imm) size z = reaching_leaves (load_width op) _ z (extents_of z.memory) _ refl
+effect_leaves (Load op rd base imm) size z = attempting_leaves (load_width op) _ z (extents_of z.memory) _ _ tt refl
 effect_leaves (Store op source base imm) size z =
-    reaching_leaves (store_width op) _ z (extents_of z.memory) _ (extents-changed _ z.memory)
+    attempting_leaves (store_width op) _ z (extents_of z.memory) _ _ tt (extents-changed _ z.memory)
 effect_leaves (WithImm op rd first imm) size z = refl
 effect_leaves (WithReg op rd first second) size z = refl
 effect_leaves (Fence rest) size z = refl
@@ -119,7 +121,7 @@ effect_leaves (Csrrw rd source) size z = refl
 
 reaching_all_leaves : (xs : List Access) (z : ZcCore) (es : List Extent) (go : Effect) → Leaves es go → Leaves es (reaching_all xs z go)
 reaching_all_leaves [] z es go h = h
-reaching_all_leaves (x ∷ xs) z es go h = reaching_leaves 4 x.at z es (reaching_all xs z go) (reaching_all_leaves xs z es go h)
+reaching_all_leaves (x ∷ xs) z es go h = attempting_leaves 4 x.at z es act.BadAccess (reaching_all xs z go) tt (reaching_all_leaves xs z es go h)
 
 -- a push or a pop, whatever registers and place it ends with
 frame_leaves :
@@ -144,6 +146,7 @@ StepLeaves es (Committed y) = extents_of y.memory ≡ es
 StepLeaves es (Wants c) = Unit {0}
 StepLeaves es (Ended status) = Unit {0}
 StepLeaves es (Stopped reason) = Unit {0}
+StepLeaves es (Asks x) = Unit {0}
 
 buffered_leaves : (es : List Extent) (z : ZcCore) (c : EnvCall) → StepLeaves es (buffered z c)
 buffered_leaves es z c =
@@ -162,6 +165,7 @@ made_leaves (Found s size) z = by (short_effect s size z) (short_leaves s size z
     by (Commits y) h = h
     by act.Misaligned h = tt
     by act.BadAccess h = tt
+    by (act.Outside x) h = tt
     by act.Break h = tt
     by act.Call h = called_leaves (extents_of z.memory) z
 made_leaves (Missing reason) z = tt
@@ -176,6 +180,12 @@ committed_extents (Committed y) r r' leaves h = let same : record r { core = y }
 committed_extents (Wants c) r r' leaves h = answered_extents c r r' h
 committed_extents (Ended status) r r' leaves h = let same : r ≡ r' = cc in ap (λ x. extents_of x.core.memory) (sym same)
 committed_extents (Stopped reason) r r' leaves h = absurd cc
+committed_extents (Asks x) r r' leaves h = by x (is_answered r.devices x) h
+  where
+    by : (x : DeviceAccess) (b : Bool) → cond b (Ok (device_answers x r)) (Err BadAccess) ≡ Ok r' → extents_of r'.core.memory ≡ extents_of r.core.memory
+    by x false g = absurd cc
+    by (Loads op a rd size) true g = let same : device_answers (Loads op a rd size) r ≡ r' = cc in ap (λ y. extents_of y.core.memory) (sym same)
+    by (Stores a bytes size) true g = let same : device_answers (Stores a bytes size) r ≡ r' = cc in ap (λ y. extents_of y.core.memory) (sym same)
 
 -- a commit leaves regions where they lie
 pub turn_extents : (r r' : ZcState) → zc_turn [] r ≡ Ok r' → extents_of r'.core.memory ≡ extents_of r.core.memory

@@ -1,13 +1,14 @@
 -- An image that keeps step with the program does so if interrupts write shared data, too. Before a stretch the cells of all its commits
 -- may be written in both machines; a run that ends inside a stretch has made none of its commits, so only the events are claimed.
 use Rattle.std.proofs.Common.{◌≡◌, ℕ, zero, suc, ◌+◌, ◌-◌, ◌*◌, ◌<◌, ◌≤◌, List, [], ◌∷◌, ◌++◌, Bool, true, false, cond, Option, Some, None, Result, Ok, refl, sym, ap, ap₂, ◌∙◌, subst, inr, ⊎_elim, arith, eqb}
-use Rattle.std.specs.Prelude.{All, IsSome}
+use Rattle.std.specs.Prelude.{◌⊎◌, All, IsSome}
 use Rattle.std.specs.Option.{is_some}
 use Rattle.std.proofs.lemmas.Bool.{cond-false, cond-true, eqb-false, eqb-true, false≢true, ne_eqb}
 use Rattle.std.proofs.lemmas.List.Elements.{All-cons, All-filter, All-head, All-nil, All-tail}
 use Rattle.zc_base.specs.declared.place.Place.{Place}
 use Rattle.interrupt_plan.specs.Plan.{IsInterrupt}
 use Rattle.interrupt_plan.specs.SharedPlan.{IsSharedPlan, SharedEntry, shared_at}
+use Rattle.rv_decode.specs.Devices.{AreOutside}
 use Rattle.rv_decode.specs.Memory.{Region, changed, written}
 use Rattle.rv_decode.specs.Run.{◌>>=◌, iterate}
 use Rattle.rv_decode.specs.State.{ZcState}
@@ -18,20 +19,22 @@ use Rattle.sym_machine.specs.declared.word.SymByte.TheVariants.{Num}
 use Rattle.sym_machine.specs.Program.{Program}
 use Rattle.sym_machine.specs.Run.{plain_turn}
 use Rattle.sym_machine.specs.State.{PlainCore, PlainState, first_plain}
+use Rattle.sym_machine.proofs.RunLaws.{turns_devices}
 use Rattle.zc_machine.specs.declared.reason.Reason.{Reason}
-use Rattle.zc_machine.specs.Run.{first_state, machine_after, turns, zc_turns}
-use Rattle.zc_machine.proofs.TurnLaws.{turns-add}
+use Rattle.zc_machine.specs.Run.{first_state, machine_after, turns, zc_turns, machine_after_with}
+use Rattle.zc_machine.proofs.TurnLaws.{turns-add, zc_turns_devices}
 use Rattle.zc_link.specs.DataApart.{CellsLie, FromLoad, FromPair, IsCell, Starts, all_poked, poked_plain}
 use Rattle.zc_link.specs.Image.{Image, loaded_core}
 use Rattle.zc_link.specs.IsSimulation.{IsInside, IsSimulation}
 use Rattle.zc_link.specs.Pace.{Pace, lead_from, lead_of}
 use Rattle.zc_link.specs.Sound.{Over, Sound, Together}
 use Rattle.zc_link.specs.Stands.{Stands}
+use Rattle.zc_link.proofs.Start.{loaded_first}
 use Rattle.shared_runs.specs.SharedPlain.{SharedState, Sharing, after_step, cells_from, shared_after, shared_start, shared_step, step_within, stretch_begun}
 use Rattle.shared_runs.specs.SharesCells.{KeepsPace, SharesCells}
 use Rattle.shared_runs.proofs.Regions.{one_result}
 use Rattle.shared_runs.proofs.Turns.{AreEntries, IsEntry, cells_are, cells_first, cells_in, cells_last, cells_of, cuts_in}
-use Rattle.shared_runs.proofs.Written.{IsWrite, all_written, poked_events, poked_exit, poked_place, written_events, written_sound}
+use Rattle.shared_runs.proofs.Written.{IsWrite, all_written, poked_devices, poked_events, poked_exit, poked_place, written_devices, written_events, written_sound}
 
 -- an image that starts at the program's start has no commits before it, and another three
 lead_few : (o : Option ℕ) (entry : ℕ) → lead_from o entry ≤ 3
@@ -86,14 +89,15 @@ module _ (p : Program) (Named : Place → Type 0) (e : Image) (pace : Pace) (law
       runs : turns (λ j. shared_by ranges plan (k + j)) count z ≡ Ok after
       together : Together p Named e r'.core after
       events : after.events ≡ r'.events
+      none : after.devices ≡ []
 
     abbrev begun : ℕ → PlainState → PlainState
     begun k r = all_poked (cells_from ranges plan k (pace.weight r.core)) r
 
     stretch :
-        (k : ℕ) (r r' : PlainState) (z : ZcState) → Sound p Named e r.core z → z.events ≡ r.events
+        (k : ℕ) (r r' : PlainState) (z : ZcState) → Sound p Named e r.core z → z.events ≡ r.events → z.devices ≡ [] → r.devices ≡ []
         → iterate (plain_turn p) (pace.span r.core.place) (begun k r) ≡ Ok r' → Came k (pace.weight r.core) z r'
-    stretch k r r' z so events h =
+    stretch k r r' z so events none bare h =
         let w = pace.weight r.core in
         let entries = entries_from plan k in
         let entries_ok = entries_are plan k is in
@@ -101,10 +105,13 @@ module _ (p : Program) (Named : Place → Type 0) (e : Image) (pace : Pace) (law
         let are = cells_are lie ranges within w entries entries_ok in
         let steps : iterate (plain_turn p) (pace.span r.core.place) (all_poked cs r) ≡ Ok r' =
         ap (λ ds. iterate (plain_turn p) (pace.span r.core.place) (all_poked ds r)) (sym (from_same plan k w)) ∙ h in
+        let without : (all_poked cs r).devices ≡ [] = poked_devices cs r ∙ bare in
+        let no_device : (all_written cs z).devices ≡ [] = written_devices cs z ∙ none in
         let comes =
         law.step (all_poked cs r) r' (ap (λ q. iterate (plain_turn p) (pace.span q) (all_poked cs r)) (poked_place cs r) ∙ steps)
         (λ j. cuts_in (entries j)) (λ j. cuts_are (entries j) (entries_ok j)) (all_written cs z) (written_sound lie cs r z are so)
-        (written_events cs z ∙ events ∙ sym (poked_events cs r)) in
+        (written_events cs z ∙ events ∙ sym (poked_events cs r)) (no_device ∙ sym without)
+        (subst (AreOutside p.map) (sym without) (All-nil (λ d. (d.at + d.size ≤ p.map.text) ⊎ (p.map.stack_high ≤ d.at)))) in
         let from : FromPair p Named e pace r w z = record { commits = refl; sound = so; cells = cs; are = are; after = r'; steps = steps } in
         record {
           after = comes.after;
@@ -113,6 +120,7 @@ module _ (p : Program) (Named : Place → Type 0) (e : Image) (pace : Pace) (law
               (ap (λ n. zc_turns (λ j. cuts_in (entries j)) n (all_written cs z)) (sym (weight_poked cs r)) ∙ comes.runs);
           together = comes.together;
           events = comes.events;
+          none = zc_turns_devices (λ j. cuts_in (entries j)) (pace.weight (all_poked cs r).core) (all_written cs z) comes.after comes.runs ∙ no_device;
         }
 
     module _ (input : List ℕ) (bytes : All (λ b. b < 256) input) where
@@ -123,7 +131,7 @@ module _ (p : Program) (Named : Place → Type 0) (e : Image) (pace : Pace) (law
       run m = machine_after (loaded_core e) input (shared_by ranges plan) m
 
       further : (k count : ℕ) (z z' : ZcState) → run k ≡ Ok z → turns (λ j. shared_by ranges plan (k + j)) count z ≡ Ok z' → run (k + count) ≡ Ok z'
-      unfolding machine_after
+      unfolding machine_after_with
       further k count z z' first rest =
           turns-add (shared_by ranges plan) k count (first_state (loaded_core e) input)
           ∙ ap (λ o. o >>= turns (λ j. shared_by ranges plan (k + j)) count) first ∙ rest
@@ -136,6 +144,8 @@ module _ (p : Program) (Named : Place → Type 0) (e : Image) (pace : Pace) (law
         runs : run commits ≡ Ok z
         sound : Sound p Named e r.core z
         events : z.events ≡ r.events
+        none : z.devices ≡ []
+        bare : r.devices ≡ []
 
       -- k steps of the stretch from r have been made, and more are left
       record Within (n : ℕ) (r : PlainState) (k : ℕ) (s : SharedState) : Type 0 where
@@ -186,10 +196,12 @@ module _ (p : Program) (Named : Place → Type 0) (e : Image) (pace : Pace) (law
           let steps : iterate (plain_turn p) (pace.span r.core.place) (begun s.commits r) ≡ Ok q =
           ap (λ m. iterate (plain_turn p) m (begun s.commits r)) span ∙ iterate-add (plain_turn p) k 1 (begun s.commits r)
           ∙ ap (λ o. o >>= iterate (plain_turn p) 1) wi.steps ∙ iterate-one (plain_turn p) s.plain q turn in
-          let came = stretch s.commits r q wi.pair.z wi.pair.sound wi.pair.events steps in
+          let came = stretch s.commits r q wi.pair.z wi.pair.sound wi.pair.events wi.pair.none wi.pair.bare steps in
+          let kept : q.devices ≡ [] =
+          turns_devices p (pace.span r.core.place) (begun s.commits r) q steps ∙ poked_devices (cells_from ranges plan s.commits (pace.weight r.core)) r ∙ wi.pair.bare in
           let runs : run s.after ≡ Ok came.after = ap run after ∙ further s.commits (pace.weight r.core) wi.pair.z came.after wi.pair.runs came.runs in
           ⊎_elim
-          (λ so. Between (record { z = came.after; runs = runs; sound = so; events = came.events }) refl fewer)
+          (λ so. Between (record { z = came.after; runs = runs; sound = so; events = came.events; none = came.none; bare = kept }) refl fewer)
           (λ over. Ended (record { z = came.after; runs = runs; over = over; events = came.events }) fewer)
           came.together
 
@@ -250,17 +262,17 @@ module _ (p : Program) (Named : Place → Type 0) (e : Image) (pace : Pace) (law
       -- ---- the start
 
       started : Reached 0 (shared_start w input)
-      unfolding machine_after
+      unfolding machine_after_with
       started =
           let lead = lead_of p e in
           let short : lead ≤ 3 = lead_few (e.address p.entry) e.entry in
-          let first : PlainState = record { core = first_plain p input; events = [] } in
+          let first : PlainState = record { core = first_plain p input; events = []; devices = [] } in
           let z0 = first_state (loaded_core e) input in
           let entries_ok : AreEntries (shared_at plan) = λ k. All-filter (λ (x : SharedEntry). eqb x.entry.at k) IsEntry plan is in
-          let comes = law.start input bytes (λ k. cuts_in (shared_at plan k)) (λ k. cuts_are (shared_at plan k) (entries_ok k)) in
+          let comes = law.start (loaded_core e) (loaded_first e) [] input bytes (λ k. cuts_in (shared_at plan k)) (λ k. cuts_are (shared_at plan k) (entries_ok k)) in
           let cs = cells_of lie ranges within (shared_at plan) lead in
           let are = cells_are lie ranges within lead (shared_at plan) entries_ok in
-          let from : FromLoad p e lead z0 = record { commits = refl; input = input; bytes = bytes; loads = refl } in
+          let from : FromLoad p e lead z0 = record { commits = refl; devices = []; input = input; bytes = bytes; first = loaded_core e; starts = loaded_first e; loads = refl } in
           let runs = cells_last lie ranges within law.lead_cuts_apart law.lead_commits_apart lead (shared_at plan) [] z0 comes.after entries_ok (All-nil (IsWrite p)) (Starts lead z0 from) refl comes.runs in
           ⊎_elim
           (λ so. Between (record {
@@ -268,6 +280,8 @@ module _ (p : Program) (Named : Place → Type 0) (e : Image) (pace : Pace) (law
             runs = runs;
             sound = subst (λ ds. Sound p Named e (all_poked ds first).core (all_written cs comes.after)) (sym (from_start plan lead)) (written_sound lie cs first comes.after are so);
             events = written_events cs comes.after ∙ comes.events ∙ sym (poked_events (cells_from ranges plan 0 lead) first);
+            none = written_devices cs comes.after ∙ zc_turns_devices (λ k. cuts_in (shared_at plan k)) lead z0 comes.after comes.runs;
+            bare = poked_devices (cells_from ranges plan 0 lead) first;
           }) refl (omega (arith, short)))
           (λ over. absurd (let none : None ≡ Some over.status = over.exited in cc))
           comes.together

@@ -42,6 +42,10 @@ pub written_events : (cs : List (ℕ × ℕ)) (z : ZcState) → (all_written cs 
 written_events [] z = refl
 written_events (c ∷ cs) z = written_events cs (poked c.0 c.1 z)
 
+pub written_devices : (cs : List (ℕ × ℕ)) (z : ZcState) → (all_written cs z).devices ≡ z.devices
+written_devices [] z = refl
+written_devices (c ∷ cs) z = written_devices cs (poked c.0 c.1 z)
+
 pub written_extents : (cs : List (ℕ × ℕ)) (z : ZcState) → extents_of (all_written cs z).core.memory ≡ extents_of z.core.memory
 written_extents [] z = refl
 written_extents (c ∷ cs) z = written_extents cs (poked c.0 c.1 z) ∙ extents-changed (written c.0 1 (λ _. c.1)) z.core.memory
@@ -59,6 +63,10 @@ poked_exit (c ∷ cs) r = poked_exit cs (poked_plain c r)
 pub poked_events : (cs : List (ℕ × ℕ)) (r : PlainState) → (all_poked cs r).events ≡ r.events
 poked_events [] r = refl
 poked_events (c ∷ cs) r = poked_events cs (poked_plain c r)
+
+pub poked_devices : (cs : List (ℕ × ℕ)) (r : PlainState) → (all_poked cs r).devices ≡ r.devices
+poked_devices [] r = refl
+poked_devices (c ∷ cs) r = poked_devices cs (poked_plain c r)
 
 -- ---- one byte
 

@@ -42,7 +42,7 @@ pub record Sharing : Type 0 where
 -- the first state: the cells of the commits before the program's start are written
 abbrev pub shared_start : Sharing → List ℕ → SharedState
 shared_start w input = let lead = lead_of w.program w.image in record {
-  plain = all_poked (cells_from w.ranges w.plan 0 lead) (record { core = first_plain w.program input; events = [] });
+  plain = all_poked (cells_from w.ranges w.plan 0 lead) (record { core = first_plain w.program input; events = []; devices = [] });
   commits = lead;
   left = 0;
   after = lead;

@@ -11,3 +11,4 @@ pub mod WordLaws
 pub mod SpanLaws
 pub mod StackLaws
 pub mod WrittenLaws
+mod Examples

@@ -1,10 +1,13 @@
 -- Runs of the symbolic machine, one step at a time.
-use Rattle.std.proofs.Common.{◌≡◌, ℕ, zero, suc, ◌+◌, ◌-◌, ◌<◌, ◌≤◌, List, [], ◌∷◌, ◌++◌, Option, Some, None, Ok, Err, refl, ap, sym, ◌∙◌, arith}
+use Rattle.std.specs.Option.{option_map_or}
+use Rattle.std.specs.Prelude.{◌⊎◌}
+use Rattle.std.proofs.Common.{◌≡◌, ℕ, zero, suc, ◌+◌, ◌-◌, ◌<◌, ◌≤◌, List, [], ◌∷◌, ◌++◌, Option, Some, None, Ok, Err, refl, ap, sym, ◌∙◌, inl, inr, ⊎_elim, arith}
 use Rattle.std.proofs.lemmas.List.{append-nil}
 use Rattle.zc_base.specs.declared.mem_map.MemMap.{MemMap}
 use Rattle.zc_base.specs.declared.place.Place.{Place}
 use Rattle.block_cut.specs.declared.item.Item.{Item}
 use Rattle.rv_decode.specs.declared.instr.Instr.{Instr}
+use Rattle.rv_decode.specs.Devices.{Device}
 use Rattle.rv_decode.specs.Memory.{extents_of}
 use Rattle.rv_decode.specs.Run.{iterate, ◌>>=◌}
 use Rattle.rv_decode.specs.State.{Event, Exit, Read, Write}
@@ -19,26 +22,47 @@ use Rattle.sym_machine.specs.declared.run.TraceEnd.TheVariants as end
 use Rattle.sym_machine.specs.declared.why.Why.{Why}
 use Rattle.sym_machine.specs.Answer.{RunsOn}
 use Rattle.sym_machine.specs.Change.{Change, Does, Goes, Stops, item_does}
+use Rattle.sym_machine.specs.Devices.{device_does, does_with}
 use Rattle.sym_machine.specs.Advance.{RunsTo}
 use Rattle.sym_machine.specs.Kept.{IsOf}
 use Rattle.sym_machine.specs.Program.{Program}
-use Rattle.sym_machine.specs.Run.{plain_turn, program_after, recorded}
+use Rattle.sym_machine.specs.Run.{plain_turn, program_after, recorded, program_after_with}
 use Rattle.sym_machine.specs.RunEnd.{IsCounted, Traced, plain_course}
 use Rattle.sym_machine.specs.State.{PlainCore, PlainState, first_plain}
 use Rattle.sym_machine.specs.Expansions.{item_expansion}
-use Rattle.sym_machine.specs.Step.{PlainStep, Went, Stuck, after_change, ends, applied, in_turn, item_step, plain_step}
-use Rattle.sym_machine.proofs.StepLaws.{Ended, ended, extents-step, step_past_exit, step_expansion, step_single}
+use Rattle.sym_machine.specs.Step.{PlainStep, Went, Stuck, after_change, ends, applied, in_turn, item_step, plain_step, step_with}
+use Rattle.sym_machine.proofs.StepLaws.{Ended, does_there, ended, extents-step, step_past_exit, step_expansion, step_single}
 
 -- ---- a turn, taken apart
 
 -- a step that went on, with its events
-recorded_went : (s : PlainCore) (events : List Event) (r r' : PlainState) → recorded (Went s events) r ≡ Ok r' → (s ≡ r'.core) × (r'.events ≡ r.events ++ events)
+record Recorded (s : PlainCore) (events : List Event) (r r' : PlainState) : Type 0 where
+  core : s ≡ r'.core
+  told : r'.events ≡ r.events ++ events
+  devices : r'.devices ≡ r.devices
+
+recorded_went : (s : PlainCore) (events : List Event) (r r' : PlainState) → recorded (Went s events) r ≡ Ok r' → Recorded s events r r'
 recorded_went s events r r' h =
-    let same : record { core = s; events = r.events ++ events } ≡ r' = cc in
-    (ap (λ x. x.core) same, ap (λ x. x.events) (sym same))
+    let same : record r { core = s; events = r.events ++ events } ≡ r' = cc in
+    record { core = ap (λ x. x.core) same; told = ap (λ x. x.events) (sym same); devices = ap (λ x. x.devices) (sym same) }
 
 recorded_stuck : {A : Type 0} (why : Why) (r r' : PlainState) → recorded (Stuck why) r ≡ Ok r' → A
 recorded_stuck why r r' h = absurd cc
+
+-- a turn leaves devices where they are
+pub turn_devices : (p : Program) (r r' : PlainState) → plain_turn p r ≡ Ok r' → r'.devices ≡ r.devices
+unfolding plain_turn
+turn_devices p r r' h = by (step_with r.devices p r.core) h
+  where
+    by : (t : PlainStep) → recorded t r ≡ Ok r' → r'.devices ≡ r.devices
+    by (Went s events) g = (recorded_went s events r r' g).devices
+    by (Stuck why) g = recorded_stuck why r r' g
+
+pub turns_devices : (p : Program) (n : ℕ) (r r' : PlainState) → iterate (plain_turn p) n r ≡ Ok r' → r'.devices ≡ r.devices
+turns_devices p zero r r' h = let same : r ≡ r' = cc in ap (λ x. x.devices) (sym same)
+turns_devices p (suc n) r r' h =
+    let first = bind_ok (plain_turn p r) (iterate (plain_turn p) n) r' h in
+    turns_devices p n first.0 r' first.2 ∙ turn_devices p r first.0 first.1
 
 -- what stands at the place makes a change, the step ends, and the change's events are added
 pub record Stepped (p : Program) (r r' : PlainState) : Type 0 where
@@ -47,48 +71,76 @@ pub record Stepped (p : Program) (r r' : PlainState) : Type 0 where
   pub end : Ended p.map (after_change change r.core) r'.core
   pub events : r'.events ≡ r.events ++ change.events
 
-pub stepped : (p : Program) (r r' : PlainState) → r.core.exit ≡ None → item_expansion (p.item r.core.place) ≡ None → plain_turn p r ≡ Ok r' → Stepped p r r'
-unfolding plain_turn
-stepped p r r' running single h = by_item (does r) refl (ap (λ t. recorded t r) (sym (step_single p r.core running single)) ∙ h)
-  where
-    does : PlainState → Does
-    does r = item_does p (p.item r.core.place) r.core (p.next r.core.place)
+-- or a device answers it, and makes the change
+pub record Answered (p : Program) (r r' : PlainState) : Type 0 where
+  pub change : Change
+  pub does : device_does r.devices p (p.item r.core.place) r.core (p.next r.core.place) ≡ Some change
+  pub end : Ended p.map (after_change change r.core) r'.core
+  pub events : r'.events ≡ r.events ++ change.events
 
-    by_end : (c : Change) (t : PlainStep) → does r ≡ Goes c → ends p.map (after_change c r.core) c.events ≡ t → recorded t r ≡ Ok r' → Stepped p r r'
+-- what does something with devices does it without them, or a device answers
+with_either :
+    (ds : List Device) (p : Program) (o : Option Item) (s : PlainCore) (next : Place) (d : Does) (c : Change) → does_with ds p o s next d ≡ Goes c
+    → (d ≡ Goes c) ⊎ (device_does ds p o s next ≡ Some c)
+with_either [] p o s next d c h = inl h
+with_either (x ∷ ds) p o s next (Goes c') c h = inl h
+with_either (x ∷ ds) p o s next (Stops why) c h = by (device_does (x ∷ ds) p o s next) refl h
+  where
+    by : (a : Option Change) → device_does (x ∷ ds) p o s next ≡ a → option_map_or Goes a (Stops why) ≡ Goes c → (Stops why ≡ Goes c) ⊎ (device_does (x ∷ ds) p o s next ≡ Some c)
+    by None is g = inl g
+    by (Some c') is g = inr (is ∙ (let same : c' ≡ c = cc in ap Some same))
+
+pub stepped_either :
+    (p : Program) (r r' : PlainState) → r.core.exit ≡ None → item_expansion (p.item r.core.place) ≡ None → plain_turn p r ≡ Ok r' → Stepped p r r' ⊎ Answered p r r'
+unfolding plain_turn
+stepped_either p r r' running single h = by_item (does_there r.devices p r.core) refl (ap (λ t. recorded t r) (sym (step_single r.devices p r.core running single)) ∙ h)
+  where
+    by_end : (c : Change) (t : PlainStep) → does_there r.devices p r.core ≡ Goes c → ends p.map (after_change c r.core) c.events ≡ t → recorded t r ≡ Ok r' → Stepped p r r' ⊎ Answered p r r'
     by_end c (Went s events) is end g =
         let left = recorded_went s events r r' g in
-        let q = ended p.map (after_change c r.core) r'.core c.events events (end ∙ ap (λ t. Went t events) left.0) in
-        record { change = c; does = is; end = q.0; events = left.1 ∙ ap (λ l. r.events ++ l) q.1 }
+        let q = ended p.map (after_change c r.core) r'.core c.events events (end ∙ ap (λ t. Went t events) left.core) in
+        let told = left.told ∙ ap (λ l. r.events ++ l) q.1 in
+        ⊎_elim
+        (λ own. inl (record { change = c; does = own; end = q.0; events = told }))
+        (λ device. inr (record { change = c; does = device; end = q.0; events = told }))
+        (with_either r.devices p (p.item r.core.place) r.core (p.next r.core.place) (item_does p (p.item r.core.place) r.core (p.next r.core.place)) c is)
     by_end c (Stuck why) is end g = recorded_stuck why r r' g
 
-    by_item : (d : Does) → does r ≡ d → recorded (applied p.map r.core d) r ≡ Ok r' → Stepped p r r'
+    by_item : (d : Does) → does_there r.devices p r.core ≡ d → recorded (applied p.map r.core d) r ≡ Ok r' → Stepped p r r' ⊎ Answered p r r'
     by_item (Stops why) is g = recorded_stuck why r r' g
     by_item (Goes c) is g = by_end c (ends p.map (after_change c r.core) c.events) is refl g
+
+-- where what stands at the place is nothing that a device answers, the step is the machine's own
+pub stepped :
+    (p : Program) (r r' : PlainState) → r.core.exit ≡ None → item_expansion (p.item r.core.place) ≡ None
+    → device_does r.devices p (p.item r.core.place) r.core (p.next r.core.place) ≡ None → plain_turn p r ≡ Ok r' → Stepped p r r'
+stepped p r r' running single none h = ⊎_elim (λ own. own) (λ device. absurd (let does = device.does in cc)) (stepped_either p r r' running single h)
 
 -- what stands at the place is several instructions, which go on one after another, and these events are added
 pub record SteppedExpansion (p : Program) (is : List Instr) (r r' : PlainState) : Type 0 where
   pub made : List Event
   pub went : in_turn p.map is (p.next r.core.place) r.core ≡ Went r'.core made
   pub events : r'.events ≡ r.events ++ made
+  pub devices : r'.devices ≡ r.devices
 
 pub stepped_expansion :
     (p : Program) (is : List Instr) (r r' : PlainState) → r.core.exit ≡ None → item_expansion (p.item r.core.place) ≡ Some is → plain_turn p r ≡ Ok r' → SteppedExpansion p is r r'
 unfolding plain_turn
 stepped_expansion p is r r' running are h =
-    by (in_turn p.map is (p.next r.core.place) r.core) refl (ap (λ t. recorded t r) (sym (step_expansion p r.core is running are)) ∙ h)
+    by (in_turn p.map is (p.next r.core.place) r.core) refl (ap (λ t. recorded t r) (sym (step_expansion r.devices p r.core is running are)) ∙ h)
   where
     by : (t : PlainStep) → in_turn p.map is (p.next r.core.place) r.core ≡ t → recorded t r ≡ Ok r' → SteppedExpansion p is r r'
     by (Went s events) went g =
         let left = recorded_went s events r r' g in
-        record { made = events; went = went ∙ ap (λ t. Went t events) left.0; events = left.1 }
+        record { made = events; went = went ∙ ap (λ t. Went t events) left.core; events = left.told; devices = left.devices }
     by (Stuck why) went g = recorded_stuck why r r' g
 
 -- after the exit the state stays
 pub stays : (p : Program) (r r' : PlainState) (status : ℕ) → r.core.exit ≡ Some status → plain_turn p r ≡ Ok r' → (r'.core ≡ r.core) × (r'.events ≡ r.events)
 unfolding plain_turn
 stays p r r' status exited h =
-    let left = recorded_went r.core [] r r' (ap (λ t. recorded t r) (sym (step_past_exit p r.core status exited)) ∙ h) in
-    (sym left.0, left.1 ∙ append-nil r.events)
+    let left = recorded_went r.core [] r r' (ap (λ t. recorded t r) (sym (step_past_exit r.devices p r.core status exited)) ∙ h) in
+    (sym left.core, left.told ∙ append-nil r.events)
 
 -- after the exit the state stays over any number of steps
 pub all_stay : (p : Program) (n : ℕ) (r r' : PlainState) (status : ℕ) → r.core.exit ≡ Some status → iterate (plain_turn p) n r ≡ Ok r' → (r'.core ≡ r.core) × (r'.events ≡ r.events)
@@ -103,9 +155,9 @@ all_stay p (suc n) r r' status exited h =
 pub running_before :
     (p : Program) (input : List ℕ) (count k : ℕ) (r s : PlainState) → program_after p input count ≡ Ok r → r.core.exit ≡ None → k ≤ count
     → program_after p input k ≡ Ok s → s.core.exit ≡ None
-unfolding program_after
+unfolding program_after_with
 running_before p input count k r s at running within before =
-    let start : PlainState = record { core = first_plain p input; events = [] } in
+    let start : PlainState = record { core = first_plain p input; events = []; devices = [] } in
     let sum : k + (count - k) ≡ count = omega (arith, within) in
     let rest : iterate (plain_turn p) (count - k) s ≡ Ok r =
     sym (ap (λ q. q >>= iterate (plain_turn p) (count - k)) before) ∙ sym (iterate-add (plain_turn p) k (count - k) start)
@@ -119,27 +171,27 @@ running_before p input count k r s at running within before =
 -- ---- a turn, put together
 
 -- a step with its events
-went_turn : (p : Program) (s s' : PlainCore) (before events : List Event) → plain_step p s ≡ Went s' events → plain_turn p (record { core = s; events = before }) ≡ Ok (record { core = s'; events = before ++ events })
+went_turn : (p : Program) (s s' : PlainCore) (before events : List Event) → plain_step p s ≡ Went s' events → plain_turn p (record { core = s; events = before; devices = [] }) ≡ Ok (record { core = s'; events = before ++ events; devices = [] })
 unfolding plain_turn
-went_turn p s s' before events went = ap (λ t. recorded t (record { core = s; events = before })) went
+went_turn p s s' before events went = ap (λ t. recorded t (record { core = s; events = before; devices = [] })) went
 
 -- a step that is stuck
-stuck_turn : (p : Program) (s : PlainCore) (before : List Event) (why : Why) → plain_step p s ≡ Stuck why → plain_turn p (record { core = s; events = before }) ≡ Err (s.place, why)
+stuck_turn : (p : Program) (s : PlainCore) (before : List Event) (why : Why) → plain_step p s ≡ Stuck why → plain_turn p (record { core = s; events = before; devices = [] }) ≡ Err (s.place, why)
 unfolding plain_turn
-stuck_turn p s before why stuck = ap (λ t. recorded t (record { core = s; events = before })) stuck
+stuck_turn p s before why stuck = ap (λ t. recorded t (record { core = s; events = before; devices = [] })) stuck
 
 -- if step n + 1 is made, the run goes on to its state
 plain_more : (p : Program) (input : List ℕ) (n : ℕ) (s s' : PlainState) → program_after p input n ≡ Ok s → plain_turn p s ≡ Ok s' → program_after p input (n + 1) ≡ Ok s'
-unfolding program_after
+unfolding program_after_with
 plain_more p input n s s' before turn =
-    iterate-add (plain_turn p) n 1 (record { core = first_plain p input; events = [] })
+    iterate-add (plain_turn p) n 1 (record { core = first_plain p input; events = []; devices = [] })
     ∙ ap (λ r. r >>= iterate (plain_turn p) 1) before ∙ iterate-one (plain_turn p) s s' turn
 
 -- if step n + 1 isn't made, the run stops there
 plain_stuck : (p : Program) (input : List ℕ) (n : ℕ) (s : PlainState) (stop : Place × Why) → program_after p input n ≡ Ok s → plain_turn p s ≡ Err stop → program_after p input (n + 1) ≡ Err stop
-unfolding program_after
+unfolding program_after_with
 plain_stuck p input n s stop before turn =
-    iterate-add (plain_turn p) n 1 (record { core = first_plain p input; events = [] })
+    iterate-add (plain_turn p) n 1 (record { core = first_plain p input; events = []; devices = [] })
     ∙ ap (λ r. r >>= iterate (plain_turn p) 1) before ∙ ap (λ r. r >>= iterate (plain_turn p) 0) turn
 
 -- ---- what events write
@@ -154,16 +206,16 @@ wrote_more events e a b c first second =
 -- the run has come to this state after `count` steps, and has written what its events write
 pub record Came (p : Program) (input : List ℕ) (count : ℕ) (s : PlainCore) (before now : Desk) : Type 0 where
   pub events : List Event
-  pub so_far : program_after p input count ≡ Ok (record { core = s; events = events })
+  pub so_far : program_after p input count ≡ Ok (record { core = s; events = events; devices = [] })
   pub running : s.exit ≡ None
   pub of : IsOf p s
   pub wrote : Wrote (written_to 1 events) (written_to 2 events) before now
 
 pub came_first : (p : Program) (input : List ℕ) (s : PlainCore) (desk : Desk) → s ≡ first_plain p input → Came p input 0 s desk desk
-unfolding program_after
+unfolding program_after_with
 came_first p input s desk is = record {
   events = [];
-  so_far = ap (λ t. Ok (record { core = t; events = [] })) (sym is);
+  so_far = ap (λ t. Ok (record { core = t; events = []; devices = [] })) (sym is);
   running = ap (λ (t : PlainCore). t.exit) is;
   of = ap (λ (t : PlainCore). extents_of t.memory) is;
   wrote = Wrote-none desk;
@@ -184,21 +236,21 @@ pub RunsTo-more :
     (p : Program) (s last s2 : PlainCore) (k : ℕ) → RunsTo p s last k → s2.exit ≡ last.exit → plain_step p last ≡ Went s2 [] → RunsTo p s s2 (k + 1)
 RunsTo-more p s last s2 k so_far exit went = record {
   exit = exit ∙ so_far.exit;
-  of = extents-step p last s2 [] went ∙ so_far.of;
+  of = extents-step [] p last s2 [] went ∙ so_far.of;
   runs = λ input count events came.
       let same : count + (k + 1) ≡ count + k + 1 = omega arith in
       ap (program_after p input) same
-      ∙ plain_more p input (count + k) (record { core = last; events = events }) (record { core = s2; events = events }) (so_far.runs input count events came)
-      (went_turn p last s2 events [] went ∙ ap (λ l. Ok (record { core = s2; events = l })) (append-nil events));
+      ∙ plain_more p input (count + k) (record { core = last; events = events; devices = [] }) (record { core = s2; events = events; devices = [] }) (so_far.runs input count events came)
+      (went_turn p last s2 events [] went ∙ ap (λ l. Ok (record { core = s2; events = l; devices = [] })) (append-nil events));
 }
 
 -- one step more that is made by the item at the place
 pub RunsTo-made :
     (p : Program) (map : MemMap) (s last s2 : PlainCore) (k : ℕ) (q next : Place) (item : Item)
-    → plain_step p last ≡ item_step map p (p.item q) last (p.next q) → p.item q ≡ Some item → p.next q ≡ next
-    → RunsOn (item_step map p (Some item) last next) [] last s2 → RunsTo p s last k → RunsTo p s s2 (k + 1)
+    → plain_step p last ≡ item_step [] map p (p.item q) last (p.next q) → p.item q ≡ Some item → p.next q ≡ next
+    → RunsOn (item_step [] map p (Some item) last next) [] last s2 → RunsTo p s last k → RunsTo p s s2 (k + 1)
 RunsTo-made p map s last s2 k q next item step here after made so_far =
-    RunsTo-more p s last s2 k so_far (made.1 ∙ sym made.0) (step ∙ (λ j. item_step map p (here j) last (after j)) ∙ made.2)
+    RunsTo-more p s last s2 k so_far (made.1 ∙ sym made.0) (step ∙ (λ j. item_step [] map p (here j) last (after j)) ∙ made.2)
 
 -- a run that has come to a state comes to where that comes by them, and has written no more
 pub Came-on :
@@ -214,18 +266,18 @@ Came-on p input count s last k before now came on = record {
 
 module _ (p : Program) (input : List ℕ) (count : ℕ) (s : PlainCore) (before now : Desk) (came : Came p input count s before now) where
   -- a step with one event
-  more : (s' : PlainCore) (e : Event) → plain_step p s ≡ Went s' (e ∷ []) → program_after p input (count + 1) ≡ Ok (record { core = s'; events = came.events ++ e ∷ [] })
+  more : (s' : PlainCore) (e : Event) → plain_step p s ≡ Went s' (e ∷ []) → program_after p input (count + 1) ≡ Ok (record { core = s'; events = came.events ++ e ∷ []; devices = [] })
   more s' e went =
-      plain_more p input count (record { core = s; events = came.events }) (record { core = s'; events = came.events ++ e ∷ [] }) came.so_far (went_turn p s s' came.events (e ∷ []) went)
+      plain_more p input count (record { core = s; events = came.events; devices = [] }) (record { core = s'; events = came.events ++ e ∷ []; devices = [] }) came.so_far (went_turn p s s' came.events (e ∷ []) went)
 
   -- a step without an event
   pub came_done : (s' : PlainCore) → s'.exit ≡ None → plain_step p s ≡ Went s' [] → Came p input (count + 1) s' before now
   came_done s' running went = record {
     events = came.events;
-    so_far = plain_more p input count (record { core = s; events = came.events }) (record { core = s'; events = came.events }) came.so_far
-        (went_turn p s s' came.events [] went ∙ ap (λ l. Ok (record { core = s'; events = l })) (append-nil came.events));
+    so_far = plain_more p input count (record { core = s; events = came.events; devices = [] }) (record { core = s'; events = came.events; devices = [] }) came.so_far
+        (went_turn p s s' came.events [] went ∙ ap (λ l. Ok (record { core = s'; events = l; devices = [] })) (append-nil came.events));
     running = running;
-    of = extents-step p s s' [] went ∙ came.of;
+    of = extents-step [] p s s' [] went ∙ came.of;
     wrote = came.wrote;
   }
 
@@ -235,7 +287,7 @@ module _ (p : Program) (input : List ℕ) (count : ℕ) (s : PlainCore) (before 
     events = came.events ++ Read bytes ∷ [];
     so_far = more s' (Read bytes) went;
     running = running;
-    of = extents-step p s s' (Read bytes ∷ []) went ∙ came.of;
+    of = extents-step [] p s s' (Read bytes ∷ []) went ∙ came.of;
     wrote = wrote_more came.events (Read bytes) before now now came.wrote (Wrote-none now);
   }
 
@@ -246,14 +298,14 @@ module _ (p : Program) (input : List ℕ) (count : ℕ) (s : PlainCore) (before 
     events = came.events ++ Write fd bytes ∷ [];
     so_far = more s' (Write fd bytes) went;
     running = running;
-    of = extents-step p s s' (Write fd bytes ∷ []) went ∙ came.of;
+    of = extents-step [] p s s' (Write fd bytes ∷ []) went ∙ came.of;
     wrote = wrote_more came.events (Write fd bytes) before now after came.wrote wrote;
   }
 
   module _ (steps : ℕ) where
     -- so far
     abbrev pub traced : EndsAfter (plain_course p input steps) count before now
-    traced = record { last = record { core = s; events = came.events }; state = came.so_far; running = came.running; wrote = came.wrote }
+    traced = record { last = record { core = s; events = came.events; devices = [] }; state = came.so_far; running = came.running; wrote = came.wrote }
 
     module _ (within : count < steps) where
       abbrev early : EndsEarly (plain_course p input steps) before now
@@ -265,7 +317,7 @@ module _ (p : Program) (input : List ℕ) (count : ℕ) (s : PlainCore) (before 
       refused s' fd bytes after fault went part cause = record {
         between = now;
         early = early;
-        next = record { core = s'; events = came.events ++ Write fd bytes ∷ [] };
+        next = record { core = s'; events = came.events ++ Write fd bytes ∷ []; devices = [] };
         state = more s' (Write fd bytes) went;
         stream = fd;
         bytes = bytes;
@@ -280,7 +332,7 @@ module _ (p : Program) (input : List ℕ) (count : ℕ) (s : PlainCore) (before 
       exited s' status exit went = record {
         count = count + 1;
         within = omega arith;
-        last = record { core = s'; events = came.events ++ Exit status ∷ [] };
+        last = record { core = s'; events = came.events ++ Exit status ∷ []; devices = [] };
         state = more s' (Exit status) went;
         exit = exit;
         wrote = wrote_more came.events (Exit status) before now now came.wrote (Wrote-none now);
@@ -293,11 +345,11 @@ module _ (p : Program) (input : List ℕ) (count : ℕ) (s : PlainCore) (before 
         bytes = written_to 1 (came.events ++ Exit status ∷ []);
         exits = record {
           within = omega arith;
-          last = record { core = s'; events = came.events ++ Exit status ∷ [] };
+          last = record { core = s'; events = came.events ++ Exit status ∷ []; devices = [] };
           state = more s' (Exit status) went;
           status = exit;
           bytes = refl;
-          first = λ k r earlier after. running_before p input count k (record { core = s; events = came.events }) r came.so_far came.running (omega (arith, earlier)) after;
+          first = λ k r earlier after. running_before p input count k (record { core = s; events = came.events; devices = [] }) r came.so_far came.running (omega (arith, earlier)) after;
         };
         events = came.events;
         event = refl;
@@ -308,6 +360,6 @@ module _ (p : Program) (input : List ℕ) (count : ℕ) (s : PlainCore) (before 
       pub stuck : (place : Place) (why : Why) → place ≡ s.place → plain_step p s ≡ Stuck why → Traced (plain_course p input steps) (end.Stuck place why) before now
       stuck place why at is = record {
         early = early;
-        next = plain_stuck p input count (record { core = s; events = came.events }) (place, why) came.so_far
+        next = plain_stuck p input count (record { core = s; events = came.events; devices = [] }) (place, why) came.so_far
             (stuck_turn p s came.events why is ∙ ap (λ q. Err (q, why)) (sym at));
       }

@@ -259,5 +259,5 @@ module _ (k : Kept) (is : IsKept k) (p : Program) (of : extents_of (regions_of k
       omega (arith, is.some, low_is, sizes)
 
   -- a step of the machine is a step of the program
-  pub step_of : (s : PlainCore) → s.exit ≡ None → plain_step p s ≡ item_step k.map p (p.item s.place) s (p.next s.place)
-  step_of s running = step_running p s running ∙ item_by p.map k.map p (p.item s.place) s (p.next s.place) (sym low_is) (sym high_is)
+  pub step_of : (s : PlainCore) → s.exit ≡ None → plain_step p s ≡ item_step [] k.map p (p.item s.place) s (p.next s.place)
+  step_of s running = step_running [] p s running ∙ item_by p.map k.map p (p.item s.place) s (p.next s.place) (sym low_is) (sym high_is)

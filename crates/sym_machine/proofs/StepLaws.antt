@@ -10,6 +10,7 @@ use Rattle.zc_base.specs.declared.mem_map.MemMap.{MemMap}
 use Rattle.zc_base.specs.declared.place.Place.{Place}
 use Rattle.block_cut.specs.declared.item.Item.{Item}
 use Rattle.rv_decode.specs.declared.instr.Instr.{Instr}
+use Rattle.rv_decode.specs.Devices.{Device}
 use Rattle.rv_decode.specs.Memory.{Region, changed, extents_of, written}
 use Rattle.rv_decode.specs.State.{Event}
 use Rattle.rv_decode.proofs.MemoryLaws.{extents-changed}
@@ -22,36 +23,41 @@ use Rattle.sym_machine.specs.Answer.{Makes}
 use Rattle.sym_machine.specs.Change.{Does, Goes, Stops, item_does, op_does}
 use Rattle.sym_machine.specs.Kept.{IsOf}
 use Rattle.sym_machine.specs.Program.{Program}
+use Rattle.sym_machine.specs.Devices.{does_with}
 use Rattle.sym_machine.specs.Expansions.{item_expansion}
 use Rattle.sym_machine.specs.State.{PlainCore, reg_of}
-use Rattle.sym_machine.specs.Step.{PlainStep, Went, Stuck, after_change, and_then, ends, applied, in_turn, item_step, plain_step, undefined_below}
+use Rattle.sym_machine.specs.Step.{PlainStep, Went, Stuck, after_change, and_then, ends, applied, in_turn, item_step, plain_step, step_with, undefined_below}
 use Rattle.sym_machine.specs.Words.{number_of}
 
 -- ---- the beginning
 
 -- after the exit the state stays
-pub step_past_exit : (p : Program) (s : PlainCore) (status : ℕ) → s.exit ≡ Some status → plain_step p s ≡ Went s []
-unfolding plain_step
-step_past_exit p s status exited = ap (λ e. option_map_or (λ _. Went s []) e (item_step p.map p (p.item s.place) s (p.next s.place))) exited
+pub step_past_exit : (devices : List Device) (p : Program) (s : PlainCore) (status : ℕ) → s.exit ≡ Some status → step_with devices p s ≡ Went s []
+unfolding step_with
+step_past_exit devices p s status exited = ap (λ e. option_map_or (λ _. Went s []) e (item_step devices p.map p (p.item s.place) s (p.next s.place))) exited
 
 -- before it, a step makes what stands at the place
-pub step_running : (p : Program) (s : PlainCore) → s.exit ≡ None → plain_step p s ≡ item_step p.map p (p.item s.place) s (p.next s.place)
-unfolding plain_step
-step_running p s running = ap (λ e. option_map_or (λ _. Went s []) e (item_step p.map p (p.item s.place) s (p.next s.place))) running
+pub step_running :
+    (devices : List Device) (p : Program) (s : PlainCore) → s.exit ≡ None → step_with devices p s ≡ item_step devices p.map p (p.item s.place) s (p.next s.place)
+unfolding step_with
+step_running devices p s running = ap (λ e. option_map_or (λ _. Went s []) e (item_step devices p.map p (p.item s.place) s (p.next s.place))) running
 
--- if that isn't several instructions, what the item does
+-- what the item at a place does with devices, if it isn't several instructions
+abbrev pub does_there : List Device → Program → PlainCore → Does
+does_there devices p s = does_with devices p (p.item s.place) s (p.next s.place) (item_does p (p.item s.place) s (p.next s.place))
+
+-- then a step makes that
 pub step_single :
-    (p : Program) (s : PlainCore) → s.exit ≡ None → item_expansion (p.item s.place) ≡ None → plain_step p s ≡ applied p.map s (item_does p (p.item s.place) s (p.next s.place))
-step_single p s running single =
-    step_running p s running
-    ∙ ap (λ o. option_map_or (λ is. in_turn p.map is (p.next s.place) s) o (applied p.map s (item_does p (p.item s.place) s (p.next s.place)))) single
+    (devices : List Device) (p : Program) (s : PlainCore) → s.exit ≡ None → item_expansion (p.item s.place) ≡ None → step_with devices p s ≡ applied p.map s (does_there devices p s)
+step_single devices p s running single =
+    step_running devices p s running ∙ ap (λ o. option_map_or (λ is. in_turn p.map is (p.next s.place) s) o (applied p.map s (does_there devices p s))) single
 
 -- if an item stands for several instructions, a step makes these one after another
 pub step_expansion :
-    (p : Program) (s : PlainCore) (is : List Instr) → s.exit ≡ None → item_expansion (p.item s.place) ≡ Some is → plain_step p s ≡ in_turn p.map is (p.next s.place) s
-step_expansion p s is running are =
-    step_running p s running
-    ∙ ap (λ o. option_map_or (λ is. in_turn p.map is (p.next s.place) s) o (applied p.map s (item_does p (p.item s.place) s (p.next s.place)))) are
+    (devices : List Device) (p : Program) (s : PlainCore) (is : List Instr) → s.exit ≡ None → item_expansion (p.item s.place) ≡ Some is
+    → step_with devices p s ≡ in_turn p.map is (p.next s.place) s
+step_expansion devices p s is running are =
+    step_running devices p s running ∙ ap (λ o. option_map_or (λ is. in_turn p.map is (p.next s.place) s) o (applied p.map s (does_there devices p s))) are
 
 -- ---- the end
 
@@ -135,7 +141,7 @@ in_turn_by m n (i ∷ is) next s low high =
 
 pub item_by :
     (m n : MemMap) (p : Program) (item : Option Item) (s : PlainCore) (next : Place) → m.stack_low ≡ n.stack_low → m.stack_high ≡ n.stack_high
-    → item_step m p item s next ≡ item_step n p item s next
+    → item_step [] m p item s next ≡ item_step [] n p item s next
 item_by m n p item s next low high = by (item_expansion item)
   where
     by :
@@ -178,32 +184,33 @@ extents-in_turn map (i ∷ is) next s s' events h = by (applied map s (op_does i
     by (Stuck why) first g again = absurd cc
 
 extents-item :
-    (map : MemMap) (p : Program) (item : Option Item) (s s' : PlainCore) (next : Place) (events : List Event) → item_step map p item s next ≡ Went s' events
-    → extents_of s'.memory ≡ extents_of s.memory
-extents-item map p item s s' next events h = by (item_expansion item) h
+    (devices : List Device) (map : MemMap) (p : Program) (item : Option Item) (s s' : PlainCore) (next : Place) (events : List Event)
+    → item_step devices map p item s next ≡ Went s' events → extents_of s'.memory ≡ extents_of s.memory
+extents-item devices map p item s s' next events h = by (item_expansion item) h
   where
     by :
-        (o : Option (List Instr)) → option_map_or (λ is. in_turn map is next s) o (applied map s (item_does p item s next)) ≡ Went s' events
+        (o : Option (List Instr)) → option_map_or (λ is. in_turn map is next s) o (applied map s (does_with devices p item s next (item_does p item s next))) ≡ Went s' events
         → extents_of s'.memory ≡ extents_of s.memory
-    by None g = extents-made map s s' (item_does p item s next) events g
+    by None g = extents-made map s s' (does_with devices p item s next (item_does p item s next)) events g
     by (Some is) g = extents-in_turn map is next s s' events g
 
 -- a step moves no memory
-pub extents-step : (p : Program) (s s' : PlainCore) (events : List Event) → plain_step p s ≡ Went s' events → extents_of s'.memory ≡ extents_of s.memory
-extents-step p s s' events h = by s.exit refl
+pub extents-step :
+    (devices : List Device) (p : Program) (s s' : PlainCore) (events : List Event) → step_with devices p s ≡ Went s' events → extents_of s'.memory ≡ extents_of s.memory
+extents-step devices p s s' events h = by s.exit refl
   where
     by : (e : Option ℕ) → s.exit ≡ e → extents_of s'.memory ≡ extents_of s.memory
-    by None is = extents-item p.map p (p.item s.place) s s' (p.next s.place) events (sym (step_running p s is) ∙ h)
+    by None is = extents-item devices p.map p (p.item s.place) s s' (p.next s.place) events (sym (step_running devices p s is) ∙ h)
     by (Some status) is =
-        let same : Went s [] ≡ Went s' events = sym (step_past_exit p s status is) ∙ h in
+        let same : Went s [] ≡ Went s' events = sym (step_past_exit devices p s status is) ∙ h in
         ap (λ (t : PlainCore). extents_of t.memory) (let e : s' ≡ s = cc in e)
 
 -- nor does any answer
 pub of_again : (p : Program) (r : Result SymStep AllocError) (s s' : PlainCore) → Makes r (plain_step p s) s s' → IsOf p s → IsOf p s'
-of_again p (Ok answer.Done) s s' h of = extents-step p s s' [] h.2 ∙ of
-of_again p (Ok (answer.Read count)) s s' h of = extents-step p s s' _ h.1.2 ∙ of
-of_again p (Ok (answer.Wrote fd bytes)) s s' h of = extents-step p s s' _ h.1.2 ∙ of
+of_again p (Ok answer.Done) s s' h of = extents-step [] p s s' [] h.2 ∙ of
+of_again p (Ok (answer.Read count)) s s' h of = extents-step [] p s s' _ h.1.2 ∙ of
+of_again p (Ok (answer.Wrote fd bytes)) s s' h of = extents-step [] p s s' _ h.1.2 ∙ of
 of_again p (Ok (answer.Exited status)) s s' h of =
-    ⊎_elim (λ now. extents-step p s s' _ now.2 ∙ of) (λ before. ap (λ (t : PlainCore). extents_of t.memory) before.1 ∙ of) h
+    ⊎_elim (λ now. extents-step [] p s s' _ now.2 ∙ of) (λ before. ap (λ (t : PlainCore). extents_of t.memory) before.1 ∙ of) h
 of_again p (Ok (answer.Stuck place why)) s s' h of = ap (λ (t : PlainCore). extents_of t.memory) h.1 ∙ of
 of_again p (Err e) s s' h of = ap (λ (t : PlainCore). extents_of t.memory) h ∙ of

@@ -1,5 +1,5 @@
 -- How far the machine comes by steps without an event.
-use Rattle.std.specs.Prelude.{◌≡◌, ℕ, ◌+◌, List, Result, Ok}
+use Rattle.std.specs.Prelude.{◌≡◌, ℕ, ◌+◌, List, [], Result, Ok}
 use Rattle.std.specs.declared.alloc.AllocError.{AllocError}
 use Rattle.rv_decode.specs.State.{Event}
 use Rattle.sym_machine.specs.declared.answer.SymStep.{SymStep}
@@ -15,8 +15,8 @@ pub record RunsTo (p : Program) (s s2 : PlainCore) (k : ℕ) : Type 0 where
   pub exit : s2.exit ≡ s.exit
   pub of : IsOf p s2
   pub runs : (input : List ℕ) (count : ℕ) (events : List Event)
-      → program_after p input count ≡ Ok (record { core = s; events = events })
-      → program_after p input (count + k) ≡ Ok (record { core = s2; events = events })
+      → program_after p input count ≡ Ok (record { core = s; events = events; devices = [] })
+      → program_after p input (count + k) ≡ Ok (record { core = s2; events = events; devices = [] })
 
 -- the machine made k steps without an event from state s, and then a step with this answer, which left state s2
 pub record Advanced (p : Program) (s s2 : PlainCore) (k : ℕ) (step : Result SymStep AllocError) : Type 0 where

@@ -6,6 +6,7 @@ pub mod Objects
 pub mod State
 pub mod Conditions
 pub mod Change
+pub mod Devices
 pub mod Expansions
 pub mod Step
 pub mod Invariants

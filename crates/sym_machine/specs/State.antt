@@ -1,6 +1,7 @@
 -- The state of the symbolic machine.
 use Rattle.std.specs.Prelude.{◌≡◌, ℕ, ◌<◌, ◌==◌, if◌then◌else◌, List, length, All, Option, None, slice_index_or}
 use Rattle.zc_base.specs.declared.place.Place.{Place}
+use Rattle.rv_decode.specs.Devices.{Device}
 use Rattle.rv_decode.specs.Memory.{Region, cell_at}
 use Rattle.rv_decode.specs.State.{Event, start_regs}
 use Rattle.sym_machine.specs.declared.word.SymByte.{SymByte}
@@ -18,10 +19,11 @@ pub record PlainCore : Type 0 where
   pub input : List ℕ
   pub exit : Option ℕ
 
--- a state of the machine, with the events up to it
+-- a state of the machine, with the events up to it, and where devices lie
 pub record PlainState : Type 0 where
   pub core : PlainCore
   pub events : List Event
+  pub devices : List Device
 
 -- the registers as the machine keeps them: 32, and register 0 holds the number 0
 pub record IsRegisters (regs : List SymWord) : Type 0 where

@@ -6,6 +6,7 @@ use Rattle.zc_base.specs.declared.mem_map.MemMap.{MemMap}
 use Rattle.zc_base.specs.declared.place.Place.{Place}
 use Rattle.block_cut.specs.declared.item.Item.{Item}
 use Rattle.rv_decode.specs.declared.instr.Instr.{Instr}
+use Rattle.rv_decode.specs.Devices.{Device}
 use Rattle.rv_decode.specs.Memory.{changed, written}
 use Rattle.rv_decode.specs.State.{Event, set_reg}
 use Rattle.sym_machine.specs.declared.why.Why.{Why}
@@ -16,6 +17,7 @@ use Rattle.sym_machine.specs.Words.{number_of}
 use Rattle.sym_machine.specs.Program.{Program}
 use Rattle.sym_machine.specs.State.{PlainCore, reg_of}
 use Rattle.sym_machine.specs.Change.{Change, Does, Goes, Stops, item_does, op_does}
+use Rattle.sym_machine.specs.Devices.{does_with}
 use Rattle.sym_machine.specs.Expansions.{item_expansion}
 
 -- what a step comes to: it goes on with these events, or it is stuck and changes nothing
@@ -66,11 +68,17 @@ abbrev pub in_turn : MemMap → List Instr → Place → PlainCore → PlainStep
 in_turn map [] next s = Went s []
 in_turn map (i ∷ is) next s = and_then (applied map s (op_does i s next)) (in_turn map is next)
 
--- what stands at a place: several instructions in one step, or else what the item does
-abbrev pub item_step : MemMap → Program → Option Item → PlainCore → Place → PlainStep
-item_step map p item s next =
-    option_map_or (λ is. in_turn map is next s) (item_expansion item) (applied map s (item_does p item s next))
+-- what stands at a place: several instructions in one step, none of which asks a device, or else what the item does with these
+-- devices
+abbrev pub item_step : List Device → MemMap → Program → Option Item → PlainCore → Place → PlainStep
+item_step devices map p item s next =
+    option_map_or (λ is. in_turn map is next s) (item_expansion item)
+    (applied map s (does_with devices p item s next (item_does p item s next)))
 
 -- one step; after the exit the state stays
-unfoldable pub plain_step : Program → PlainCore → PlainStep
-plain_step p s = option_map_or (λ status. Went s []) s.exit (item_step p.map p (p.item s.place) s (p.next s.place))
+unfoldable pub step_with : List Device → Program → PlainCore → PlainStep
+step_with devices p s = option_map_or (λ status. Went s []) s.exit (item_step devices p.map p (p.item s.place) s (p.next s.place))
+
+-- without devices
+abbrev pub plain_step : Program → PlainCore → PlainStep
+plain_step p s = step_with [] p s

@@ -1,6 +1,6 @@
 // The state of the symbolic machine, and its steps.
 
-ghost use Rattle.std.specs.Prelude.{◌≡◌, ◌<◌, IfOk, IfSome, MatchOption, None, Some, true};
+ghost use Rattle.std.specs.Prelude.{◌≡◌, ◌<◌, [], IfOk, IfSome, MatchOption, None, Some, true};
 ghost use Rattle.psabi_sym.specs.Inputs.{parsed};
 ghost use Rattle.rv_decode.specs.Effect.{load_width};
 ghost use Rattle.sym_machine.specs.Answer.{Makes};
@@ -100,7 +100,7 @@ impl State {
         ensures value { result ≡ self.now.core.place }
         ensures step { (p : Program) → IsOf p self.now.core → self.now.core.exit ≡ None
             → plain_step p self.now.core
-            ≡ item_step self.now.map p (p.item result) self.now.core (p.next result) }
+            ≡ item_step [] self.now.map p (p.item result) self.now.core (p.next result) }
     {
         self.place
     }

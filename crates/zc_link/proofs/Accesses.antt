@@ -8,7 +8,7 @@ use Rattle.rv_decode.specs.declared.instr.LoadOp.TheVariants.{Lb, Lh, Lw, Lbu, L
 use Rattle.rv_decode.specs.declared.instr.StoreOp.{StoreOp}
 use Rattle.rv_decode.specs.declared.instr.StoreOp.TheVariants.{Sb, Sh, Sw}
 use Rattle.rv_decode.specs.Bits.{as_word}
-use Rattle.rv_decode.specs.Effect.{Effect, load_result, load_width, reaching, store_width}
+use Rattle.rv_decode.specs.Effect.{Effect, attempting, load_result, load_width, store_width}
 use Rattle.rv_decode.specs.Memory.{byte_of, extents_of, is_data, lies_in, written}
 use Rattle.rv_decode.specs.State.{ZcCore, byte_in, half_at, word_at}
 use Rattle.sym_machine.specs.declared.why.Why.TheVariants.{BadAddress, Misaligned}
@@ -61,8 +61,8 @@ module _ {p : Program} {Named : Place → Type 0} {e : Image} {s : PlainCore} {z
       known (Some m) is g = tested m (eqb (m % n) 0) (in_memory s m n) (number_is V w a m small stands is) refl refl g
 
   -- an access that lies in memory and is aligned is made by the machine
-  pub made_there : (n a : ℕ) (go : Effect) → 0 < n → a % n ≡ 0 → SpansMemory p a n → reaching n a z go ≡ go
-  made_there n a go some aligned spans =
+  pub made_there : (n a : ℕ) (other go : Effect) → 0 < n → a % n ≡ 0 → SpansMemory p a n → attempting n a z other go ≡ go
+  made_there n a other go some aligned spans =
       cond-true (eqb (a % n) 0) _ _ (eq-eqb (a % n) 0 aligned)
       ∙ cond-true (lies_in is_data (extents_of z.memory) a n) _ _ (ap (λ es. lies_in is_data es a n) ready.extents ∙ room.reaches a n some spans)
 

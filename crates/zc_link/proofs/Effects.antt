@@ -6,7 +6,10 @@ use Rattle.rv_decode.specs.declared.instr.Instr.{Instr}
 use Rattle.rv_decode.specs.declared.instr.Instr.TheVariants.{WithImm}
 use Rattle.rv_decode.specs.declared.instr.ImmOp.TheVariants.{Addi}
 use Rattle.rv_decode.specs.Bits.{add32}
-use Rattle.rv_decode.specs.Effect.{BadAccess, Commits, Effect, Misaligned, effect, onward, reaching, stored}
+use Rattle.rv_decode.specs.declared.instr.LoadOp.TheVariants.{Lw}
+use Rattle.rv_decode.specs.declared.instr.StoreOp.TheVariants.{Sw}
+use Rattle.rv_decode.specs.Devices.{DeviceAccess, Loads, Stores, sent_bytes}
+use Rattle.rv_decode.specs.Effect.{Commits, Effect, Misaligned, Outside, attempting, effect, onward, stored}
 use Rattle.rv_decode.specs.Memory.{Extent, byte_of, extents_of, is_data, lies_in, written}
 use Rattle.rv_decode.specs.State.{ZcCore, reg_in, set_reg, word_at}
 use Rattle.rv_decode.proofs.MemoryLaws.{extents-changed}
@@ -60,19 +63,19 @@ pub record IsReached (es : List Extent) (a : ℕ) : Type 0 where
   pub lies : lies_in is_data es a 4 ≡ true
 
 -- an access that commits is aligned and lies in memory
-pub reached_by : (a : ℕ) (z c y : ZcCore) → reaching 4 a z (Commits c) ≡ Commits y → (y ≡ c) × IsReached (extents_of z.memory) a
-reached_by a z c y h = either (eqb (a % 4) 0) (lies_in is_data (extents_of z.memory) a 4) refl refl h
+pub reached_by : (a : ℕ) (z c y : ZcCore) (x : DeviceAccess) → attempting 4 a z (Outside x) (Commits c) ≡ Commits y → (y ≡ c) × IsReached (extents_of z.memory) a
+reached_by a z c y x h = either (eqb (a % 4) 0) (lies_in is_data (extents_of z.memory) a 4) refl refl h
   where
     either :
-        (b d : Bool) → eqb (a % 4) 0 ≡ b → lies_in is_data (extents_of z.memory) a 4 ≡ d → cond b (cond d (Commits c) BadAccess) Misaligned ≡ Commits y
+        (b d : Bool) → eqb (a % 4) 0 ≡ b → lies_in is_data (extents_of z.memory) a 4 ≡ d → cond b (cond d (Commits c) (Outside x)) Misaligned ≡ Commits y
         → (y ≡ c) × IsReached (extents_of z.memory) a
     either true true s t g = (commits_same c y g, record { aligned = eqb-true (a % 4) 0 s; lies = t })
     either true false s t g = absurd cc
     either false d s t g = absurd cc
 
 -- an access that is aligned and lies in memory is made
-pub reaches : (a : ℕ) (z : ZcCore) (go : Effect) → IsReached (extents_of z.memory) a → reaching 4 a z go ≡ go
-reaches a z go is = cond-true (eqb (a % 4) 0) _ _ (eq-eqb (a % 4) 0 is.aligned) ∙ cond-true (lies_in is_data (extents_of z.memory) a 4) _ _ is.lies
+pub reaches : (a : ℕ) (z : ZcCore) (other go : Effect) → IsReached (extents_of z.memory) a → attempting 4 a z other go ≡ go
+reaches a z other go is = cond-true (eqb (a % 4) 0) _ _ (eq-eqb (a % 4) 0 is.aligned) ∙ cond-true (lies_in is_data (extents_of z.memory) a 4) _ _ is.lies
 
 -- each slot's word does
 abbrev pub AreReached : List Extent → ℕ → List Slot → Type 0
@@ -91,10 +94,11 @@ pub stores_are : (base : ℕ) (ds : List Slot) (y z : ZcCore) → reg_in y 2 ≡
 stores_are base [] y z at small h = record { memory = ap (λ x. x.memory) h; regs = ap (λ x. x.regs) h; rest = keeps_same h; reach = λ d m. absurd m }
 stores_are base (d ∷ ds) y z at small h =
     let a : add32 (reg_in y 2) (pos d.offset) ≡ base + d.offset = omega (arith, at, small d (inl refl)) in
+    let sends : ℕ → Effect = λ x. Outside (Stores x (sent_bytes Sw (reg_in y d.register)) h.0) in
     let after : ℕ → ZcCore = λ x. onward (stored 4 x (reg_in y d.register) y) h.0 y.regs in
     let y1 : ZcCore = after (base + d.offset) in
-    let first : reaching 4 (base + d.offset) y (Commits y1) ≡ Commits h.1 = subst (λ x. reaching 4 x y (Commits (after x)) ≡ Commits h.1) a h.2 in
-    let ok = reached_by (base + d.offset) y y1 h.1 first in
+    let first : attempting 4 (base + d.offset) y (sends (base + d.offset)) (Commits y1) ≡ Commits h.1 = subst (λ x. attempting 4 x y (sends x) (Commits (after x)) ≡ Commits h.1) a h.2 in
+    let ok = reached_by (base + d.offset) y y1 h.1 _ first in
     let rest = stores_are base ds y1 z at (λ c m. small c (inr m)) (subst (λ x. Effects (stores_of ds) x z) ok.0 h.3) in
     let same = extents-changed (written (base + d.offset) 4 (byte_of (reg_in y d.register))) y.memory in
     record {
@@ -124,10 +128,11 @@ loads_are base [] y z at small h = record { regs = ap (λ x. x.regs) h; memory =
 loads_are base (d ∷ ds) y z at small h =
     let in_range = small d (inl refl) in
     let a : add32 (reg_in y 2) (pos d.offset) ≡ base + d.offset = omega (arith, at, in_range.0) in
+    let takes : ℕ → Effect = λ x. Outside (Loads Lw x d.register h.0) in
     let after : ℕ → ZcCore = λ x. onward y h.0 (set_reg y.regs d.register (word_at y x)) in
     let y1 : ZcCore = after (base + d.offset) in
-    let first : reaching 4 (base + d.offset) y (Commits y1) ≡ Commits h.1 = subst (λ x. reaching 4 x y (Commits (after x)) ≡ Commits h.1) a h.2 in
-    let ok = reached_by (base + d.offset) y y1 h.1 first in
+    let first : attempting 4 (base + d.offset) y (takes (base + d.offset)) (Commits y1) ≡ Commits h.1 = subst (λ x. attempting 4 x y (takes x) (Commits (after x)) ≡ Commits h.1) a h.2 in
+    let ok = reached_by (base + d.offset) y y1 h.1 _ first in
     let at1 : reg_in y1 2 ≡ base = reads-set_reg_other 0 0 y.regs d.register (word_at y (base + d.offset)) 2 (λ is. in_range.1 (sym is)) ∙ at in
     let rest = loads_are base ds y1 z at1 (λ c m. small c (inr m)) (subst (λ x. Effects (slot_loads ds) x z) ok.0 h.3) in
     record {
@@ -147,7 +152,7 @@ pub loads_sp :
 loads_sp [] y z no_sp h = (ap (λ x. reg_in x 2) h, ap (λ x. length x.regs) h)
 loads_sp (d ∷ ds) y z no_sp h =
     let a : ℕ = add32 (reg_in y 2) (pos d.offset) in
-    let ok = reached_by a y (onward y h.0 (set_reg y.regs d.register (word_at y a))) h.1 h.2 in
+    let ok = reached_by a y (onward y h.0 (set_reg y.regs d.register (word_at y a))) h.1 _ h.2 in
     let rest = loads_sp ds h.1 z (λ c m. no_sp c (inr m)) h.3 in (
       rest.0 ∙ ap (λ x. reg_in x 2) ok.0 ∙ reads-set_reg_other 0 0 y.regs d.register (word_at y a) 2 (λ is. no_sp d (inl refl) (sym is)),
       rest.1 ∙ ap (λ x. length x.regs) ok.0 ∙ length-set_reg y.regs d.register (word_at y a),

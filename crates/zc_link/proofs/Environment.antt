@@ -115,11 +115,11 @@ module _
   -- the environment's answer to a call leaves states that are ready, with an event
   answer_comes :
       (c : Change) (event : Event) (core : ZcCore) (input : List ℕ) → c ≡ from.step.change → c.place ≡ p.next r.core.place → c.events ≡ event ∷ []
-      → zc_turn (cuts 0) z ≡ Ok (record { core = core; input = input; events = z.events ++ event ∷ [] })
+      → zc_turn (cuts 0) z ≡ Ok (record z { core = core; input = input; events = z.events ++ event ∷ [] })
       → core.pc ≡ (w.now.pc + 4) % 2 ^ 32 → drop c.taken r.core.input ≡ input → Ready p Named e (after_change c r.core) core → Comes p Named e cuts 1 z r'
   answer_comes c event core input made place events turn pc left ready =
       let end : Ended p.map (after_change c r.core) r'.core = subst (λ x. Ended p.map (after_change x r.core) r'.core) (sym made) from.step.end in
-      let z1 : ZcState = record { core = core; input = input; events = z.events ++ event ∷ [] } in
+      let z1 : ZcState = record z { core = core; input = input; events = z.events ++ event ∷ [] } in
       record {
         after = z1;
         runs = zc_turns-one cuts z z1 turn;
@@ -223,7 +223,7 @@ module _
       let number : WordStands (value_in p e.address) (number_word n) (length bytes) = subst (WordStands (value_in p e.address) (number_word n)) (sym t.count) (number_stands (value_in p e.address) n) in
       let ready = ready_moved (ready_fed (ready_set (ready_changed room _ _ (read_agrees room a.at to a.len bytes b.buffer t.short (t.are w.alike.plain.input)) w.alike.ready) 10 (length bytes) (number_word n) (omega (arith, low, t.count)) number (number_names Named n)) n) (p.next s.place) _ _ in
       answer_comes c (Read bytes) core (drop a.len z.input) made refl refl
-      (asked (call.Read to a.len) (wants_read a b.held a7 b.is_known b.buffer) ∙ ap (λ l. Ok (record { core = has_read l w.now; input = drop a.len z.input; events = z.events ++ Read l ∷ [] })) (sym t.same))
+      (asked (call.Read to a.len) (wants_read a b.held a7 b.is_known b.buffer) ∙ ap (λ l. Ok (record z { core = has_read l w.now; input = drop a.len z.input; events = z.events ++ Read l ∷ [] })) (sym t.same))
       refl t.rest ready
 
   -- ---- writes
@@ -250,7 +250,7 @@ module _
           let number : WordStands V (number_word a.len) (reg_in w.now 12) = subst (λ n. WordStands V (number_word n) (reg_in w.now 12)) (sym held.len) (number_stands V (reg_in w.now 12)) in
           let ready = ready_moved (ready_set w.alike.ready 10 (reg_in w.now 12) (number_word a.len) (w.alike.core.words 12) number (number_names Named a.len)) (p.next r.core.place) _ _ in
           answer_comes c (Write a.a0 bytes) (has_written w.now) z.input made refl refl
-          (asked (call.Write a.a0 (reg_in w.now 11) a.len) (wants_write a held a7 known buffer) ∙ ap (λ l. Ok (record { core = has_written w.now; input = z.input; events = z.events ++ Write a.a0 l ∷ [] })) (sym same))
+          (asked (call.Write a.a0 (reg_in w.now 11) a.len) (wants_write a held a7 known buffer) ∙ ap (λ l. Ok (record z { core = has_written w.now; input = z.input; events = z.events ++ Write a.a0 l ∷ [] })) (sym same))
           refl from.sound.input ready
 
   -- ---- all calls, by a7

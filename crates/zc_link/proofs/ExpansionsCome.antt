@@ -48,7 +48,7 @@ module _ {p : Program} {Named : Place → Type 0} {e : Image} (room : Room p e) 
   before = ops_before_return ending frame order
 
   abbrev middle : PlainState
-  middle = record { core = m; events = r.events }
+  middle = record r { core = m }
 
   some_before : 0 < length before
   some_before = by ending
@@ -75,7 +75,7 @@ module _ {p : Program} {Named : Place → Type 0} {e : Image} (room : Room p e) 
 -- ---- all of its instructions
 
 module _ {p : Program} {Named : Place → Type 0} {e : Image} (room : Room p e) {r r' : PlainState} {cuts : ℕ → List Interrupt} {z : ZcState} (from : FromPlace p Named e r cuts z)
-    (next : Place) (made : List Event) (same : r'.events ≡ r.events ++ made) where
+    (next : Place) (made : List Event) (same : r'.events ≡ r.events ++ made) (kept : r'.devices ≡ r.devices) where
   -- no event is added
   none_made : (is : List Instr) (s : PlainCore) → in_turn p.map is next s ≡ Went r'.core made → r'.events ≡ r.events
   none_made is s h = same ∙ ap (λ l. r.events ++ l) (in_turn-silent p.map is next s r'.core made h) ∙ append-nil r.events
@@ -109,7 +109,7 @@ module _ {p : Program} {Named : Place → Type 0} {e : Image} (room : Room p e) 
   -- ---- a pop
 
   -- the return of a pop
-  turn_lands : (m : PlainCore) (y : ZcCore) → Alike p Named e m y → in_turn p.map (return_to_ra ∷ []) next m ≡ Went r'.core made → Lands p Named e (record { core = m; events = r.events }) r' y
+  turn_lands : (m : PlainCore) (y : ZcCore) → Alike p Named e m y → in_turn p.map (return_to_ra ∷ []) next m ≡ Went r'.core made → Lands p Named e (record r { core = m }) r' y
   turn_lands m y al g = by (op_does return_to_ra m next) refl one.first
     where
       one : OneFirst p.map return_to_ra [] next m r'.core made
@@ -118,11 +118,11 @@ module _ {p : Program} {Named : Place → Type 0} {e : Image} (room : Room p e) 
       last : one.middle ≡ r'.core
       last = went_same one.middle r'.core [] made one.rest
 
-      by : (d : Does) → op_does return_to_ra m next ≡ d → applied p.map m d ≡ Went one.middle one.made → Lands p Named e (record { core = m; events = r.events }) r' y
+      by : (d : Does) → op_does return_to_ra m next ≡ d → applied p.map m d ≡ Went one.middle one.made → Lands p Named e (record r { core = m }) r' y
       by (Stops why) is k = absurd cc
       by (Goes c) is k =
           let q = ended p.map (after_change c m) one.middle c.events one.made k in
-          jump_lands room (record { core = m; events = r.events }) r' y next c al is (subst (Ended p.map (after_change c m)) last q.0) (none_made (return_to_ra ∷ []) m g ∙ sym (append-nil r.events) ∙ ap (λ l. r.events ++ l) (sym (jump_silent c is)))
+          jump_lands room (record r { core = m }) r' y next c al is (subst (Ended p.map (after_change c m)) last q.0) (none_made (return_to_ra ∷ []) m g ∙ sym (append-nil r.events) ∙ ap (λ l. r.events ++ l) (sym (jump_silent c is)))
         where
           jump_silent : (c : Change) → op_does return_to_ra m next ≡ Goes c → c.events ≡ []
           jump_silent c at = known (code_of (reg_of m 1)) at
@@ -154,7 +154,7 @@ module _ {p : Program} {Named : Place → Type 0} {e : Image} (room : Room p e) 
           let parts = in_turn-apart p.map (ops_before_return GoesOn frame order) [] next r.core r'.core made g in
           let last = went_same parts.middle r'.core [] made parts.rest in
           goes_ends room from GoesOn at (came room from next facts none GoesOn at parts.middle parts.first) (pop_before room from next facts none GoesOn at parts.middle parts.first) refl refl
-          (λ j. record { core = last j; events = sym (none_made [] parts.middle parts.rest) j }) to
+          (λ j. record { core = last j; events = sym (none_made [] parts.middle parts.rest) j; devices = sym kept j }) to
       by Returns at g to = landed Returns at refl g
       by ZeroFirst at g to = landed ZeroFirst at refl g
       by ZeroBeforeRaise at g to = landed ZeroBeforeRaise at refl g
@@ -209,5 +209,5 @@ pub expansion_comes :
     {p : Program} {Named : Place → Type 0} {e : Image} (room : Room p e) {r r' : PlainState} {cuts : ℕ → List Interrupt} {z : ZcState} → FromPlace p Named e r cuts z
     → (short : Short) (is : List Instr) → IsExpansionKind short is → ShortLaid p e r.core.place z.core.pc short → SteppedExpansion p is r r' → Comes p Named e cuts 1 z r'
 expansion_comes {p} {Named} {e} room {r} {r'} {cuts} {z} from short is k laid step =
-    kind_turns room from (p.next r.core.place) step.made step.events k.kind k.group k.rest (kind_at k laid.at)
+    kind_turns room from (p.next r.core.place) step.made step.events step.devices k.kind k.group k.rest (kind_at k laid.at)
     (ap (λ l. in_turn p.map l (p.next r.core.place) r.core) k.ops ∙ step.went) laid.next

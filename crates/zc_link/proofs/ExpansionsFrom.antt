@@ -42,7 +42,7 @@ module _ {p : Program} {Named : Place → Type 0} {e : Image} (room : Room p e) 
       let facts = frame_facts list frame order is in
       let before = ops_before_return ending frame order in
       let parts = in_turn-apart p.map before (return_ops ending) next s r'.core made h in
-      let f = (all_done room before next s (record { core = parts.middle; events = [] }) [] y (before_straight ending frame order) parts.first al).follow in
+      let f = (all_done room before next s (record { core = parts.middle; events = []; devices = [] }) [] y (before_straight ending frame order) parts.first al).follow in
       let wz = without_zero frame order (λ d m. facts.no_a0 d m) (λ d m. (facts.register d m).no_sp) y al.core.count ending f.after f.effects in
       let sp : reg_in f.after 2 ≡ reg_in wz.zp 2 = wz.final.registers 2 ∙ final_sp ending wz.zp.regs in
       let low = f.alike.low in

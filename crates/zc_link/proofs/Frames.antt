@@ -36,7 +36,7 @@ module _ (base : ℕ) where
   all_reached (r ∷ rs) top z go room small reach =
       let four : 4 ≤ top = omega (arith, room) in
       ap (λ a. reaching 4 a z (reaching_all (words_below a rs) z go)) (below_is base top four small)
-      ∙ reaches (base + (top - 4)) z (reaching_all (words_below (base + (top - 4)) rs) z go) (reach (record { offset = top - 4; register = r }) (inl refl))
+      ∙ reaches (base + (top - 4)) z _ (reaching_all (words_below (base + (top - 4)) rs) z go) (reach (record { offset = top - 4; register = r }) (inl refl))
       ∙ all_reached rs (top - 4) z go (omega (arith, room)) (omega (arith, small)) (λ d m. reach d (inr m))
 
   all_saved :

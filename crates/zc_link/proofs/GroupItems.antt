@@ -221,6 +221,7 @@ module _ (inputs : Inputs) (none : gather_fault inputs ≡ None) where
       pub half : g.kind ≡ group_half kind
       pub rest : g.rest ≡ group_rest kind
       pub some : 2 ≤ g.items
+      pub most : g.items ≤ 16
       pub ops : (program : Program) → program.item ≡ item_at given → program.next ≡ next_at given.objects → AreOps program q (group_ops kind)
 
     pub group_known : IsKnown
@@ -234,6 +235,7 @@ module _ (inputs : Inputs) (none : gather_fault inputs ≡ None) where
           half = ap (λ (x : Group). x.kind) starts.group ∙ found.half;
           rest = ap (λ (x : Group). x.rest) starts.group ∙ found.rest;
           some = omega (arith, starts.sized.least, items);
+          most = omega (arith, starts.sized.most, items);
           ops = λ program item next. ops_along program item next (group_ops found.kind) found.tail q s starts.spot starts.rest here start starts.here found.first;
         }
 

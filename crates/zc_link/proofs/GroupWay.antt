@@ -8,7 +8,7 @@ use Rattle.rv_decode.specs.declared.instr.Instr.TheVariants.{WithImm}
 use Rattle.rv_decode.specs.declared.instr.ImmOp.TheVariants.{Addi}
 use Rattle.rv_decode.specs.declared.instr.RegOp.TheVariants.{Add}
 use Rattle.rv_decode.specs.Bits.{add32}
-use Rattle.rv_decode.specs.Effect.{BadAccess, Break, Call, Commits, Effect, Misaligned}
+use Rattle.rv_decode.specs.Effect.{BadAccess, Break, Call, Commits, Effect, Misaligned, Outside}
 use Rattle.rv_decode.specs.Memory.{extents_of, is_data, is_stack, lies_in, written}
 use Rattle.rv_decode.specs.Normal.{SameEffect}
 use Rattle.rv_decode.specs.Results.{reg_result}
@@ -115,11 +115,12 @@ stands_with {p} a b s size y y' words under st h = by s st (above_data a b s wor
     by _ (ASum i imm same) all g =
         same size (with_byte a b y) ∙ ap (λ x. Commits (with_byte a b x)) (sym (commits_same _ y' (sym (same size y) ∙ g)))
 
--- an effect that isn't a call of the environment
+-- an effect that isn't a call of the environment, nor an access to a device
 abbrev NoCall : Effect → Type 0
 NoCall (Commits z) = Unit {0}
 NoCall Misaligned = Unit {0}
 NoCall BadAccess = Unit {0}
+NoCall (Outside x) = ⊥
 NoCall Break = Unit {0}
 NoCall Call = ⊥
 
@@ -156,6 +157,7 @@ turn_of s size y z z' none h = by (short_effect s size y) refl none h
     by (Commits left) is calm g = record { left = left; does = is; is = cc }
     by Misaligned is calm g = absurd cc
     by BadAccess is calm g = absurd cc
+    by (Outside x) is calm g = absurd calm
     by Break is calm g = absurd cc
     by Call is calm g = absurd calm
 

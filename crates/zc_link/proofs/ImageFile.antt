@@ -35,11 +35,11 @@ use Rattle.zc_link.specs.Image.{Image, image_in, loaded_core}
 use Rattle.zc_link.specs.ImageParts.{image_data, listed_places, parts_of}
 use Rattle.zc_link.specs.Invariants.Laid.{AtEntry, Begins, BehindStub, Laid, StubLaid}
 use Rattle.zc_link.specs.LaidOut.{HasForm, IsLaidOut, LiesAt, text_end, linked_by}
-use Rattle.zc_link.specs.IsSimulation.{IsSimulation}
+use Rattle.zc_link.specs.IsSimulation.{IsPaced, IsSimulation}
 use Rattle.zc_link.specs.Links.{IsImageOf}
 use Rattle.zc_link.specs.Pace.{pace_of}
 use Rattle.zc_link.specs.Places.{listed_address}
-use Rattle.zc_link.specs.Preserves.{Preserves}
+use Rattle.zc_link.specs.Preserves.{Preserves, aligns_of}
 use Rattle.zc_link.specs.Invariants.Room.{Room}
 use Rattle.moved_runs.specs.Leads.{IsNamed}
 use Rattle.zc_link.specs.Sound.{NamesByte}
@@ -60,6 +60,7 @@ use Rattle.zc_link.proofs.TablesLaid.{stub_laid}
 use Rattle.zc_link.proofs.Lookup.{found_holds, listed_placed, lookup}
 use Rattle.zc_link.proofs.ListedPlaces.{are_inside, ascends, entries, places_few}
 use Rattle.moved_runs.proofs.ProgramLeads.{leads_faultless}
+use Rattle.zc_link.proofs.Paced.{is_paced}
 use Rattle.zc_link.proofs.Simulation.{laid_preserves, simulates}
 use Rattle.std.specs.Option.{is_some}
 use Rattle.sym_machine.specs.declared.word.Value.TheVariants as value
@@ -252,6 +253,7 @@ module _ (L : TextLayout) (ready : IsReady L.inputs) (lies : IsLaidOut L) (flags
         deep = omega (arith, map.stack, map.data_room, map.code);
         under = omega (arith, size, data_part, map.stack, map.data_room);
         reaches = memory.reaches program parts out;
+        bounded = memory.bounded program parts out;
         apart = memory.text_apart program parts out;
         even = even L map lies program parts out shows;
         distinct = distinct L map lies program parts out shows;
@@ -356,9 +358,13 @@ module _ (L : TextLayout) (ready : IsReady L.inputs) (lies : IsLaidOut L) (flags
         map = inputs.map;
       })))
 
+  -- its stretches go on
+  paced : IsPaced program (pace_of program (stretch_in L)) (aligns_of p3)
+  paced = is_paced L none lies
+
   -- which does what the program does
   preserves : Preserves inputs (image_bytes parts)
-  preserves = laid_preserves inputs (image_bytes parts) (IsNamed p3) e (stretch_in L) read laid_out
+  preserves = laid_preserves inputs (image_bytes parts) (IsNamed p3) e (stretch_in L) read laid_out paced
 
   -- step by step
   keeps : IsSimulation program (IsNamed p3) e (pace_of program (stretch_in L))
@@ -414,6 +420,7 @@ module _ (L : TextLayout) (ready : IsReady L.inputs) (lies : IsLaidOut L) (flags
     loaded = e;
     read = read;
     simulates = keeps;
+    paced = paced;
     text = text_part;
     alone = sole;
     start = refl;

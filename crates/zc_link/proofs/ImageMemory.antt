@@ -1,6 +1,7 @@
 -- Where the memory of an image lies and how it begins, whatever its text is, under every map that a link may be made for: it has a
 -- text, and data that are as long as the program's.
 use Rattle.std.proofs.Common.{◌≡◌, ℕ, ◌+◌, ◌-◌, ◌<◌, ◌≤◌, List, [], ◌∷◌, ◌++◌, length, replicate, Bool, true, false, cond, refl, sym, ap, ◌∙◌, subst, inl, inr, ⊎_elim, arith, leb, get_or, length-append}
+use Rattle.std.specs.Prelude.{◌||◌}
 use Rattle.std.proofs.lemmas.Bool.{and_from, and_parts, cond-false, cond-true, le-leb, leb-true, or_cases, or_from, or_left, or_right}
 use Rattle.std.proofs.lemmas.List.{length-replicate}
 use Rattle.std.proofs.lemmas.List.Elements.{All-cons, All-nil}
@@ -113,6 +114,26 @@ module _ (p : Program) (parts : Parts) (out : AreLaidOut p parts) where
   pub reaches : (a n : ℕ) → 0 < n → SpansMemory p a n → lies_in is_data (extents_of (loaded_core image).memory) a n ≡ true
   reaches a n some (inl d) = data_reaches a n d.0 d.1
   reaches a n some (inr d) = stack_reaches a n d.0 d.1
+
+  -- all data lies within the map
+  pub bounded : (a n : ℕ) → lies_in is_data (extents_of (loaded_core image).memory) a n ≡ true → (memory.text ≤ a) × (a + n ≤ memory.stack_high)
+  unfolding first_core
+  bounded a n h =
+      let map = out.is_map in
+      let size = length-cells in
+      let room = out.room in
+      let at = out.data_at in
+      let stack = length_blank {X = ℕ} stack_size 0 in
+      ⊎_elim
+      (λ d. let b = bounds data_extent a n d in (omega (arith, b.0, at, map.code), omega (arith, b.1, size, room, at, map.data_room, map.stack)))
+      (λ rest. ⊎_elim
+      (λ k. let b = bounds stack_extent a n k in (omega (arith, b.0, map.code, map.data_room, map.stack), omega (arith, b.1, stack, map.stack)))
+      (λ (none : false ≡ true). absurd cc)
+      (or_cases (spans stack_extent a n) false rest))
+      (or_cases (spans data_extent a n) (spans stack_extent a n || false) h)
+    where
+      bounds : (x : Extent) (a n : ℕ) → spans x a n ≡ true → (x.at ≤ a) × (a + n ≤ x.at + x.size)
+      bounds x a n is = let q = and_parts (leb x.at a) (leb (a + n) (x.at + x.size)) is in (leb-true x.at a q.0, leb-true (a + n) (x.at + x.size) q.1)
 
   -- an address of text lies below all data
   pub text_apart : (a : ℕ) → lies_in is_text (extents_of (loaded_core image).memory) a 1 ≡ true → lies_in is_data (extents_of (loaded_core image).memory) a 1 ≡ false

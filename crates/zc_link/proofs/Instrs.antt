@@ -157,7 +157,7 @@ module _ {p : Program} {Named : Place → Type 0} {e : Image} {s : PlainCore} {z
       let a = add32 (reg_in z base) k in
       let ok = reached room ready (load_width op) w a (λ x. Goes (sets rd (load_word op s x) next)) c (omega arith) stands h in
       register_goes (Load op rd base k) rd (load_result op z a) (load_word op s a)
-      (made_there room ready (load_width op) a (gives (load_result op z a) rd size z) (some_load op) ok.aligned ok.spans)
+      (made_there room ready (load_width op) a _ (gives (load_result op z a) rd size z) (some_load op) ok.aligned ok.spans)
       (load_below room ready op a) (load_stands room ready op a ok.spans) (load_names room ready op a ok.spans) ok.goes
 
   -- a store
@@ -173,7 +173,7 @@ module _ {p : Program} {Named : Place → Type 0} {e : Image} {s : PlainCore} {z
       subst (λ x. GoesOn p Named e (Store op source base k) size x s next z) same (record {
         made = record {
           after = onward (stored n a (reg_in z source) z) size z.regs;
-          commits = made_there room ready n a (Commits (onward (stored n a (reg_in z source) z) size z.regs)) (some_store op) ok.aligned ok.spans;
+          commits = made_there room ready n a _ (Commits (onward (stored n a (reg_in z source) z) size z.regs)) (some_store op) ok.aligned ok.spans;
           ready = ready_moved (ready_changed room _ _ agrees ready) next _ _;
           quiet = record { events = refl; taken = refl };
         };

@@ -21,6 +21,7 @@ pub mod Padding
 pub mod Items
 pub mod Slots
 pub mod SlotWords
+mod Devices
 pub mod Effects
 pub mod Frames
 pub mod FrameCuts
@@ -41,6 +42,7 @@ pub mod GroupExamples
 pub mod TableExamples
 pub mod GroupsFound
 pub mod GroupItems
+pub mod Paced
 pub mod GroupHalves
 pub mod TableJumps
 pub mod Stretches

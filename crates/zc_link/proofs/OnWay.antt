@@ -11,17 +11,19 @@ use Rattle.rv_decode.specs.declared.instr.Instr.{Instr}
 use Rattle.rv_decode.specs.declared.instr.Instr.TheVariants as instr
 use Rattle.rv_decode.specs.declared.instr.Instr.TheVariants.{Jal, Jalr, Upper}
 use Rattle.rv_decode.specs.declared.instr.UpperOp.TheVariants.{Auipc}
+use Rattle.rv_decode.specs.Devices.{Device}
 use Rattle.rv_decode.specs.Run.{iterate}
 use Rattle.rv_decode.specs.State.{ZcCore, ZcState}
 use Rattle.rv_decode.proofs.RunLaws.{bind_ok}
 use Rattle.block_cut.specs.declared.item.Item.{Item}
 use Rattle.block_cut.specs.declared.item.Item.TheVariants.{Op, Hi, Lo, PcHi, PcLo, Branch, Jump, Call, Align, Word, Raw, RawShort, RawPair}
 use Rattle.sym_machine.specs.Change.{Change, Goes, item_does}
+use Rattle.sym_machine.specs.Devices.{device_does}
 use Rattle.sym_machine.specs.Program.{Program}
 use Rattle.sym_machine.specs.Run.{plain_turn}
 use Rattle.sym_machine.specs.Expansions.{item_expansion}
 use Rattle.sym_machine.specs.State.{PlainCore, PlainState}
-use Rattle.sym_machine.proofs.RunLaws.{stepped, stepped_expansion}
+use Rattle.sym_machine.proofs.RunLaws.{stepped_either, stepped_expansion}
 use Rattle.zc_decode.specs.declared.short.Short.TheVariants.{TableJump}
 use Rattle.zc_link.specs.Image.{Image}
 use Rattle.zc_link.specs.Invariants.Laid.{Laid}
@@ -58,6 +60,25 @@ item_alone p q next s (Some (Word t)) laid goes = absurd cc
 item_alone p q next s (Some (Raw word)) laid goes = absurd cc
 item_alone p q next s (Some (RawShort half)) laid goes = absurd cc
 item_alone p q next s (Some (RawPair first second)) laid goes = absurd cc
+
+-- or that a device answers
+item_answered :
+    (ds : List Device) (p : Program) {e : Image} (q next : Place) {a : ℕ} (s : PlainCore) {c : Change} (o : Option Item) → ItemLaid p e q a o
+    → device_does ds p o s next ≡ Some c → NoAccessAt e a
+item_answered ds p q next s None laid does = absurd cc
+item_answered ds p q next s (Some (Op i)) laid does = base_at laid.laid.at
+item_answered ds p q next s (Some (Hi i t)) laid does = base_at laid.laid.at
+item_answered ds p q next s (Some (Lo i t)) laid does = base_at laid.laid.at
+item_answered ds p q next s (Some (PcHi i t)) laid does = base_at laid.laid.at
+item_answered ds p q next s (Some (PcLo i from)) laid does = base_at laid.laid.at
+item_answered ds p q next s (Some (Branch op first second to)) laid does = base_at laid.laid.at
+item_answered ds p q next s (Some (Jump rd to)) laid does = base_at laid.laid.at
+item_answered ds p q next s (Some (Call rd temp to)) laid does = base_at laid.laid.at
+item_answered ds p q next s (Some (Align bytes)) laid does = absurd cc
+item_answered ds p q next s (Some (Word t)) laid does = absurd cc
+item_answered ds p q next s (Some (Raw word)) laid does = absurd cc
+item_answered ds p q next s (Some (RawShort half)) laid does = absurd cc
+item_answered ds p q next s (Some (RawPair first second)) laid does = absurd cc
 
 -- a stretch that is no group
 abbrev pub IsNoGroup : Stretch → Type 0
@@ -126,9 +147,14 @@ module _ {p : Program} {Named : Place → Type 0} {e : Image} {stretch : Place �
         by Alone single item steps more =
             let r1 = all_poked from.cells r in
             let first = bind_ok (plain_turn p r1) (iterate (plain_turn p) 0) from.after steps in
-            let step = stepped p r1 first.0 (poked_exit from.cells r ∙ from.sound.alike.running) (ap (λ q. item_expansion (p.item q)) (poked_place from.cells r) ∙ one) first.1 in
+            ⊎_elim
+            (λ own.
             item_alone p r.core.place (p.next r1.core.place) r1.core (p.item r.core.place) item
-            (ap (λ q. item_does p (p.item q) r1.core (p.next r1.core.place)) (sym (poked_place from.cells r)) ∙ step.does)
+            (ap (λ q. item_does p (p.item q) r1.core (p.next r1.core.place)) (sym (poked_place from.cells r)) ∙ own.does))
+            (λ device.
+            item_answered r1.devices p r.core.place (p.next r1.core.place) r1.core (p.item r.core.place) item
+            (ap (λ q. device_does r1.devices p (p.item q) r1.core (p.next r1.core.place)) (sym (poked_place from.cells r)) ∙ device.does))
+            (stepped_either p r1 first.0 (poked_exit from.cells r ∙ from.sound.alike.running) (ap (λ q. item_expansion (p.item q)) (poked_place from.cells r) ∙ one) first.1)
         by (AlignOf zero) single align steps more = absurd (omega (arith, more))
         by (AlignOf (suc count)) single align steps more = base_at align.nops.0
         by CallOf single call steps more = base_at call.at.one

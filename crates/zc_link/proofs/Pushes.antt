@@ -45,7 +45,7 @@ stores_regs : (ds : List Slot) (y z : ZcCore) → Effects (stores_of ds) y z →
 stores_regs [] y z h = ap (λ x. x.regs) h
 stores_regs (d ∷ ds) y z h =
     let a : ℕ = add32 (reg_in y 2) (pos d.offset) in
-    let ok = reached_by a y (onward (stored 4 a (reg_in y d.register) y) h.0 y.regs) h.1 h.2 in
+    let ok = reached_by a y (onward (stored 4 a (reg_in y d.register) y) h.0 y.regs) h.1 _ h.2 in
     stores_regs ds h.1 z h.3 ∙ ap (λ x. x.regs) ok.0
 
 -- where sp is within the stack before a push and after it, the frame is

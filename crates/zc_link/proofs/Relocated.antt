@@ -34,7 +34,7 @@ use Rattle.zc_link.proofs.Addresses.{high_names, high_stands, low_names, low_sta
 use Rattle.zc_link.proofs.Instrs.{GoesOn, Moves, jalr_moves, load_goes, moves_on, register_goes, store_goes}
 
 -- the register that a sum begins with is one of the 32
-base_low : (i : Instr) (k : ℤ) → HasRegisters (with_imm i k) → base_register i < 32
+pub base_low : (i : Instr) (k : ℤ) → HasRegisters (with_imm i k) → base_register i < 32
 base_low (instr.Upper op rd imm) k registers = omega arith
 base_low (instr.Jal rd distance) k registers = omega arith
 base_low (instr.Jalr rd base imm) k registers = registers.1

@@ -10,6 +10,7 @@ use Rattle.rv_decode.specs.State.{ZcCore, ZcState, reg_in}
 use Rattle.rv_decode.proofs.RunLaws.{bind_ok, iterate-add}
 use Rattle.block_cut.specs.declared.item.Item.TheVariants.{Op}
 use Rattle.sym_machine.specs.Change.{Change, Goes, item_does, jump_does, sets}
+use Rattle.sym_machine.specs.Devices.{device_does}
 use Rattle.sym_machine.specs.Program.{Program}
 use Rattle.sym_machine.specs.Run.{plain_turn}
 use Rattle.sym_machine.specs.Expansions.{item_expansion}
@@ -112,7 +113,7 @@ module _ {p : Program} {Named : Place → Type 0} {e : Image} (room : Room p e) 
 
   return_lands : (m r' : PlainState) (y : ZcCore) → Alike p Named e m.core y → p.item m.core.place ≡ Some (Op return_to_ra) → plain_turn p m ≡ Ok r' → Lands p Named e m r' y
   return_lands m r' y al item h =
-      let step = stepped p m r' al.running (ap item_expansion item) h in
+      let step = stepped p m r' al.running (ap item_expansion item) (ap (λ o. device_does m.devices p o m.core (p.next m.core.place)) item) h in
       let next = p.next m.core.place in
       jump_lands m r' y next step.change al (ap (λ o. item_does p o m.core next) (sym item) ∙ step.does) step.end step.events
 

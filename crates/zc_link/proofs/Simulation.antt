@@ -13,8 +13,8 @@ use Rattle.sym_machine.specs.State.{PlainState}
 use Rattle.zc_link.specs.Image.{Image, image_in}
 use Rattle.zc_link.specs.Invariants.Laid.{Laid}
 use Rattle.zc_link.specs.Pace.{Stretch, pace_of, span_of}
-use Rattle.zc_link.specs.Preserves.{FollowsWithin, Preserves}
-use Rattle.zc_link.specs.IsSimulation.{IsSimulation, IsInside}
+use Rattle.zc_link.specs.Preserves.{FollowsAlways, Preserves, aligns_of}
+use Rattle.zc_link.specs.IsSimulation.{IsPaced, IsSimulation, IsInside}
 use Rattle.zc_link.proofs.Apart.{commits_apart, cuts_apart, lead_commits_apart, lead_cuts_apart}
 use Rattle.zc_link.proofs.Induction as induction
 use Rattle.zc_link.proofs.Stretches.{stretch_comes, stretch_inside}
@@ -25,10 +25,10 @@ module _ (p : Program) (Named : Place → Type 0) (e : Image) (stretch : Place �
   simulates = record {
     some = laid.some;
     few = laid.few;
-    step = λ r r' h cuts are z so same.
-        stretch_comes (stretch r.core.place) laid.room laid.leads cuts are so same (laid.each r.core.place z.core.pc so.place) h;
+    step = λ r r' h cuts are z so same devices outside.
+        stretch_comes (stretch r.core.place) laid.room laid.leads cuts are so same devices outside (laid.each r.core.place z.core.pc so.place) h;
     inside = λ k r r' some lt listed running h. inside k r r' some lt running h (e.address r.core.place) refl listed;
-    start = λ input bytes cuts are. starts laid input bytes cuts are;
+    start = λ first is devices input bytes cuts are. starts laid first is devices input bytes cuts are;
     cells = laid.cells;
     cuts_apart = cuts_apart laid;
     commits_apart = commits_apart laid;
@@ -43,13 +43,14 @@ module _ (p : Program) (Named : Place → Type 0) (e : Image) (stretch : Place �
       inside k r r' some lt running h (Some a) is listed = stretch_inside p e a r r' (stretch r.core.place) k (laid.each r.core.place a is) some lt running h
       inside k r r' some lt running h None is listed = absurd (false≢true listed)
 
-  pub follows : FollowsWithin 64 p e
-  follows = induction.follows p Named e (pace_of p stretch) simulates
+  pub follows : (aligns : ℕ) → IsPaced p (pace_of p stretch) aligns → FollowsAlways p aligns e
+  follows aligns paced = induction.follows p Named e (pace_of p stretch) simulates aligns paced
 
 -- ---- files
 
 -- a file whose image is laid for the objects' program preserves it
 pub laid_preserves :
     (inputs : Inputs) (elf : List ℕ) (Named : Place → Type 0) (e : Image) (stretch : Place → Stretch) → image_in elf inputs.map ≡ Some e → Laid (program_of (parsed inputs)) Named e stretch
-    → Preserves inputs elf
-laid_preserves inputs elf Named e stretch read laid = record { image = e; read = read; follows = follows (program_of (parsed inputs)) Named e stretch laid }
+    → IsPaced (program_of (parsed inputs)) (pace_of (program_of (parsed inputs)) stretch) (aligns_of (parsed inputs)) → Preserves inputs elf
+laid_preserves inputs elf Named e stretch read laid paced =
+    record { image = e; read = read; follows = follows (program_of (parsed inputs)) Named e stretch laid (aligns_of (parsed inputs)) paced }

@@ -1,33 +1,41 @@
--- The start is sound, after the stub if there is one: registers and memory stand for the machine's as they are loaded, sp
--- is the stack's end, and nothing of the stack is known.
-use Rattle.std.proofs.Common.{◌≡◌, ℕ, zero, suc, ◌+◌, ◌-◌, ◌^◌, ◌<◌, ◌≤◌, List, [], length, Some, Bool, true, false, refl, sym, ap, ◌∙◌, subst, inl, ⊎_elim, arith, eqb, leb, get_or, replicate}
+-- The start is sound, after the stub if there is one: data stand for the machine's as they are loaded, sp is the stack's end, and
+-- nothing is known of the other registers and of the stack.
+use Rattle.std.proofs.Common.{◌≡◌, ◌≢◌, ℕ, zero, suc, ◌+◌, ◌-◌, ◌^◌, ◌<◌, ◌≤◌, List, [], length, Some, Bool, true, false, cond, refl, sym, ap, ◌∙◌, subst, inl, ⊎_elim, arith, eqb, leb, get_or, replicate}
 use Rattle.std.specs.Prelude.{◌&&◌, All}
-use Rattle.std.proofs.lemmas.Bool.{and_parts, cases_lt, cond-false, cond_both, leb-true, ne_eqb}
+use Rattle.std.proofs.lemmas.Bool.{and_parts, cases_lt, cond-false, cond_both, eqb-false, eqb-true, false≢true, leb-true, ne_eqb}
 use Rattle.std.proofs.lemmas.List.{get_or-replicate, get_or_past, length-replicate}
 use Rattle.zc_base.specs.declared.place.Place.{Place}
 use Rattle.interrupt_plan.specs.Plan.{AreInterrupts, Interrupt}
-use Rattle.rv_decode.specs.Memory.{blank, cell_at}
-use Rattle.rv_decode.specs.State.{IsCore, ZcState, reg_in, start_regs}
-use Rattle.rv_decode.proofs.MemoryLaws.{get_or_blank}
+use Rattle.rv_decode.specs.Memory.{blank, cell_at, extents_of, is_stack, is_text, lies_in}
+use Rattle.rv_decode.specs.Devices.{Device}
+use Rattle.rv_decode.specs.State.{IsCore, ZcCore, ZcState, byte_in, reg_in, start_regs}
+use Rattle.rv_decode.proofs.MemoryLaws.{get_or_blank, stack_is_data}
 use Rattle.rv_decode.proofs.RegisterLaws.{reads}
 use Rattle.sym_machine.specs.declared.word.SymByte.{SymByte}
 use Rattle.sym_machine.specs.declared.word.SymByte.TheVariants.{Undef}
 use Rattle.sym_machine.specs.Program.{Program, data_high, start_memory}
 use Rattle.sym_machine.specs.State.{first_plain, reg_of}
-use Rattle.sym_machine.specs.Words.{number_of, number_word, undef_word}
+use Rattle.sym_machine.specs.Words.{number_word, undef_word}
 use Rattle.zc_machine.specs.Load.{first_core}
-use Rattle.zc_machine.specs.Run.{first_state}
+use Rattle.zc_machine.specs.Run.{first_state_with}
 use Rattle.zc_link.specs.DataApart.{FromLoad}
-use Rattle.zc_link.specs.Image.{Image, loaded_core}
+use Rattle.zc_link.specs.Image.{Image, IsFirstState, loaded_core}
 use Rattle.zc_link.specs.Invariants.Laid.{AtEntry, Begins, BehindStub, Laid, StubLaid}
 use Rattle.zc_link.specs.Pace.{lead_of, Stretch}
 use Rattle.zc_link.specs.IsSimulation.{Comes}
 use Rattle.zc_link.specs.Sound.{Alike, NamesWord}
-use Rattle.zc_link.specs.Stands.{WordStands}
+use Rattle.zc_link.specs.Stands.{ByteStands, IsMemory, WordStands}
 use Rattle.zc_link.specs.Values.{value_in}
 use Rattle.zc_link.proofs.Bare.{Bares, OnBare}
+use Rattle.zc_link.proofs.Cuts.{stack_within}
 use Rattle.zc_link.proofs.Stub.{OnStub, lead_bares, none_lead, started, started_alike, stub_comes, stub_lead, stub_leads}
 use Rattle.zc_link.proofs.Words.{number_is, number_names, number_stands, undef_names, undef_stands}
+
+get_or_same : {Z : Type 0} (n i : ℕ) (z : Z) → get_or (replicate n z) i z ≡ z
+get_or_same n i z = ⊎_elim
+    (λ lt. get_or-replicate n i z z lt)
+    (λ le. get_or_past (replicate n z) i z (let l = length-replicate n z in omega arith))
+    (cases_lt i n)
 
 -- what holds of x0, of sp and of the other registers holds of each
 start_reads :
@@ -39,12 +47,19 @@ start_reads R x0 sp other y0 sp' other' zeros stacks others (suc (suc zero)) = s
 start_reads R x0 sp other y0 sp' other' zeros stacks others (suc (suc (suc r))) =
     let some : eqb (suc (suc (suc r))) 0 ≡ false = ne_eqb (suc (suc (suc r))) 0 (λ e. omega arith) in
     rw (some, get_or_same 29 r other, get_or_same 29 r other') others
+
+-- the state that is loaded is a first state
+pub loaded_first : (e : Image) → IsFirstState e (loaded_core e)
+unfolding first_core
+loaded_first e = record { pc = refl; count = refl; sp = refl; words = others; extents = refl; bytes = λ a. inl refl; exit = refl }
   where
-    get_or_same : {Z : Type 0} (n i : ℕ) (z : Z) → get_or (replicate n z) i z ≡ z
-    get_or_same n i z = ⊎_elim
-        (λ lt. get_or-replicate n i z z lt)
-        (λ le. get_or_past (replicate n z) i z (let l = length-replicate n z in omega arith))
-        (cases_lt i n)
+    others : (r : ℕ) → r ≢ 2 → reads 0 0 (start_regs 0 e.map.stack_high 0) r < 2 ^ 32
+    others zero other = omega arith
+    others (suc zero) other = omega arith
+    others (suc (suc zero)) other = absurd (other refl)
+    others (suc (suc (suc r))) other =
+        let some : eqb (suc (suc (suc r))) 0 ≡ false = ne_eqb (suc (suc (suc r))) 0 (λ e. omega arith) in
+        rw (some, get_or_same {Z = ℕ} 29 r 0) (omega arith)
 
 -- nothing is known of the stack, which begins at or after data's end
 stack_unknown : (p : Program) → data_high p ≤ p.map.stack_low → (a : ℕ) → p.map.stack_low ≤ a → cell_at Undef (start_memory p) a ≡ Undef
@@ -67,108 +82,130 @@ module _ {p : Program} {Named : Place → Type 0} {e : Image} {piece : Place →
   high_same : p.map.stack_high ≡ e.map.stack_high
   high_same = ap (λ m. m.stack_high) (sym laid.room.map)
 
-  start_stands : (input : List ℕ) (r : ℕ) → WordStands (value_in p e.address) (reg_of (first_plain p input) r) (reads 0 0 (start_regs 0 e.map.stack_high 0) r)
-  start_stands input r =
-      let V = value_in p e.address in
-      start_reads (WordStands V) (number_word 0) (number_word p.map.stack_high) undef_word 0 e.map.stack_high 0
-      (number_stands V 0) (rw high_same (number_stands V e.map.stack_high)) (undef_stands V 0) r
-
   start_names : (input : List ℕ) (r : ℕ) → NamesWord Named (reg_of (first_plain p input) r)
   start_names input r =
       start_reads {Y = ℕ} (λ w n. NamesWord Named w) (number_word 0) (number_word p.map.stack_high) undef_word 0 0 0
       (number_names Named 0) (number_names Named p.map.stack_high) (undef_names Named) r
 
-  start_core : IsCore (loaded_core e)
-  unfolding first_core
-  start_core = record {
-    count = refl;
-    words = start_reads {X = ℕ} (λ m n. n < 2 ^ 32) 0 0 0 0 e.map.stack_high 0 (omega arith) (omega (arith, laid.room.top, high_same)) (omega arith);
-    bytes = laid.bytes;
-  }
+  -- ---- a first state
 
-  start_sp : (input : List ℕ) → number_of (reg_of (first_plain p input) 2) ≡ Some (reg_in (loaded_core e) 2)
-  unfolding first_core
-  start_sp input = ap Some (number_is (value_in p e.address) (reg_of (first_plain p input) 2) (reg_in (loaded_core e) 2) _ (start_core.words 2) (start_stands input 2) refl)
+  module _ (first : ZcCore) (is : IsFirstState e first) where
+    start_stands : (input : List ℕ) (r : ℕ) → WordStands (value_in p e.address) (reg_of (first_plain p input) r) (reg_in first r)
+    start_stands input zero = number_stands (value_in p e.address) 0
+    start_stands input (suc zero) = undef_stands (value_in p e.address) (reg_in first 1)
+    start_stands input (suc (suc zero)) = rw (is.sp, high_same) (number_stands (value_in p e.address) e.map.stack_high)
+    start_stands input (suc (suc (suc r))) =
+        let some : eqb (suc (suc (suc r))) 0 ≡ false = ne_eqb (suc (suc (suc r))) 0 (λ e. omega arith) in
+        subst (λ w. WordStands (value_in p e.address) w (reg_in first (suc (suc (suc r)))))
+        (sym (ap (λ b. cond b (number_word 0) (get_or (replicate 29 undef_word) r undef_word)) some ∙ get_or_same 29 r undef_word))
+        (undef_stands (value_in p e.address) (reg_in first (suc (suc (suc r)))))
 
-  -- the states are alike as if the image started where the program does
-  start_alike :
-      (input : List ℕ) → All (λ b. b < 256) input → (start : ℕ) → e.address p.entry ≡ Some start
-      → Alike p Named (started e start) (first_plain p input) (loaded_core e)
-  unfolding first_core
-  start_alike input bytes start at = record {
-    ready = record {
-      running = refl;
-      going = refl;
-      plain = record { count = refl; input = bytes };
-      core = start_core;
-      registers = λ r lt. start_stands input r;
-      memory = laid.first;
-      names = record { registers = λ r lt. start_names input r; memory = laid.names };
-      lies = refl;
-      extents = refl;
-      text = λ a _. refl;
-      table = λ elsewhere. absurd (elsewhere at);
-    };
-    sp = start_sp input;
-    low = omega (arith, laid.room.some, high_same);
-    high = omega (arith, high_same);
-    below = λ a low lt. stack_unknown p laid.room.under a low;
-  }
+    start_core : IsCore first
+    start_core = record {
+      count = is.count;
+      words = λ r. words r (eqb r 2) refl;
+      bytes = λ a. ⊎_elim (λ same. rw same (laid.bytes a)) (λ stack. stack.1) (is.bytes a);
+    }
+      where
+        words : (r : ℕ) (b : Bool) → eqb r 2 ≡ b → reg_in first r < 2 ^ 32
+        words r true here = let at = eqb-true r 2 here in rw (at, is.sp) (omega (arith, laid.room.top, high_same))
+        words r false here = is.words r (eqb-false r 2 here)
 
-  -- k commits lead from the first state to a sound pair
-  abbrev StartsAfter : ℕ → (ℕ → List Interrupt) → List ℕ → Type 0
-  StartsAfter k cuts input =
-      Comes p Named e cuts k (first_state (loaded_core e) input) (record { core = first_plain p input; events = [] })
+    -- nothing is known of the stack, and the rest is as it was loaded
+    start_memory_stands :
+        (a : ℕ) → IsMemory p a → ByteStands (value_in p e.address) (cell_at Undef (start_memory p) a) (byte_in first a)
+    start_memory_stands a within = ⊎_elim
+        (λ same. subst (ByteStands (value_in p e.address) (cell_at Undef (start_memory p) a)) (sym same) (laid.first a within))
+        (λ stack.
+        let low = (stack_within laid.room first is.extents a stack.0).0 in
+        subst (λ c. ByteStands (value_in p e.address) c (byte_in first a)) (sym (stack_unknown p laid.room.under a low)) tt)
+        (is.bytes a)
 
-  starts_at_once :
-      (input : List ℕ) → All (λ b. b < 256) input → (cuts : ℕ → List Interrupt) → e.address p.entry ≡ Some e.entry
-      → StartsAfter 0 cuts input
-  unfolding first_core
-  starts_at_once input bytes cuts at = record {
-    after = first_state (loaded_core e) input;
-    runs = refl;
-    together = inl record {
-      alike = started_alike {z = loaded_core e} e.entry e.entry 0 0 (λ elsewhere. absurd (elsewhere at))
-          (start_alike input bytes e.entry at);
-      input = refl;
-      place = at;
-    };
-    events = refl;
-  }
+    start_text : (a : ℕ) → lies_in is_text (extents_of (loaded_core e).memory) a 1 ≡ true → byte_in first a ≡ byte_in (loaded_core e) a
+    start_text a text = ⊎_elim
+        (λ same. same)
+        (λ stack.
+        let held = stack_is_data (extents_of (loaded_core e).memory) a 1 (ap (λ es. lies_in is_stack es a 1) (sym is.extents) ∙ stack.0) in
+        absurd (false≢true (sym (laid.room.apart a text) ∙ held)))
+        (is.bytes a)
 
-  -- the program doesn't know t0 at its start
-  starts_behind :
-      (input : List ℕ) → All (λ b. b < 256) input → (cuts : ℕ → List Interrupt) → AreInterrupts cuts
-      → StubLaid p e e.entry → StartsAfter 3 cuts input
-  unfolding first_core
-  starts_behind input bytes cuts are stub =
-      let on : OnStub p Named e cuts (first_plain p input) (first_state (loaded_core e) input) =
-      record { are = are; stub = stub; alike = start_alike input bytes (stub_leads stub) stub.leads } in
-      let past = stub_comes laid.room on in
-      record {
-        after = record (first_state (loaded_core e) input) { core = past.there };
-        runs = past.runs;
-        together = inl record { alike = past.alike; input = refl; place = past.place };
-        events = refl;
-      }
+    -- the states are alike as if the image started where the program does
+    start_alike :
+        (input : List ℕ) → All (λ b. b < 256) input → (start : ℕ) → e.address p.entry ≡ Some start
+        → Alike p Named (started e start) (first_plain p input) first
+    unfolding first_core
+    start_alike input bytes start at = record {
+      ready = record {
+        running = refl;
+        going = is.exit;
+        plain = record { count = refl; input = bytes };
+        core = start_core;
+        registers = λ r lt. start_stands input r;
+        memory = start_memory_stands;
+        names = record { registers = λ r lt. start_names input r; memory = laid.names };
+        lies = refl;
+        extents = is.extents;
+        text = start_text;
+        table = λ elsewhere. absurd (elsewhere at);
+      };
+      sp = ap Some (number_is (value_in p e.address) (reg_of (first_plain p input) 2) (reg_in first 2) _ (start_core.words 2) (start_stands input 2) refl);
+      low = omega (arith, is.sp, laid.room.some, high_same);
+      high = omega (arith, is.sp, high_same);
+      below = λ a low lt. stack_unknown p laid.room.under a low;
+    }
 
-  pub starts :
-      (input : List ℕ) → All (λ b. b < 256) input → (cuts : ℕ → List Interrupt) → AreInterrupts cuts
-      → StartsAfter (lead_of p e) cuts input
-  starts input bytes cuts are = by laid.begins
-    where
-      by : Begins p e → StartsAfter (lead_of p e) cuts input
-      by (AtEntry at) =
-          subst (λ k. StartsAfter k cuts input) (sym (none_lead p e at)) (starts_at_once input bytes cuts at)
-      by (BehindStub stub) =
-          subst (λ k. StartsAfter k cuts input) (sym (stub_lead stub)) (starts_behind input bytes cuts are stub)
+    -- k commits lead from the first state to a sound pair
+    abbrev StartsAfter : ℕ → (ℕ → List Interrupt) → List Device → List ℕ → Type 0
+    StartsAfter k cuts devices input =
+        Comes p Named e cuts k (first_state_with first devices input) (record { core = first_plain p input; events = []; devices = devices })
+
+    starts_at_once :
+        (devices : List Device) (input : List ℕ) → All (λ b. b < 256) input → (cuts : ℕ → List Interrupt) → e.address p.entry ≡ Some e.entry
+        → StartsAfter 0 cuts devices input
+    starts_at_once devices input bytes cuts at = record {
+      after = first_state_with first devices input;
+      runs = refl;
+      together = inl record {
+        alike = started_alike {z = first} e.entry first.pc first.jvt first.commits (λ elsewhere. absurd (elsewhere at))
+            (start_alike input bytes e.entry at);
+        input = refl;
+        place = at ∙ ap Some (sym is.pc);
+      };
+      events = refl;
+    }
+
+    -- the program doesn't know t0 at its start
+    starts_behind :
+        (devices : List Device) (input : List ℕ) → All (λ b. b < 256) input → (cuts : ℕ → List Interrupt) → AreInterrupts cuts
+        → StubLaid p e first.pc → StartsAfter 3 cuts devices input
+    starts_behind devices input bytes cuts are stub =
+        let on : OnStub p Named e cuts (first_plain p input) (first_state_with first devices input) =
+        record { are = are; stub = stub; alike = start_alike input bytes (stub_leads stub) stub.leads } in
+        let past = stub_comes laid.room on in
+        record {
+          after = record (first_state_with first devices input) { core = past.there };
+          runs = past.runs;
+          together = inl record { alike = past.alike; input = refl; place = past.place };
+          events = refl;
+        }
+
+    pub starts :
+        (devices : List Device) (input : List ℕ) → All (λ b. b < 256) input → (cuts : ℕ → List Interrupt) → AreInterrupts cuts
+        → StartsAfter (lead_of p e) cuts devices input
+    starts devices input bytes cuts are = by laid.begins
+      where
+        by : Begins p e → StartsAfter (lead_of p e) cuts devices input
+        by (AtEntry at) =
+            subst (λ k. StartsAfter k cuts devices input) (sym (none_lead p e at)) (starts_at_once devices input bytes cuts at)
+        by (BehindStub stub) =
+            subst (λ k. StartsAfter k cuts devices input) (sym (stub_lead stub))
+            (starts_behind devices input bytes cuts are (subst (StubLaid p e) (sym is.pc) stub))
 
   -- no commit before the start looks at memory
   pub lead_bare : (k : ℕ) (z : ZcState) → FromLoad p e k z → OnBare e k z
-  unfolding first_core
   lead_bare k z from = subst (OnBare e k) (sym from.loads) (record {
-    going = refl;
-    same = record { extents = refl; text = λ a _. refl };
-    bares = subst (λ n. Bares e n (loaded_core e).regs e.entry) (sym from.commits)
-        (lead_bares (loaded_core e).regs laid.begins);
+    going = from.starts.exit;
+    same = record { extents = from.starts.extents; text = start_text from.first from.starts };
+    bares = subst (λ n. Bares e n from.first.regs from.first.pc) (sym from.commits)
+        (subst (Bares e (lead_of p e) from.first.regs) (sym from.starts.pc) (lead_bares from.first.regs laid.begins));
   })

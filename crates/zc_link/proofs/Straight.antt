@@ -1,11 +1,14 @@
 -- Instructions without relocation that go on to the next item, without an event, one after another: the program comes to the place
 -- behind them, and the machine's effects, one after another, lead to a state that is alike with the program's again.
 use Rattle.std.proofs.Common.{◌≡◌, ℕ, zero, suc, ◌%◌, ◌<◌, ◌≤◌, List, [], ◌∷◌, ◌++◌, length, Option, Some, None, Ok, Bool, true, false, cond, drop, refl, sym, ap, ◌∙◌, subst, arith, ℤ, eqb}
+use Rattle.std.specs.Option.{option_and_then, option_map}
+use Rattle.std.proofs.lemmas.Bool.{cond-true, eq-eqb}
 use Rattle.std.proofs.lemmas.List.{append-nil}
 use Rattle.zc_base.specs.declared.place.Place.{Place}
 use Rattle.rv_decode.specs.declared.instr.Instr.{Instr}
 use Rattle.rv_decode.specs.declared.instr.Instr.TheVariants.{Upper, Jal, Jalr, Branch, Load, Store, WithImm, WithReg, Fence, Ecall, Ebreak, Csrrw}
 use Rattle.rv_decode.specs.Bits.{add32}
+use Rattle.rv_decode.specs.Devices.{Device}
 use Rattle.rv_decode.specs.Effect.{load_width, store_width}
 use Rattle.rv_decode.specs.Run.{iterate}
 use Rattle.rv_decode.specs.State.{ZcCore, reg_in}
@@ -13,6 +16,7 @@ use Rattle.rv_decode.proofs.RunLaws.{bind_ok}
 use Rattle.block_cut.specs.declared.item.Item.TheVariants.{Op}
 use Rattle.sym_machine.specs.declared.why.Why.TheVariants.{BadAddress, Misaligned}
 use Rattle.sym_machine.specs.Change.{Change, Does, Goes, Stops, accessing, in_memory, item_does, load_word, op_does, puts, sets, stored_bytes}
+use Rattle.sym_machine.specs.Devices.{device_address, device_does, device_load, device_store}
 use Rattle.sym_machine.specs.Program.{Program}
 use Rattle.sym_machine.specs.Run.{plain_turn}
 use Rattle.sym_machine.specs.Expansions.{item_expansion}
@@ -30,14 +34,14 @@ use Rattle.zc_link.proofs.Ends.{ends_alike}
 use Rattle.zc_link.proofs.Instrs.{GoesOn, imm_goes, load_goes, store_goes}
 use Rattle.zc_link.proofs.Words.{sum_stands}
 
--- an operation on a register and an immediate, a load or a store, whose sources are among the 32 registers
+-- an operation on a register and an immediate, whose source is among the 32 registers, or a load or a store by sp
 abbrev pub IsStraight : Instr → Type 0
 IsStraight (Upper op rd imm) = ⊥
 IsStraight (Jal rd distance) = ⊥
 IsStraight (Jalr rd base imm) = ⊥
 IsStraight (Branch op first second distance) = ⊥
-IsStraight (Load op rd base imm) = base < 32
-IsStraight (Store op source base imm) = (source < 32) × (base < 32)
+IsStraight (Load op rd base imm) = base ≡ 2
+IsStraight (Store op source base imm) = (source < 32) × (base ≡ 2)
 IsStraight (WithImm op rd first imm) = first < 32
 IsStraight (WithReg op rd first second) = ⊥
 IsStraight (Fence rest) = ⊥
@@ -106,6 +110,27 @@ straight_silent Ecall s next c low h = absurd low
 straight_silent Ebreak s next c low h = absurd low
 straight_silent (Csrrw rd source) s next c low h = absurd low
 
+-- no device answers it
+no_device : (ds : List Device) (base n : ℕ) (o : Option ℕ) → base ≡ 2 → device_address ds base n o ≡ None
+no_device ds base n None by_sp = refl
+no_device ds base n (Some a) by_sp = cond-true (eqb base 2) _ _ (eq-eqb base 2 by_sp)
+
+straight_alone : (ds : List Device) (p : Program) (i : Instr) (s : PlainCore) (next : Place) → IsStraight i → device_does ds p (Some (Op i)) s next ≡ None
+straight_alone ds p (Upper op rd imm) s next low = refl
+straight_alone ds p (Jal rd distance) s next low = refl
+straight_alone ds p (Jalr rd base imm) s next low = refl
+straight_alone ds p (Branch op first second distance) s next low = refl
+straight_alone ds p (Load op rd base imm) s next low =
+    ap (option_map (device_load op rd s next)) (no_device ds base (load_width op) (number_of (sum_word (reg_of s base) imm)) low)
+straight_alone ds p (Store op source base imm) s next low =
+    ap (λ o. option_and_then (device_store (stored_bytes op (reg_of s source)) next) o) (no_device ds base (store_width op) (number_of (sum_word (reg_of s base) imm)) low.1)
+straight_alone ds p (WithImm op rd first imm) s next low = refl
+straight_alone ds p (WithReg op rd first second) s next low = refl
+straight_alone ds p (Fence rest) s next low = refl
+straight_alone ds p Ecall s next low = refl
+straight_alone ds p Ebreak s next low = refl
+straight_alone ds p (Csrrw rd source) s next low = refl
+
 -- no event, no input is taken, and the program runs on, at this place
 pub record CameTo (q : Place) (r r' : PlainState) : Type 0 where
   pub place : r'.core.place ≡ q
@@ -128,8 +153,8 @@ pub record StepOf (p : Program) (i : Instr) (r r1 : PlainState) : Type 0 where
 
 pub step_of : (p : Program) (i : Instr) (r r1 : PlainState) → IsStraight i → p.item r.core.place ≡ Some (Op i) → r.core.exit ≡ None → plain_turn p r ≡ Ok r1 → StepOf p i r r1
 step_of p i r r1 low item running h =
-    let step = stepped p r r1 running (ap item_expansion item) h in
     let next = p.next r.core.place in
+    let step = stepped p r r1 running (ap item_expansion item) (ap (λ o. device_does r.devices p o r.core next) item ∙ straight_alone r.devices p i r.core next low) h in
     let does : op_does i r.core next ≡ Goes step.change = ap (λ o. item_does p o r.core next) (sym item) ∙ step.does in
     let silent = straight_silent i r.core next step.change low does in
     record {
@@ -190,9 +215,9 @@ module _ {p : Program} {Named : Place → Type 0} {e : Image} (room : Room p e) 
   straight_goes (Jal rd distance) c next low ready h = absurd low
   straight_goes (Jalr rd base imm) c next low ready h = absurd low
   straight_goes (Branch op first second distance) c next low ready h = absurd low
-  straight_goes {s} (Load op rd base imm) c next low ready h = load_goes room ready 0 c next op rd base imm (sum_word (reg_of s base) imm) (base_sum base imm ready low) h
+  straight_goes {s} (Load op rd base imm) c next low ready h = load_goes room ready 0 c next op rd base imm (sum_word (reg_of s base) imm) (base_sum base imm ready (omega (arith, low))) h
   straight_goes {s} (Store op source base imm) c next low ready h =
-      store_goes room ready 0 c next op source base imm (sum_word (reg_of s base) imm) low.0 (base_sum base imm ready low.1) h
+      store_goes room ready 0 c next op source base imm (sum_word (reg_of s base) imm) low.0 (base_sum base imm ready (omega (arith, low.1))) h
   straight_goes (WithImm op rd first imm) c next low ready h = imm_goes room ready 0 c next op rd first imm low h
   straight_goes (WithReg op rd first second) c next low ready h = absurd low
   straight_goes (Fence rest) c next low ready h = absurd low

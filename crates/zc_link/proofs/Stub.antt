@@ -75,6 +75,7 @@ started_room start room = record {
   deep = room.deep;
   under = room.under;
   reaches = room.reaches;
+  bounded = room.bounded;
   apart = room.apart;
   even = room.even;
   distinct = room.distinct;

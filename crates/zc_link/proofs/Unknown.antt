@@ -76,7 +76,7 @@ module _ {p : Program} {Named : Place → Type 0} {e : Image} (room : Room p e) 
       let first = bind_ok (plain_turn p r) (iterate (plain_turn p) (length (stores_of ds))) r' h in
       let one = both_step room i r first.0 z low.0 ops.0 first.1 al in
       let a : ℕ = add32 (reg_in z 2) (pos d.offset) in
-      let ok = reached_by a z (onward (stored 4 a (reg_in z d.register) z) 0 z.regs) one.goes.made.after one.goes.made.commits in
+      let ok = reached_by a z (onward (stored 4 a (reg_in z d.register) z) 0 z.regs) one.goes.made.after _ one.goes.made.commits in
       let here = above d (inl refl) in
       stores_keep ds base first.0 r' one.goes.made.after x (subst (λ q. AreOps p q (stores_of ds)) (sym one.of.came.place) ops.1) low.1 first.2 one.alike
       (ap (λ t. reg_in t 2) ok.0 ∙ at) (λ c m. above c (inr m))

@@ -3,7 +3,9 @@
 use Rattle.std.proofs.Common.{◌≡◌, ◌≢◌, ℕ, List, [], ◌∷◌, ◌++◌, length, refl, sym, ap, ap₂, ◌∙◌, subst, arith, pos, inl, inr, ⊎_elim}
 use Rattle.std.proofs.lemmas.Bool.{cases_eq}
 use Rattle.rv_decode.specs.Bits.{add32}
-use Rattle.rv_decode.specs.Effect.{Commits, onward, reaching}
+use Rattle.rv_decode.specs.declared.instr.LoadOp.TheVariants.{Lw}
+use Rattle.rv_decode.specs.Devices.{Loads}
+use Rattle.rv_decode.specs.Effect.{Commits, Outside, attempting, onward}
 use Rattle.rv_decode.specs.Memory.{Region}
 use Rattle.rv_decode.specs.State.{ZcCore, reg_in, set_reg, word_at}
 use Rattle.rv_decode.proofs.RegisterLaws.{length-set_reg, reads, reads-set_reg_other, reads-set_reg_same, set_reg_both}
@@ -86,15 +88,15 @@ loads_zero (d ∷ ds) y yz zz low t h =
     let a : ℕ = add32 (reg_in y 2) (pos d.offset) in
     let sp : reg_in yz 2 ≡ reg_in y 2 = t.registers 2 (λ is. omega (arith, is)) in
     let v : ℕ = word_at y a in
-    let first : reaching 4 a y (Commits (onward yz h.0 (set_reg yz.regs d.register v))) ≡ Commits h.1 =
+    let first : attempting 4 a y (Outside (Loads Lw a d.register h.0)) (Commits (onward yz h.0 (set_reg yz.regs d.register v))) ≡ Commits h.1 =
     sym (ap₂ (λ (m : List (Region ℕ)) (n : ℕ).
-    reaching 4 (add32 n (pos d.offset)) (record yz { memory = m })
+    attempting 4 (add32 n (pos d.offset)) (record yz { memory = m }) (Outside (Loads Lw (add32 n (pos d.offset)) d.register h.0))
     (Commits (onward yz h.0 (set_reg yz.regs d.register (word_at (record yz { memory = m }) (add32 n (pos d.offset))))))) t.memory sp) ∙ h.2 in
-    let ok = reached_by a y (onward yz h.0 (set_reg yz.regs d.register v)) h.1 first in
+    let ok = reached_by a y (onward yz h.0 (set_reg yz.regs d.register v)) h.1 _ first in
     let y1 : ZcCore = onward y 0 (set_reg y.regs d.register v) in
     let next : HasZero y1 h.1 = subst (λ x. HasZero y1 x) (sym ok.0) (other_set y yz d.register v 0 h.0 t (low d (inl refl))) in
     let rest = loads_zero ds y1 h.1 zz (λ c m. low c (inr m)) next h.3 in
-    (rest.0, (0, y1, reaches a y (Commits y1) ok.1, rest.1), rest.2)
+    (rest.0, (0, y1, reaches a y _ (Commits y1) ok.1, rest.1), rest.2)
 
 -- `addi sp`
 raise_zero : (frame : ℕ) (y yz zz : ZcCore) → HasZero y yz → Effects (raise_sp frame ∷ []) yz zz → (z : ZcCore) × Effects (raise_sp frame ∷ []) y z × HasZero z zz

@@ -3,9 +3,10 @@
 use Rattle.std.specs.Prelude.{◌≡◌, ℕ, suc, ◌<◌, ◌≤◌, true, List, [], ◌∷◌, All, None, Ok}
 use Rattle.zc_base.specs.declared.place.Place.{Place}
 use Rattle.interrupt_plan.specs.Plan.{Interrupt, IsInterrupt}
+use Rattle.rv_decode.specs.Devices.{Device}
 use Rattle.rv_decode.specs.Memory.{changed, extents_of, lies_in, written}
 use Rattle.rv_decode.specs.Run.{iterate}
-use Rattle.rv_decode.specs.State.{ZcState}
+use Rattle.rv_decode.specs.State.{ZcCore, ZcState}
 use Rattle.sym_machine.specs.declared.word.SymByte.TheVariants.{Num}
 use Rattle.sym_machine.specs.Program.{Program, data_high}
 use Rattle.sym_machine.specs.Run.{plain_turn}
@@ -13,8 +14,8 @@ use Rattle.sym_machine.specs.State.{PlainState}
 use Rattle.zc_machine.specs.Interrupt.{interrupted}
 use Rattle.zc_machine.specs.Memory.{AreApart}
 use Rattle.zc_machine.specs.Poked.{is_segment}
-use Rattle.zc_machine.specs.Run.{first_state, zc_turn}
-use Rattle.zc_link.specs.Image.{Image, loaded_core}
+use Rattle.zc_machine.specs.Run.{first_state_with, zc_turn}
+use Rattle.zc_link.specs.Image.{Image, IsFirstState, loaded_core}
 use Rattle.zc_link.specs.Pace.{Pace, lead_of}
 use Rattle.zc_link.specs.Sound.{Sound}
 
@@ -50,12 +51,15 @@ pub record FromPair (p : Program) (Named : Place → Type 0) (e : Image) (pace :
   pub after : PlainState
   pub steps : iterate (plain_turn p) (pace.span r.core.place) (all_poked cells r) ≡ Ok after
 
--- the machine's first state, with all commits before the program's start left
+-- a first state of the machine, with all commits before the program's start left
 pub record FromLoad (p : Program) (e : Image) (k : ℕ) (z : ZcState) : Type 0 where
   pub commits : k ≡ lead_of p e
+  pub devices : List Device
   pub input : List ℕ
   pub bytes : All (λ b. b < 256) input
-  pub loads : z ≡ first_state (loaded_core e) input
+  pub first : ZcCore
+  pub starts : IsFirstState e first
+  pub loads : z ≡ first_state_with first devices input
 
 -- a state between such a first state and the end of its commits, with this number of commits left: it comes by interrupts, by
 -- writes to cells of data, and by commits

@@ -1,12 +1,13 @@
 -- What an image holds, by its bytes (System V gABI, "ELF Header" and "Program Header"), and what is loaded of it.
-use Rattle.std.specs.Prelude.{ℕ, List, Option, Some, None, if◌then◌else◌}
+use Rattle.std.specs.Prelude.{◌≡◌, ◌≢◌, ℕ, ◌^◌, ◌<◌, ◌⊎◌, List, length, Option, Some, None, if◌then◌else◌, true}
 use Rattle.zc_base.specs.declared.mem_map.MemMap.{MemMap}
 use Rattle.zc_base.specs.declared.place.Place.{Place}
 use Rattle.elf32_read.specs.Header.{entry_address}
 use Rattle.elf32_read.specs.Image.{image_fault}
 use Rattle.elf32_read.specs.Places.{place_list}
 use Rattle.elf32_read.specs.Segments.{SegmentData, segments_of}
-use Rattle.rv_decode.specs.State.{ZcCore}
+use Rattle.rv_decode.specs.Memory.{extents_of, is_stack, lies_in}
+use Rattle.rv_decode.specs.State.{ZcCore, byte_in, reg_in}
 use Rattle.zc_machine.specs.Load.{first_core}
 use Rattle.zc_link.specs.Places.{listed_address}
 use Rattle.std.specs.Option.{is_some}
@@ -31,3 +32,16 @@ image_in bytes map = if is_some (image_fault bytes map) then None else Some (rec
 -- the machine's first state
 abbrev pub loaded_core : Image → ZcCore
 loaded_core e = first_core e.entry e.segments e.map
+
+-- a state that a chip may start in: pc, text and data are as loaded, and sp is the stack's end; the other registers, jvt and the
+-- bytes of the stack hold anything
+pub record IsFirstState (e : Image) (z : ZcCore) : Type 0 where
+  pub pc : z.pc ≡ e.entry
+  pub count : length z.regs ≡ 32
+  pub sp : reg_in z 2 ≡ e.map.stack_high
+  pub words : (r : ℕ) → r ≢ 2 → reg_in z r < 2 ^ 32
+  pub extents : extents_of z.memory ≡ extents_of (loaded_core e).memory
+  pub bytes :
+      (a : ℕ)
+      → (byte_in z a ≡ byte_in (loaded_core e) a) ⊎ ((lies_in is_stack (extents_of z.memory) a 1 ≡ true) × (byte_in z a < 256))
+  pub exit : z.exit ≡ None

@@ -3,14 +3,15 @@
 use Rattle.std.specs.Prelude.{◌≡◌, ℕ, ◌*◌, ◌<◌, ◌≤◌, ◌⊎◌, List, [], All, IsSome, None, Ok}
 use Rattle.zc_base.specs.declared.place.Place.{Place}
 use Rattle.interrupt_plan.specs.Plan.{AreInterrupts, Interrupt}
+use Rattle.rv_decode.specs.Devices.{AreOutside, Device}
 use Rattle.rv_decode.specs.Run.{iterate}
-use Rattle.rv_decode.specs.State.{ZcState}
+use Rattle.rv_decode.specs.State.{ZcCore, ZcState}
 use Rattle.sym_machine.specs.Program.{Program}
 use Rattle.sym_machine.specs.Run.{plain_turn}
 use Rattle.sym_machine.specs.State.{PlainCore, PlainState, first_plain}
-use Rattle.zc_machine.specs.Run.{first_state, zc_turns}
+use Rattle.zc_machine.specs.Run.{first_state_with, zc_turns}
 use Rattle.zc_link.specs.DataApart.{CellsLie, CommitsApart, CutsApart, FromLoad, FromPair}
-use Rattle.zc_link.specs.Image.{Image, loaded_core}
+use Rattle.zc_link.specs.Image.{Image, IsFirstState}
 use Rattle.zc_link.specs.Pace.{Pace, lead_of}
 use Rattle.zc_link.specs.Sound.{Sound, Together}
 
@@ -29,6 +30,16 @@ pub record IsInside (e : Image) (r r' : PlainState) : Type 0 where
   pub running : r'.core.exit ≡ None
   pub unlisted : e.address r'.core.place ≡ None
 
+-- a stretch is at most 16 steps; and it takes a commit, or else it is one ALIGN without padding, of which there are so many, and
+-- behind it fewer lie ahead
+pub record IsPaced (p : Program) (pace : Pace) (aligns : ℕ) : Type 0 where
+  pub short : (q : Place) → pace.span q ≤ 16
+  pub ahead : Place → ℕ
+  pub few : (q : Place) → ahead q ≤ aligns
+  pub moves :
+      (r r' : PlainState) → r.core.exit ≡ None → iterate (plain_turn p) (pace.span r.core.place) r ≡ Ok r'
+      → (0 < pace.weight r.core) ⊎ ((pace.span r.core.place ≡ 1) × (ahead r'.core.place < ahead r.core.place))
+
 -- ---- the whole
 
 pub record IsSimulation (p : Program) (Named : Place → Type 0) (e : Image) (pace : Pace) : Type 0 where
@@ -38,15 +49,17 @@ pub record IsSimulation (p : Program) (Named : Place → Type 0) (e : Image) (pa
   pub step :
       (r r' : PlainState) → iterate (plain_turn p) (pace.span r.core.place) r ≡ Ok r'
       → (cuts : ℕ → List Interrupt) → AreInterrupts cuts → (z : ZcState) → Sound p Named e r.core z → z.events ≡ r.events
-      → Comes p Named e cuts (pace.weight r.core) z r'
+      → z.devices ≡ r.devices → AreOutside p.map r.devices → Comes p Named e cuts (pace.weight r.core) z r'
   -- within the span the program makes no events and doesn't exit, and its place isn't listed
   pub inside :
       (k : ℕ) (r r' : PlainState) → 0 < k → k < pace.span r.core.place → IsSome (e.address r.core.place) → r.core.exit ≡ None
       → iterate (plain_turn p) k r ≡ Ok r' → IsInside e r r'
   -- the machine comes to a state that is together with the program's start, by the stub's commits if there is a stub
   pub start :
-      (input : List ℕ) → All (λ b. b < 256) input → (cuts : ℕ → List Interrupt) → AreInterrupts cuts
-      → Comes p Named e cuts (lead_of p e) (first_state (loaded_core e) input) (record { core = first_plain p input; events = [] })
+      (first : ZcCore) → IsFirstState e first → (devices : List Device) (input : List ℕ) → All (λ b. b < 256) input
+      → (cuts : ℕ → List Interrupt) → AreInterrupts cuts
+      → Comes p Named e cuts (lead_of p e) (first_state_with first devices input)
+      (record { core = first_plain p input; events = []; devices = devices })
   -- each address of data is one of the image's data alone, and below the stack
   pub cells : CellsLie p e
   -- between sound pairs an interrupt does the same whatever data hold; so does each commit, if there are several steps or several

@@ -22,8 +22,8 @@ use Rattle.zc_link.specs.Image.{Image, image_in}
 use Rattle.zc_link.specs.ImageParts.{listed_places, parts_of, plain_flags}
 use Rattle.zc_link.specs.Pace.{pace_of}
 use Rattle.zc_link.specs.Places.{listed_address}
-use Rattle.zc_link.specs.Preserves.{Preserves}
-use Rattle.zc_link.specs.IsSimulation.{IsSimulation}
+use Rattle.zc_link.specs.Preserves.{Preserves, aligns_of}
+use Rattle.zc_link.specs.IsSimulation.{IsPaced, IsSimulation}
 use Rattle.moved_runs.specs.Leads.{IsNamed}
 use Rattle.zc_link.specs.TextLayout.{TextLayout, plain_layout, stretch_in, zc_layout}
 use Rattle.zc_link.specs.Written.{GapsAreZero, HoldsFront, HoldsPlace}
@@ -60,6 +60,7 @@ pub record IsImageOf (L : TextLayout) (flags end : ℕ) (elf : List ℕ) : Type 
   pub simulates :
       IsSimulation (program_of (parsed L.inputs)) (IsNamed (parsed L.inputs)) loaded
       (pace_of (program_of (parsed L.inputs)) (stretch_in L))
+  pub paced : IsPaced (program_of (parsed L.inputs)) (pace_of (program_of (parsed L.inputs)) (stretch_in L)) (aligns_of (parsed L.inputs))
   pub text : SegmentData
   pub alone : filter (λ s. s.code) (segments_of elf) ≡ text ∷ []
   pub start : text.at ≡ L.inputs.map.text

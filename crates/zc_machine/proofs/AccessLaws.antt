@@ -4,17 +4,17 @@ use Rattle.std.proofs.Common.{◌≡◌, ℕ, zero, suc, ◌*◌, ◌/◌, ◌%�
 use Rattle.std.specs.Int.{to_le_bytes, w32}
 use Rattle.std.proofs.lemmas.Bool.{cond-true}
 use Rattle.std.proofs.lemmas.Option.{cond_some}
-use Rattle.rv_decode.specs.Effect.{Effect, BadAccess, Misaligned, jumps, reaching}
+use Rattle.rv_decode.specs.Effect.{Effect, BadAccess, Misaligned, attempting, jumps}
 use Rattle.rv_decode.specs.Memory.{Region, byte_of, changed, extents_of, is_data, is_text, lies_in, written}
 use Rattle.rv_decode.specs.State.{ZcCore, word_at}
 use Rattle.zc_decode.specs.Effect.{entry_at, table_jumps}
 use Rattle.zc_machine.proofs.RegionLaws.{written-same}
 
 -- an access that is made
-pub reaching-made : (n a : ℕ) (z : ZcCore) (go : Effect) → eqb (a % n) 0 ≡ true → lies_in is_data (extents_of z.memory) a n ≡ true → reaching n a z go ≡ go
-reaching-made n a z go aligned lies =
-    cond-true (eqb (a % n) 0) (cond (lies_in is_data (extents_of z.memory) a n) go BadAccess) Misaligned aligned
-    ∙ cond-true (lies_in is_data (extents_of z.memory) a n) go BadAccess lies
+pub reaching-made : (n a : ℕ) (z : ZcCore) (other go : Effect) → eqb (a % n) 0 ≡ true → lies_in is_data (extents_of z.memory) a n ≡ true → attempting n a z other go ≡ go
+reaching-made n a z other go aligned lies =
+    cond-true (eqb (a % n) 0) (cond (lies_in is_data (extents_of z.memory) a n) go other) Misaligned aligned
+    ∙ cond-true (lies_in is_data (extents_of z.memory) a n) go other lies
 
 -- each byte of a word
 byte_same : (word i : ℕ) → i < 4 → slice_index (to_le_bytes w32 word) i ≡ byte_of word i

@@ -3,14 +3,16 @@
 use Rattle.std.specs.List.{list_any}
 use Rattle.std.specs.Option.{option_map_or}
 use Rattle.std.specs.Prelude.{◌||◌}
-use Rattle.std.proofs.Common.{◌≡◌, ℕ, zero, suc, ◌+◌, ◌-◌, ◌<◌, ◌≤◌, ⊎_elim, List, [], ◌∷◌, ◌++◌, take, drop, Bool, true, false, Option, Some, None, Result, Ok, Err, refl, sym, ap, subst, ◌∙◌, arith}
+use Rattle.std.proofs.Common.{◌≡◌, ℕ, zero, suc, ◌+◌, ◌-◌, ◌<◌, ◌≤◌, ⊎_elim, List, [], ◌∷◌, ◌++◌, length, take, drop, Bool, true, false, cond, Option, Some, None, Result, Ok, Err, refl, sym, ap, subst, ◌∙◌, arith}
 use Rattle.std.proofs.lemmas.Bool.{cases_lt, false≢true}
 use Rattle.std.proofs.lemmas.List.Folds.{list_any-append}
 use Rattle.std.proofs.lemmas.Option.{none-some}
 use Rattle.interrupt_plan.specs.Plan.{Entry, interrupts_at}
 use Rattle.rv_decode.specs.EventBytes.{written_to}
 use Rattle.rv_decode.specs.Run.{◌>>=◌}
-use Rattle.rv_decode.specs.State.{Event, Exit, Read, Write, ZcCore, ZcState}
+use Rattle.rv_decode.specs.Devices.{Loads, Stores, in_devices}
+use Rattle.rv_decode.specs.Effect.{load_width}
+use Rattle.rv_decode.specs.State.{Event, Exit, Load, Read, Store, Write, ZcCore, ZcState}
 use Rattle.rv_decode.proofs.RunLaws.{bind_ok}
 use Rattle.zc_outside.specs.Course.{EndsWithStop, ExitsAt}
 use Rattle.zc_outside.specs.Desk.{Desk}
@@ -20,9 +22,10 @@ use Rattle.zc_machine.specs.declared.reason.Reason.{Reason}
 use Rattle.zc_machine.specs.declared.run.RunEnd.TheVariants as end
 use Rattle.zc_machine.specs.Answer.{exited, has_read, has_written}
 use Rattle.zc_machine.specs.Buffer.{bytes_at}
-use Rattle.zc_machine.specs.Run.{committed, first_state, interrupts_by, machine_after, turn, turns}
+use Rattle.zc_machine.specs.declared.reason.Reason.TheVariants.{BadAccess}
+use Rattle.zc_machine.specs.Run.{committed, device_answers, first_state, interrupts_by, machine_after, turn, turns, machine_after_with}
 use Rattle.zc_machine.specs.RunEnd.{Ran, course_of}
-use Rattle.zc_machine.specs.Step.{ZcStep, Committed, Wants, Ended, Stopped, zc_step}
+use Rattle.zc_machine.specs.Step.{ZcStep, Committed, Wants, Ended, Stopped, Asks, zc_step}
 use Rattle.zc_machine.proofs.CutLaws.{all_cuts_keep}
 use Rattle.zc_machine.proofs.StepLaws.{Shows, step_shows}
 use Rattle.zc_machine.proofs.TurnLaws.{turn-running, turns-add}
@@ -73,6 +76,8 @@ abbrev is_exit : Event → Bool
 is_exit (Read bytes) = false
 is_exit (Write fd bytes) = false
 is_exit (Exit status) = true
+is_exit (Load a width bytes) = false
+is_exit (Store a bytes) = false
 
 -- an event more
 none_more : (events : List Event) (e : Event) → (is_exit e || false) ≡ false → list_any is_exit events ≡ false → list_any is_exit (events ++ e ∷ []) ≡ false
@@ -90,18 +95,38 @@ commit_of : (z : ZcCore) (r s : ZcState) (step : ZcStep) → Shows z step → z.
 commit_of z r s (Committed z') shown running made =
     left_by z.commits r.events (record r { core = z' }) s made (record { counts = shown.0; quiet = λ going none. none })
 commit_of z r s (Wants (call.Exit status)) shown running made =
-    left_by z.commits r.events (record { core = exited status z; input = r.input; events = r.events ++ Exit status ∷ [] }) s made
+    left_by z.commits r.events (record { core = exited status z; input = r.input; events = r.events ++ Exit status ∷ []; devices = r.devices }) s made
     (record { counts = refl; quiet = λ going none. absurd (none-some status (sym going)) })
 commit_of z r s (Wants (call.Read at len)) shown running made =
     let bytes = take len r.input in
-    left_by z.commits r.events (record { core = has_read bytes z; input = drop len r.input; events = r.events ++ Read bytes ∷ [] }) s made
+    left_by z.commits r.events (record { core = has_read bytes z; input = drop len r.input; events = r.events ++ Read bytes ∷ []; devices = r.devices }) s made
     (record { counts = refl; quiet = λ going none. none_more r.events (Read bytes) refl none })
 commit_of z r s (Wants (call.Write fd at len)) shown running made =
     let bytes = bytes_at z at len in
-    left_by z.commits r.events (record { core = has_written z; input = r.input; events = r.events ++ Write fd bytes ∷ [] }) s made
+    left_by z.commits r.events (record { core = has_written z; input = r.input; events = r.events ++ Write fd bytes ∷ []; devices = r.devices }) s made
     (record { counts = refl; quiet = λ going none. none_more r.events (Write fd bytes) refl none })
 commit_of z r s (Ended status) shown running made = absurd (none-some status (sym running ∙ shown))
 commit_of z r s (Stopped reason) shown running made = absurd cc
+commit_of z r s (Asks (Loads op a rd size)) shown running made = answered (in_devices r.devices a (load_width op)) made
+  where
+    here : ZcState
+    here = record r { core = z }
+
+    answered : (b : Bool) → cond b (Ok (device_answers (Loads op a rd size) here)) (Err BadAccess) ≡ Ok s → IsCommit z.commits r.events s
+    answered true h =
+        left_by z.commits r.events (device_answers (Loads op a rd size) here) s h
+        (record { counts = refl; quiet = λ going none. none_more r.events (Load a (load_width op) (take (load_width op) r.input)) refl none })
+    answered false h = absurd cc
+commit_of z r s (Asks (Stores a bytes size)) shown running made = answered (in_devices r.devices a (length bytes)) made
+  where
+    here : ZcState
+    here = record r { core = z }
+
+    answered : (b : Bool) → cond b (Ok (device_answers (Stores a bytes size) here)) (Err BadAccess) ≡ Ok s → IsCommit z.commits r.events s
+    answered true h =
+        left_by z.commits r.events (device_answers (Stores a bytes size) here) s h
+        (record { counts = refl; quiet = λ going none. none_more r.events (Store a bytes) refl none })
+    answered false h = absurd cc
 
 turn_commits :
     (happens : ℕ → ZcCore → ZcCore) → KeepsCount happens → (r s : ZcState) → r.core.exit ≡ None → turn (happens 0) r ≡ Ok s
@@ -191,7 +216,7 @@ module _ (first : ZcCore) (input : List ℕ) (happens : ℕ → ZcCore → ZcCor
       KeepsCount happens → first.exit ≡ None → first.commits ≡ 0 → (steps status : ℕ) (now : ZcCore) (before after : Desk)
       → Ran happens (course_of first input happens steps) (end.Exit status) now before after
       → (bytes : List ℕ) × ExitsAt (course_of first input happens steps) now.commits (record { bytes = bytes; status = status }) × Adds before.out after.out bytes
-  unfolding machine_after
+  unfolding machine_after_with
   exit_counted keeps running start steps status now before after ran =
       let ended = ran.0 in
       let run = counted happens keeps ended.count (first_state first input) ended.last running ended.state in
@@ -213,7 +238,7 @@ module _ (first : ZcCore) (input : List ℕ) (happens : ℕ → ZcCore → ZcCor
   pub never_stops :
       (m status : ℕ) (z : ZcState) (steps : ℕ) (reason : Reason) (before after : Desk) → machine_after first input happens m ≡ Ok z
       → z.core.exit ≡ Some status → EndsWithStop (course_of first input happens steps) reason before after → ⊥
-  unfolding machine_after
+  unfolding machine_after_with
   never_stops m status z steps reason before after came exits stop = ⊎_elim stays over (cases_lt m (stop.early.count + 1))
     where
       start : ZcState
@@ -245,7 +270,7 @@ module _ (first : ZcCore) (input : List ℕ) (happens : ℕ → ZcCore → ZcCor
   pub exit_told :
       KeepsCount happens → (m : ℕ) (z : ZcState) (events : List Event) (status : ℕ) → machine_after first input happens m ≡ Ok z
       → z.events ≡ events ++ Exit status ∷ [] → (code : ℕ) × (z.core.exit ≡ Some code)
-  unfolding machine_after
+  unfolding machine_after_with
   exit_told keeps m z events status came told = by z.core.exit refl
     where
       or_true : (b : Bool) → (b || true) ≡ true

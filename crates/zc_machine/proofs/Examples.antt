@@ -2,16 +2,16 @@
 use Rattle.std.specs.Prelude.{◌≡◌, ℕ, true, List, [], ◌∷◌, Result, Ok, Err, refl, None}
 use Rattle.rv_decode.specs.Decode.{decoded}
 use Rattle.rv_decode.specs.Memory.{blank, Stack, Text}
-use Rattle.rv_decode.specs.State.{ZcCore, ZcState, Event, Exit, byte_in, reg_in, word_at}
+use Rattle.rv_decode.specs.State.{ZcCore, ZcState, Event, Exit, Load, Store, byte_in, reg_in, word_at}
 use Rattle.zc_decode.specs.Halfwords.{decoded16}
 use Rattle.zc_decode.specs.Rows.{form_of}
 use Rattle.interrupt_plan.specs.Plan.{Entry}
 use Rattle.zc_machine.specs.declared.reason.Reason.{Reason}
-use Rattle.zc_machine.specs.declared.reason.Reason.TheVariants.{Illegal}
+use Rattle.zc_machine.specs.declared.reason.Reason.TheVariants.{BadAccess, Illegal}
 use Rattle.zc_machine.specs.Step.{zc_step}
 use Rattle.zc_machine.specs.Answer.{core_after}
 use Rattle.zc_machine.specs.Interrupt.{interrupted, all_interrupted}
-use Rattle.zc_machine.specs.Run.{interrupts_by, machine_after, turn}
+use Rattle.zc_machine.specs.Run.{interrupts_by, machine_after, machine_after_with, turn}
 use Rattle.zc_machine.specs.Load.{first_core}
 
 -- the machine with this text at 0x10000, of this size in memory, and with 16 bytes of stack
@@ -33,13 +33,32 @@ three = 0x0D ∷ 0x45 ∷ 0x93 ∷ 0x08 ∷ 0xD0 ∷ 0x05 ∷ 0x73 ∷ 0x00 ∷ 
 
 -- an interrupt before each commit changes none of it
 three_interrupted : ran three 10 (record { at = 0; cut = record { done = []; dirt = (0x3000F, 0xEE) ∷ (0x10000, 0xEE) ∷ [] } } ∷ record { at = 2; cut = record { done = 0 ∷ []; dirt = (0x30000, 0xEE) ∷ [] } } ∷ []) 3 ≡ Ok (Exit 3 ∷ [], 3)
-unfolding decoded decoded16 form_of ran loaded three first_core blank machine_after turn zc_step
+unfolding decoded decoded16 form_of ran loaded three first_core blank machine_after_with turn zc_step
 three_interrupted = refl
 
 -- after the bytes of the file a segment is 0, which is no instruction
 after_the_file : ran (0x0D ∷ 0x45 ∷ []) 4 [] 2 ≡ Err Illegal
-unfolding decoded decoded16 form_of ran loaded first_core blank machine_after turn zc_step
+unfolding decoded decoded16 form_of ran loaded first_core blank machine_after_with turn zc_step
 after_the_file = refl
+
+-- ---- devices
+
+-- lui a0, 0x10013; lw a1, 0(a0); sb a1, 4(a0); lh a2, 8(a0)
+uart : List ℕ
+uart = 0x37 ∷ 0x35 ∷ 0x01 ∷ 0x10 ∷ 0x83 ∷ 0x25 ∷ 0x05 ∷ 0x00 ∷ 0x23 ∷ 0x02 ∷ 0xB5 ∷ 0x00 ∷ 0x03 ∷ 0x16 ∷ 0x85 ∷ 0x00 ∷ []
+
+-- with a device there, the word that is loaded is the next four bytes of the input; its low byte is stored; and the halfword has the one
+-- byte that is left, and 0 above
+uart_answers :
+    shown (machine_after_with (loaded uart 16) (record { at = 0x10013000; size = 0x1000 } ∷ []) (0x61 ∷ 2 ∷ 3 ∷ 4 ∷ 5 ∷ []) (interrupts_by []) 4)
+    ≡ Ok (Load 0x10013000 4 (0x61 ∷ 2 ∷ 3 ∷ 4 ∷ []) ∷ Store 0x10013004 (0x61 ∷ []) ∷ Load 0x10013008 2 (5 ∷ []) ∷ [], 4)
+unfolding decoded decoded16 form_of loaded uart first_core blank machine_after_with turn zc_step
+uart_answers = refl
+
+-- without one the machine stops at the first access
+no_uart : ran uart 16 [] 2 ≡ Err BadAccess
+unfolding decoded decoded16 form_of ran loaded uart first_core blank machine_after_with turn zc_step
+no_uart = refl
 
 -- ---- interrupts
 

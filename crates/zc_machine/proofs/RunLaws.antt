@@ -1,5 +1,5 @@
 -- A run by its turns: how far it has come, and where each kind of step leads.
-use Rattle.std.proofs.Common.{◌≡◌, ℕ, zero, suc, ◌+◌, ◌<◌, List, [], ◌∷◌, ◌++◌, take, drop, Some, None, Ok, Err, refl, sym, ap, ap₂, subst, ◌≤◌, ◌∙◌, arith}
+use Rattle.std.proofs.Common.{◌≡◌, ℕ, zero, suc, ◌+◌, ◌<◌, List, [], ◌∷◌, ◌++◌, length, take, drop, cond, Some, None, Ok, Err, refl, sym, ap, ap₂, subst, ◌≤◌, ◌∙◌, arith}
 use Rattle.rv_decode.specs.State as event
 use Rattle.rv_decode.specs.State.{Event, ZcCore, ZcState}
 use Rattle.rv_decode.specs.EventBytes.{written_to}
@@ -17,9 +17,12 @@ use Rattle.zc_machine.specs.declared.run.RunEnd.TheVariants as end
 use Rattle.zc_machine.specs.Advance.{AdvancesTo, CommitsTo}
 use Rattle.zc_machine.specs.Answer.{answer_of, core_after, exited, has_read, has_written}
 use Rattle.zc_machine.specs.Buffer.{bytes_at}
-use Rattle.zc_machine.specs.Run.{committed, first_state, machine_after, turn}
+use Rattle.rv_decode.specs.Devices.{DeviceAccess, Loads, Stores, in_devices}
+use Rattle.rv_decode.specs.Effect.{load_width}
+use Rattle.zc_machine.specs.Run.{asked, committed, device_answers, first_state, machine_after, turn, machine_after_with}
 use Rattle.zc_machine.specs.RunEnd.{Ran, course_of}
-use Rattle.zc_machine.specs.Step.{ZcStep, Committed, Wants, Ended, Stopped, zc_step}
+use Rattle.zc_machine.specs.declared.reason.Reason.TheVariants.{BadAccess}
+use Rattle.zc_machine.specs.Step.{ZcStep, Committed, Wants, Ended, Stopped, Asks, zc_step}
 use Rattle.zc_machine.proofs.OutputLaws.{Wrote-event}
 use Rattle.zc_machine.proofs.StepLaws.{Shows, step_shows}
 use Rattle.zc_machine.proofs.TurnLaws.{turn-running, turns-more, turns-stop}
@@ -31,6 +34,7 @@ wants_step (Committed z) c e = absurd cc
 wants_step (Wants c') c e = cc
 wants_step (Ended status) c e = absurd cc
 wants_step (Stopped reason) c e = absurd cc
+wants_step (Asks x) c e = absurd cc
 
 -- a step that wants a call wants it again, and changes nothing
 pub record Wanted (z z2 : ZcCore) (c : EnvCall) : Type 0 where
@@ -42,11 +46,21 @@ wanted z z2 c answers left =
     let wants = wants_step (zc_step z) c answers in
     record { wants = wants; stays = left ∙ ap (λ s. core_after s z) wants }
 
-pub stopped_step : (s : ZcStep) (reason : Reason) → answer.Stopped reason ≡ answer_of s → s ≡ Stopped reason
+-- a step that stops changes nothing, and without devices the run stops
+pub record Stops (s : ZcStep) (reason : Reason) : Type 0 where
+  pub made : (r : ZcState) → r.devices ≡ [] → committed s r ≡ Err reason
+  pub stays : (z : ZcCore) → core_after s z ≡ z
+
+pub stopped_step : (s : ZcStep) (reason : Reason) → answer.Stopped reason ≡ answer_of s → Stops s reason
 stopped_step (Committed z) reason e = absurd cc
 stopped_step (Wants c) reason e = absurd cc
 stopped_step (Ended status) reason e = absurd cc
-stopped_step (Stopped reason') reason e = cc
+stopped_step (Stopped reason') reason e = record { made = λ r none. cc e; stays = λ z. refl }
+stopped_step (Asks x) reason e = record { made = λ r none. unanswered x r none ∙ cc e; stays = λ z. refl }
+  where
+    unanswered : (x : DeviceAccess) (r : ZcState) → r.devices ≡ [] → asked x r ≡ Err BadAccess
+    unanswered (Loads op a rd size) r none = ap (λ ds. cond (in_devices ds a (load_width op)) (Ok (device_answers (Loads op a rd size) r)) (Err BadAccess)) none
+    unanswered (Stores a bytes size) r none = ap (λ ds. cond (in_devices ds a (length bytes)) (Ok (device_answers (Stores a bytes size) r)) (Err BadAccess)) none
 
 -- only the exit ends, so a program that runs doesn't
 ended_shows : (z : ZcCore) (s : ZcStep) (status : ℕ) → Shows z s → answer.Ended status ≡ answer_of s → z.exit ≡ Some status
@@ -54,6 +68,7 @@ ended_shows z (Committed z') status h e = absurd cc
 ended_shows z (Wants c) status h e = absurd cc
 ended_shows z (Ended status') status h e = cc
 ended_shows z (Stopped reason) status h e = absurd cc
+ended_shows z (Asks x) status h e = absurd cc
 
 -- a commit's state, and that it counts
 pub record Commits (z z' : ZcCore) (s : ZcStep) : Type 0 where
@@ -66,6 +81,7 @@ committed_step z (Committed z') h e = record { made = λ r. refl; counts = h.0; 
 committed_step z (Wants c) h e = absurd cc
 committed_step z (Ended status) h e = absurd cc
 committed_step z (Stopped reason) h e = absurd cc
+committed_step z (Asks x) h e = absurd cc
 
 -- a step that commits is one commit more
 pub record One (z z2 : ZcCore) : Type 0 where
@@ -82,17 +98,18 @@ committed_one z z2 answers left = by (zc_step z) refl (step_shows z)
     by (Wants c) is shown = let wrong = answers ∙ ap answer_of is in absurd cc
     by (Ended status) is shown = let wrong = answers ∙ ap answer_of is in absurd cc
     by (Stopped reason) is shown = let wrong = answers ∙ ap answer_of is in absurd cc
+    by (Asks x) is shown = let wrong = answers ∙ ap answer_of is in absurd cc
 
 -- ---- how far a run has come
 
 machine_after-none : (first : ZcCore) (input : List ℕ) (happens : ℕ → ZcCore → ZcCore) → machine_after first input happens 0 ≡ Ok (first_state first input)
-unfolding machine_after
+unfolding machine_after_with
 machine_after-none first input happens = refl
 
 -- the run has come to this machine, which hasn't exited, with this much of its input left; what it has written stands
 pub record Came (first : ZcCore) (input : List ℕ) (happens : ℕ → ZcCore → ZcCore) (z : ZcCore) (left : List ℕ) (before now : Desk) : Type 0 where
   pub events : List Event
-  pub so_far : machine_after first input happens z.commits ≡ Ok (record { core = z; input = left; events = events })
+  pub so_far : machine_after first input happens z.commits ≡ Ok (record { core = z; input = left; events = events; devices = [] })
   pub running : z.exit ≡ None
   pub wrote : Wrote (written_to 1 events) (written_to 2 events) before now
   pub only : OnlyWrites before now
@@ -125,23 +142,23 @@ module _
     {first : ZcCore} {input : List ℕ} {happens : ℕ → ZcCore → ZcCore} {z : ZcCore} {left : List ℕ} {before now : Desk} (came : Came first input happens z left before now)
     {z' : ZcCore} (had : Happened happens z z') where
   abbrev here : ZcState
-  here = record { core = z; input = left; events = came.events }
+  here = record { core = z; input = left; events = came.events; devices = [] }
 
   abbrev there : ZcState
-  there = record { core = z'; input = left; events = came.events }
+  there = record { core = z'; input = left; events = came.events; devices = [] }
 
   -- the turn is the step that follows what happens
   turn_made : turn (happens z.commits) here ≡ committed (zc_step z') there
   turn_made =
       turn-running (happens z.commits) here came.running
-      ∙ sym (ap (λ y. committed (zc_step y) (record { core = y; input = left; events = came.events })) had.made)
+      ∙ sym (ap (λ y. committed (zc_step y) (record { core = y; input = left; events = came.events; devices = [] })) had.made)
 
   after_more : (r : ZcState) → committed (zc_step z') there ≡ Ok r → machine_after first input happens (z.commits + 1) ≡ Ok r
-  unfolding machine_after
+  unfolding machine_after_with
   after_more r made = turns-more happens z.commits (first_state first input) here r came.so_far (turn_made ∙ made)
 
   after_stop : (reason : Reason) → committed (zc_step z') there ≡ Err reason → machine_after first input happens (z.commits + 1) ≡ Err reason
-  unfolding machine_after
+  unfolding machine_after_with
   after_stop reason made = turns-stop happens z.commits (first_state first input) here reason came.so_far (turn_made ∙ made)
 
   exit_kept : z'.exit ≡ None
@@ -149,15 +166,15 @@ module _
 
   -- a commit that leads to a state is one more
   goes_on :
-      (r : ZcState) (desk : Desk) → committed (zc_step z') there ≡ Ok r → r.core.commits ≡ z'.commits + 1 → r.core.exit ≡ z'.exit
+      (r : ZcState) (desk : Desk) → r.devices ≡ [] → committed (zc_step z') there ≡ Ok r → r.core.commits ≡ z'.commits + 1 → r.core.exit ≡ z'.exit
       → Wrote (written_to 1 r.events) (written_to 2 r.events) before desk → OnlyWrites now desk → Next first input happens z r.core r.input before desk
-  goes_on r desk turn counts exit wrote only =
+  goes_on r desk none turn counts exit wrote only =
       let more = counts ∙ ap (λ k. k + 1) had.commits in
       record {
         counts = more;
         came = record {
           events = r.events;
-          so_far = ap (machine_after first input happens) more ∙ after_more r turn;
+          so_far = ap (machine_after first input happens) more ∙ after_more r turn ∙ ap (λ ds. Ok (record r { devices = ds })) none;
           running = exit ∙ exit_kept;
           wrote = wrote;
           only = OnlyWrites-trans came.only only;
@@ -169,8 +186,8 @@ module _
     pub committed_next : answer.Committed ≡ answer_of (zc_step z') → z2 ≡ core_after (zc_step z') z' → Next first input happens z z2 left before now
     committed_next answers is =
         let q = committed_step z' (zc_step z') (step_shows z') answers in
-        goes_on (record { core = z2; input = left; events = came.events }) now
-        (q.made there ∙ sym (ap (λ y. Ok (record { core = y; input = left; events = came.events })) is))
+        goes_on (record { core = z2; input = left; events = came.events; devices = [] }) now refl
+        (q.made there ∙ sym (ap (λ y. Ok (record { core = y; input = left; events = came.events; devices = [] })) is))
         (ap (λ y. y.commits) is ∙ q.counts) (ap (λ y. y.exit) is ∙ q.exit) came.wrote (OnlyWrites-refl now)
 
     -- a read
@@ -179,9 +196,9 @@ module _
         → Next first input happens z z2 rest before now
     read_next at len front rest wants taken others is =
         let events : List Event = came.events ++ event.Read (take len left) ∷ [] in
-        goes_on (record { core = z2; input = rest; events = events }) now
+        goes_on (record { core = z2; input = rest; events = events; devices = [] }) now refl
         (ap (λ s. committed s there) wants
-        ∙ sym (ap₂ (λ y left2. Ok (record { core = y; input = left2; events = events })) (is ∙ ap (λ bytes. has_read bytes z') taken) others))
+        ∙ sym (ap₂ (λ y left2. Ok (record { core = y; input = left2; events = events; devices = [] })) (is ∙ ap (λ bytes. has_read bytes z') taken) others))
         (ap (λ y. y.commits) is) (ap (λ y. y.exit) is)
         (Wrote-event came.events (event.Read (take len left)) before now now came.wrote (Wrote-none now)) (OnlyWrites-refl now)
 
@@ -191,8 +208,8 @@ module _
         → Next first input happens z z2 left before desk
     write_next fd at len desk wants is wrote only =
         let events : List Event = came.events ++ event.Write fd (bytes_at z' at len) ∷ [] in
-        goes_on (record { core = z2; input = left; events = events }) desk
-        (ap (λ s. committed s there) wants ∙ sym (ap (λ y. Ok (record { core = y; input = left; events = events })) is))
+        goes_on (record { core = z2; input = left; events = events; devices = [] }) desk refl
+        (ap (λ s. committed s there) wants ∙ sym (ap (λ y. Ok (record { core = y; input = left; events = events; devices = [] })) is))
         (ap (λ y. y.commits) is) (ap (λ y. y.exit) is)
         (Wrote-event came.events (event.Write fd (bytes_at z' at len)) before now desk came.wrote wrote) only
 
@@ -210,7 +227,7 @@ module _
     -- the exit
     pub exit_ran : (status : ℕ) → zc_step z' ≡ Wants (Exit status) → z2 ≡ exited status z' → Ran happens (course_of first input happens steps) (end.Exit status) z2 before now
     exit_ran status wants is =
-        let last : ZcState = record { core = exited status z'; input = left; events = came.events ++ event.Exit status ∷ [] } in (
+        let last : ZcState = record { core = exited status z'; input = left; events = came.events ++ event.Exit status ∷ []; devices = [] } in (
           record {
             count = z.commits + 1;
             within = omega arith;
@@ -223,8 +240,8 @@ module _
         )
 
     -- a stop
-    pub stop_ran : (reason : Reason) → zc_step z' ≡ Stopped reason → z2 ≡ z' → Ran happens (course_of first input happens steps) (end.Stopped reason) z2 before now
-    stop_ran reason stops is = (record { early = early; next = after_stop reason (ap (λ s. committed s there) stops) }, is ∙ had.made)
+    pub stop_ran : (reason : Reason) → Stops (zc_step z') reason → z2 ≡ z' → Ran happens (course_of first input happens steps) (end.Stopped reason) z2 before now
+    stop_ran reason stops is = (record { early = early; next = after_stop reason (stops.made there refl) }, is ∙ had.made)
 
     -- a write that the console refused
     pub refused_ran :
@@ -232,7 +249,7 @@ module _
         → WriteCause now desk fault → Ran happens (course_of first input happens steps) (end.Console fault) z2 before desk
     refused_ran fd at len fault desk wants part cause =
         let bytes = bytes_at z' at len in
-        let next : ZcState = record { core = has_written z'; input = left; events = came.events ++ event.Write fd bytes ∷ [] } in
+        let next : ZcState = record { core = has_written z'; input = left; events = came.events ++ event.Write fd bytes ∷ []; devices = [] } in
         record {
           between = now;
           early = early;
@@ -317,7 +334,7 @@ pub spent_ran :
     → z.commits ≡ steps → Ran happens (course_of first input happens steps) end.Spent z before now
 spent_ran first input happens steps z left before now came all = (
   record {
-    last = record { core = z; input = left; events = came.events };
+    last = record { core = z; input = left; events = came.events; devices = [] };
     state = ap (machine_after first input happens) (sym all) ∙ came.so_far;
     running = came.running;
     wrote = came.wrote;

@@ -5,7 +5,8 @@ use Rattle.std.proofs.Common.{◌≡◌, ℕ, ◌+◌, ◌*◌, ◌/◌, ◌%◌
 use Rattle.std.proofs.lemmas.Bool.{and_parts, eqb-true, or_cases}
 use Rattle.rv_decode.specs.State.{ZcCore, reg_in, word_at}
 use Rattle.rv_decode.specs.Bits.{add32}
-use Rattle.rv_decode.specs.Effect.{Effect, Commits, BadAccess, Misaligned, effect, gives, jumps, load_result, load_width, onward, reaching, store_width, stored}
+use Rattle.rv_decode.specs.Devices.{Loads, Stores, sent_bytes}
+use Rattle.rv_decode.specs.Effect.{Effect, Commits, BadAccess, Misaligned, effect, Outside, attempting, gives, jumps, load_result, load_width, onward, store_width, stored}
 use Rattle.rv_decode.specs.Memory.{extents_of, is_data, is_text, lies_in}
 use Rattle.rv_decode.specs.declared.instr.Instr.{Instr}
 use Rattle.rv_decode.specs.declared.instr.Instr.TheVariants.{Upper, Jal, Jalr, Branch, Load, Store, WithImm, WithReg, Fence, Ecall, Ebreak, Csrrw}
@@ -21,15 +22,15 @@ use Rattle.zc_machine.specs.declared.answer.EnvCall.TheVariants.{Exit, Read, Wri
 use Rattle.zc_machine.proofs.CutLaws.{all_accessed_keeps}
 use Rattle.zc_machine.specs.Buffer.{InMemory}
 use Rattle.zc_machine.specs.Fetch.{Fetched, Found, Missing, fetched_at}
-use Rattle.zc_machine.specs.Step.{ZcStep, Committed, Wants, Ended, Stopped, buffered, called, effect_step, made, zc_step}
+use Rattle.zc_machine.specs.Step.{ZcStep, Committed, Wants, Ended, Stopped, Asks, buffered, called, effect_step, made, zc_step}
 
 -- what holds of an access that is made, and of each stop, holds of an access
-pub access_step : (P : ZcStep → Type 0) (z : ZcCore) (n a : ℕ) (go : Effect) → P (effect_step go z) → ((reason : Reason) → P (Stopped reason)) → P (effect_step (reaching n a z go) z)
-access_step P z n a go made stopped = either (eqb (a % n) 0) (lies_in is_data (extents_of z.memory) a n)
+pub access_step : (P : ZcStep → Type 0) (z : ZcCore) (n a : ℕ) (other go : Effect) → P (effect_step go z) → P (effect_step other z) → ((reason : Reason) → P (Stopped reason)) → P (effect_step (attempting n a z other go) z)
+access_step P z n a other go made elsewhere stopped = either (eqb (a % n) 0) (lies_in is_data (extents_of z.memory) a n)
   where
-    either : (b c : Bool) → P (effect_step (cond b (cond c go BadAccess) Misaligned) z)
+    either : (b c : Bool) → P (effect_step (cond b (cond c go other) Misaligned) z)
     either true true = made
-    either true false = stopped reason.BadAccess
+    either true false = elsewhere
     either false c = stopped reason.Misaligned
 
 -- a commit counts and doesn't exit, the status of an exit is the low byte of a0, what is read and written is told by a0, a1 and
@@ -41,6 +42,7 @@ Shows z (Wants (Read at len)) = (at ≡ reg_in z 11) × (len ≡ reg_in z 12) ×
 Shows z (Wants (Write fd at len)) = (at ≡ reg_in z 11) × (len ≡ reg_in z 12) × InMemory z at len × ((fd ≡ 1) ⊎ (fd ≡ 2))
 Shows z (Ended status) = z.exit ≡ Some status
 Shows z (Stopped reason) = Unit {0}
+Shows z (Asks x) = Unit {0}
 
 module _ (z : ZcCore) where
   abbrev read : EnvCall
@@ -83,9 +85,9 @@ module _ (z : ZcCore) where
   effect_shows (Jalr rd base imm) size = (refl, refl)
   effect_shows (Branch op first second distance) size = (refl, refl)
   effect_shows (Load op rd base imm) size =
-      let a = add32 (reg_in z base) imm in access_step (Shows z) z (load_width op) a (gives (load_result op z a) rd size z) (refl, refl) (λ reason. tt)
+      let a = add32 (reg_in z base) imm in access_step (Shows z) z (load_width op) a (Outside (Loads op a rd size)) (gives (load_result op z a) rd size z) (refl, refl) tt (λ reason. tt)
   effect_shows (Store op source base imm) size =
-      let a = add32 (reg_in z base) imm in access_step (Shows z) z (store_width op) a (Commits (onward (stored (store_width op) a (reg_in z source) z) size z.regs)) (refl, refl) (λ reason. tt)
+      let a = add32 (reg_in z base) imm in access_step (Shows z) z (store_width op) a (Outside (Stores a (sent_bytes op (reg_in z source)) size)) (Commits (onward (stored (store_width op) a (reg_in z source) z) size z.regs)) (refl, refl) tt (λ reason. tt)
   effect_shows (WithImm op rd first imm) size = (refl, refl)
   effect_shows (WithReg op rd first second) size = (refl, refl)
   effect_shows (Fence rest) size = (refl, refl)
@@ -96,7 +98,7 @@ module _ (z : ZcCore) where
   -- a push or pop
   frames_show : (left : ZcCore) (xs : List Access) → (left.commits ≡ z.commits + 1) × (left.exit ≡ z.exit) → Shows z (effect_step (reaching_all xs z (Commits left)) z)
   frames_show left [] shows = shows
-  frames_show left (a ∷ rest) shows = access_step (Shows z) z 4 a.at (reaching_all rest z (Commits left)) (frames_show left rest shows) (λ reason. tt)
+  frames_show left (a ∷ rest) shows = access_step (Shows z) z 4 a.at BadAccess (reaching_all rest z (Commits left)) (frames_show left rest shows) tt (λ reason. tt)
 
   -- the commit of a push or a pop
   framed_shows : (s : Short) → let y = all_accessed s (accesses_of s (reg_in z 2)) z in (y.commits + 1 ≡ z.commits + 1) × (y.exit ≡ z.exit)

@@ -1,14 +1,17 @@
 -- Turns of the machine, one after another.
-use Rattle.std.proofs.Common.{◌≡◌, ℕ, zero, suc, ◌+◌, List, None, Result, Ok, Err, ap, ap₂, ◌∙◌, arith}
+use Rattle.std.proofs.Common.{◌≡◌, ℕ, zero, suc, ◌+◌, List, Option, Some, None, Result, Ok, Err, Bool, true, false, cond, refl, sym, ap, ap₂, ◌∙◌, arith}
 use Rattle.std.specs.Option.{option_map_or}
 use Rattle.interrupt_plan.specs.Plan.{Interrupt}
 use Rattle.rv_decode.specs.Run.{◌>>=◌}
 use Rattle.rv_decode.specs.State.{ZcCore, ZcState}
-use Rattle.rv_decode.proofs.RunLaws.{bind_assoc}
+use Rattle.rv_decode.specs.Devices.{DeviceAccess, Loads, Stores}
+use Rattle.rv_decode.proofs.RunLaws.{bind_assoc, bind_ok}
 use Rattle.zc_machine.specs.declared.reason.Reason.{Reason}
 use Rattle.zc_machine.specs.Interrupt.{all_interrupted}
-use Rattle.zc_machine.specs.Run.{committed, turn, turns, zc_turn, zc_turns}
-use Rattle.zc_machine.specs.Step.{zc_step}
+use Rattle.zc_machine.specs.declared.answer.EnvCall.TheVariants as call
+use Rattle.zc_machine.specs.declared.reason.Reason.TheVariants.{BadAccess}
+use Rattle.zc_machine.specs.Run.{committed, device_answers, turn, turns, zc_turn, zc_turns}
+use Rattle.zc_machine.specs.Step.{ZcStep, Committed, Wants, Ended, Stopped, Asks, zc_step}
 
 -- ---- whatever happens between commits
 
@@ -53,7 +56,47 @@ pub turns-stop :
     → turns happens (m + 1) r ≡ Err stop
 turns-stop happens m r y stop so_far made = turns-next happens m r y (Err stop) so_far made
 
+-- ---- devices
+
+-- a turn leaves them where they are
+turn_devices : (happens : ZcCore → ZcCore) (r s : ZcState) → turn happens r ≡ Ok s → s.devices ≡ r.devices
+unfolding turn
+turn_devices happens r s h = by_exit r.core.exit h
+  where
+    here : ZcState
+    here = record r { core = happens r.core }
+
+    same : (t : ZcState) → t.devices ≡ r.devices → ◌≡◌ {A = Result ZcState Reason} (Ok t) (Ok s) → s.devices ≡ r.devices
+    same t kept g = let is : t ≡ s = cc in ap (λ x. x.devices) (sym is) ∙ kept
+
+    answered : (b : Bool) (x : DeviceAccess) (t : ZcState) → t.devices ≡ r.devices → cond b (Ok t) (Err BadAccess) ≡ Ok s → s.devices ≡ r.devices
+    answered true x t kept g = same t kept g
+    answered false x t kept g = absurd cc
+
+    by_step : (t : ZcStep) → committed t here ≡ Ok s → s.devices ≡ r.devices
+    by_step (Committed z) g = same (record r { core = z }) refl g
+    by_step (Wants (call.Exit status)) g = same _ refl g
+    by_step (Wants (call.Read at len)) g = same _ refl g
+    by_step (Wants (call.Write fd at len)) g = same _ refl g
+    by_step (Ended status) g = same here refl g
+    by_step (Stopped reason) g = absurd cc
+    by_step (Asks (Loads op a rd size)) g = answered _ (Loads op a rd size) (device_answers (Loads op a rd size) here) refl g
+    by_step (Asks (Stores a bytes size)) g = answered _ (Stores a bytes size) (device_answers (Stores a bytes size) here) refl g
+
+    by_exit : (o : Option ℕ) → option_map_or (λ _. Ok r) o (committed (zc_step (happens r.core)) here) ≡ Ok s → s.devices ≡ r.devices
+    by_exit None g = by_step (zc_step (happens r.core)) g
+    by_exit (Some status) g = same r refl g
+
+turns_devices : (happens : ℕ → ZcCore → ZcCore) (m : ℕ) (r s : ZcState) → turns happens m r ≡ Ok s → s.devices ≡ r.devices
+turns_devices happens zero r s h = let is : r ≡ s = cc in ap (λ x. x.devices) (sym is)
+turns_devices happens (suc m) r s h =
+    let first = bind_ok (turn (happens 0) r) (turns (λ k. happens (suc k)) m) s h in
+    turns_devices (λ k. happens (suc k)) m first.0 s first.2 ∙ turn_devices (happens 0) r first.0 first.1
+
 -- ---- the same of interrupts
+
+pub zc_turns_devices : (cuts : ℕ → List Interrupt) (m : ℕ) (r s : ZcState) → zc_turns cuts m r ≡ Ok s → s.devices ≡ r.devices
+zc_turns_devices cuts m r s h = turns_devices (λ k. all_interrupted (cuts k)) m r s h
 
 pub zc_turn-running : (cuts : List Interrupt) (r : ZcState) → r.core.exit ≡ None → zc_turn cuts r ≡ committed (zc_step (all_interrupted cuts r.core)) (record r { core = all_interrupted cuts r.core })
 zc_turn-running cuts r running = turn-running (all_interrupted cuts) r running

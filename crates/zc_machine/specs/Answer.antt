@@ -9,14 +9,16 @@ use Rattle.zc_machine.specs.declared.answer.EnvCall.TheVariants.{Exit, Read, Wri
 use Rattle.zc_machine.specs.declared.answer.Step.{Step}
 use Rattle.zc_machine.specs.declared.answer.Step.TheVariants as answer
 use Rattle.zc_machine.specs.Fetch.{Fetched, Found, Missing}
-use Rattle.zc_machine.specs.Step.{ZcStep, Committed, Wants, Ended, Stopped}
+use Rattle.zc_machine.specs.declared.reason.Reason.TheVariants.{BadAccess}
+use Rattle.zc_machine.specs.Step.{ZcStep, Committed, Wants, Ended, Stopped, Asks}
 
--- the step's answer
+-- the step's answer; the machine as it runs knows no device
 abbrev pub answer_of : ZcStep → Step
 answer_of (Committed z) = answer.Committed
 answer_of (Wants c) = answer.Wants c
 answer_of (Ended status) = answer.Ended status
 answer_of (Stopped reason) = answer.Stopped reason
+answer_of (Asks x) = answer.Stopped BadAccess
 
 -- the state after a step from this one
 abbrev pub core_after : ZcStep → ZcCore → ZcCore
@@ -24,6 +26,7 @@ core_after (Committed z') z = z'
 core_after (Wants c) z = z
 core_after (Ended status) z = z
 core_after (Stopped reason) z = z
+core_after (Asks x) z = z
 
 -- the program has exited, which is a commit; all else stays
 abbrev pub exited : ℕ → ZcCore → ZcCore

@@ -1,15 +1,18 @@
 -- Runs of the machine, with whatever happens to it between its commits.
-use Rattle.std.specs.Prelude.{ℕ, zero, suc, List, [], ◌∷◌, ◌++◌, take, drop, Result, Ok, Err}
+use Rattle.std.specs.Prelude.{ℕ, zero, suc, Bool, List, [], ◌∷◌, ◌++◌, length, take, drop, if◌then◌else◌, Result, Ok, Err}
 use Rattle.std.specs.Option.{option_map_or}
 use Rattle.interrupt_plan.specs.Plan.{Interrupt, Entry, interrupts_at}
 use Rattle.rv_decode.specs.Run.{◌>>=◌}
-use Rattle.rv_decode.specs.State.{ZcCore, ZcState, Exit, Read, Write}
+use Rattle.rv_decode.specs.Devices.{Device, DeviceAccess, Loads, Stores, in_devices, number_from, widened}
+use Rattle.rv_decode.specs.Effect.{load_width, onward}
+use Rattle.rv_decode.specs.State.{ZcCore, ZcState, Exit, Load, Read, Store, Write, set_reg}
+use Rattle.zc_machine.specs.declared.reason.Reason.TheVariants.{BadAccess}
 use Rattle.zc_machine.specs.declared.reason.Reason.{Reason}
 use Rattle.zc_machine.specs.declared.answer.EnvCall.{EnvCall}
 use Rattle.zc_machine.specs.declared.answer.EnvCall.TheVariants as call
 use Rattle.zc_machine.specs.Answer.{exited, has_read, has_written}
 use Rattle.zc_machine.specs.Buffer.{bytes_at}
-use Rattle.zc_machine.specs.Step.{ZcStep, Committed, Wants, Ended, Stopped, zc_step}
+use Rattle.zc_machine.specs.Step.{ZcStep, Committed, Wants, Ended, Stopped, Asks, zc_step}
 use Rattle.zc_machine.specs.Interrupt.{all_interrupted}
 
 -- the environment's answer to a call is a commit with an event: the exit; a read of as many bytes as the buffer has room for and
@@ -22,12 +25,34 @@ answered (call.Read at len) r =
 answered (call.Write fd at len) r =
     Ok (record r { core = has_written r.core; events = r.events ++ Write fd (bytes_at r.core at len) ∷ [] })
 
+-- a device's answer to an access is a commit with an event: a load takes as many bytes of the input as it asks for, or all that are
+-- left, and what comes of them goes to its register; a store changes nothing else
+abbrev pub device_answers : DeviceAccess → ZcState → ZcState
+device_answers (Loads op a rd size) r =
+    let bytes = take (load_width op) r.input in
+    record r {
+      core = onward r.core size (set_reg r.core.regs rd (widened op (number_from bytes)));
+      input = drop (load_width op) r.input;
+      events = r.events ++ Load a (load_width op) bytes ∷ [];
+    }
+device_answers (Stores a bytes size) r = record r { core = onward r.core size r.core.regs; events = r.events ++ Store a bytes ∷ [] }
+
+-- whether a device lies where an access goes
+abbrev pub is_answered : List Device → DeviceAccess → Bool
+is_answered devices (Loads op a rd size) = in_devices devices a (load_width op)
+is_answered devices (Stores a bytes size) = in_devices devices a (length bytes)
+
+-- an access outside memory
+abbrev pub asked : DeviceAccess → ZcState → Result ZcState Reason
+asked x r = if is_answered r.devices x then Ok (device_answers x r) else Err BadAccess
+
 -- the state after a step, with the environment's answer if it wants one
 abbrev pub committed : ZcStep → ZcState → Result ZcState Reason
 committed (Committed z) r = Ok (record r { core = z })
 committed (Wants c) r = answered c r
 committed (Ended status) r = Ok r
 committed (Stopped reason) r = Err reason
+committed (Asks x) r = asked x r
 
 -- ---- whatever happens between commits
 
@@ -40,13 +65,20 @@ abbrev pub turns : (ℕ → ZcCore → ZcCore) → ℕ → ZcState → Result Zc
 turns happens zero r = Ok r
 turns happens (suc m) r = turn (happens 0) r >>= turns (λ k. happens (suc k)) m
 
--- a run's first state: this core, with this input
+-- a run's first state: this core, with these devices and this input
+abbrev pub first_state_with : ZcCore → List Device → List ℕ → ZcState
+first_state_with first devices input = record { core = first; input = input; events = []; devices = devices }
+
 abbrev pub first_state : ZcCore → List ℕ → ZcState
-first_state first input = record { core = first; input = input; events = [] }
+first_state first input = first_state_with first [] input
 
 -- the state after m commits from there, or why the machine stops before; what happens before commit m isn't in it
-unfoldable pub machine_after : ZcCore → List ℕ → (ℕ → ZcCore → ZcCore) → ℕ → Result ZcState Reason
-machine_after first input happens m = turns happens m (first_state first input)
+unfoldable pub machine_after_with : ZcCore → List Device → List ℕ → (ℕ → ZcCore → ZcCore) → ℕ → Result ZcState Reason
+machine_after_with first devices input happens m = turns happens m (first_state_with first devices input)
+
+-- without devices
+abbrev pub machine_after : ZcCore → List ℕ → (ℕ → ZcCore → ZcCore) → ℕ → Result ZcState Reason
+machine_after first input happens m = machine_after_with first [] input happens m
 
 -- ---- interrupts
 

@@ -2,6 +2,7 @@
 use Rattle.std.specs.Prelude.{ℕ, ◌%◌, ◌==◌, ◌&&◌, ◌||◌, if◌then◌else◌}
 use Rattle.std.specs.Option.{option_map_or}
 use Rattle.rv_decode.specs.Memory.{extents_of, is_data, lies_in}
+use Rattle.rv_decode.specs.Devices.{DeviceAccess}
 use Rattle.rv_decode.specs.State.{ZcCore, reg_in}
 use Rattle.rv_decode.specs.Effect as act
 use Rattle.rv_decode.specs.Effect.{Effect}
@@ -12,12 +13,13 @@ use Rattle.zc_machine.specs.declared.answer.EnvCall.{EnvCall}
 use Rattle.zc_machine.specs.declared.answer.EnvCall.TheVariants as call
 use Rattle.zc_machine.specs.Fetch.{Fetched, Found, Missing, fetched_at}
 
--- what a step comes to: an instruction commits and leaves this state, or nothing changes
+-- what a step comes to: an instruction commits and leaves this state, or nothing changes; an access outside memory asks a device
 pub data ZcStep : Type 0 where
   Committed : ZcCore → ZcStep
   Wants : EnvCall → ZcStep
   Ended : (status : ℕ) → ZcStep
   Stopped : Reason → ZcStep
+  Asks : DeviceAccess → ZcStep
 
 -- a call with the a2 bytes at a1, which must lie in memory for data; of no bytes a1 isn't looked at
 abbrev pub buffered : ZcCore → EnvCall → ZcStep
@@ -38,6 +40,7 @@ abbrev pub effect_step : Effect → ZcCore → ZcStep
 effect_step (act.Commits z') z = Committed z'
 effect_step act.Misaligned z = Stopped Misaligned
 effect_step act.BadAccess z = Stopped BadAccess
+effect_step (act.Outside x) z = Asks x
 effect_step act.Break z = Stopped Break
 effect_step act.Call z = called z
 

@@ -33,9 +33,10 @@ use Rattle.section_gc.specs.Collected.{Collection, IsCollection, IsInNeeded, col
 use Rattle.tail_merge.specs.Merged.{merged_place}
 use Rattle.tail_merge.specs.Merging.{IsAnywhere, IsHeld, IsMerging, Merging, MovesUppers}
 use Rattle.zc_link.specs.Image.{Image}
-use Rattle.zc_link.specs.Preserves.{FollowsWithin, Preserves}
+use Rattle.zc_link.specs.Preserves.{FollowsWithin, Preserves, aligns_of}
 use Rattle.zc_link.specs.Stands.{ByteStands, IsMemory, Stands, WordStands}
 use Rattle.zc_link.specs.Values.{target_value, value_in, way}
+use Rattle.zc_link.proofs.Induction.{without_devices}
 use Rattle.zcld.specs.Headline.{PreservesMoved}
 
 -- an image with each place looked up where it was moved to
@@ -170,7 +171,8 @@ collection_preserves inputs c is elf preserves = record {
   image = preserves.image;
   read = preserves.read;
   follows = follows_moved (IsInNeeded is.needed) (IsInNeeded is.needed) (collected_place inputs) (program_of (parsed inputs)) (program_of (parsed (with_files inputs c.files)))
-      is.collected.moves preserves.image preserves.follows;
+      is.collected.moves preserves.image
+      (without_devices (program_of (parsed (with_files inputs c.files))) (aligns_of (parsed (with_files inputs c.files))) preserves.image preserves.follows);
 }
 
 -- and so does one of objects with equal tails shared
@@ -180,5 +182,6 @@ merging_preserves inputs m is elf preserves = record {
   image = preserves.image;
   read = preserves.read;
   follows = follows_shared (IsHeld (parsed inputs)) IsAnywhere (merged_place (parsed inputs)) (program_of (parsed inputs)) (program_of (parsed (with_files inputs m.files)))
-      is.merged.shares is.merged.uppers is.merged.runs preserves.image preserves.follows;
+      is.merged.shares is.merged.uppers is.merged.runs preserves.image
+      (without_devices (program_of (parsed (with_files inputs m.files))) (aligns_of (parsed (with_files inputs m.files))) preserves.image preserves.follows);
 }

@@ -1,6 +1,6 @@
 // Steps of items.
 
-ghost use Rattle.std.specs.Prelude.{◌≡◌, None, Some};
+ghost use Rattle.std.specs.Prelude.{◌≡◌, [], None, Some};
 ghost use Rattle.psabi_sym.specs.Inputs.{parsed};
 ghost use Rattle.sym_machine.specs.Answer.{Makes};
 ghost use Rattle.sym_machine.specs.Change.{op_does};
@@ -29,7 +29,7 @@ impl State {
     ) -> Result<SymStep, AllocError>
         requires { self.old.core.exit ≡ None }
         ensures { Makes result
-            (item_step self.old.map (program_of (parsed cut.now)) (Some item.now) self.old.core next)
+            (item_step [] self.old.map (program_of (parsed cut.now)) (Some item.now) self.old.core next)
             self.old.core self.new.core }
     {
         match item {

@@ -30,7 +30,7 @@ impl State {
     pub(super) fn quick_item(&mut self, item: &Item, next: Place) -> bool
         requires { self.old.core.exit ≡ None }
         ensures made { OnTrue result ((p : Program) → RunsOn
-            (item_step self.old.map p (Some item.now) self.old.core next) [] self.old.core
+            (item_step [] self.old.map p (Some item.now) self.old.core next) [] self.old.core
             self.new.core) }
         ensures same { OnFalse result (self.new ≡ self.old) }
     {

@@ -27,7 +27,7 @@ impl State {
     // The step of two bytes that are no instruction of RV32IM: a push, a pop or two moves.
     pub(super) fn step_short(&mut self, half: u16, next: Place) -> SymStep
         requires { self.old.core.exit ≡ None }
-        ensures { (p : Program) → StepAnswers (item_step self.old.map p (Some (RawShort half)) self.old.core next)
+        ensures { (p : Program) → StepAnswers (item_step [] self.old.map p (Some (RawShort half)) self.old.core next)
             result self.old.core self.new.core }
     {
         let Some(short) = decode16(half) else {

@@ -21,6 +21,9 @@ pub record Room (p : Program) (e : Image) : Type 0 where
   pub under : data_high p ≤ p.map.stack_low
   -- the program's memory is memory of the image
   pub reaches : (a n : ℕ) → 0 < n → SpansMemory p a n → lies_in is_data (extents_of (loaded_core e).memory) a n ≡ true
+  -- and all of that lies within the map
+  pub bounded :
+      (a n : ℕ) → lies_in is_data (extents_of (loaded_core e).memory) a n ≡ true → (p.map.text ≤ a) × (a + n ≤ p.map.stack_high)
   -- code lies apart from data and stack
   pub apart :
       (a : ℕ) → lies_in is_text (extents_of (loaded_core e).memory) a 1 ≡ true → lies_in is_data (extents_of (loaded_core e).memory) a 1 ≡ false

@@ -2,11 +2,11 @@ use Rattle.std.proofs.Common.{◌≡◌, take, drop, refl, sym, ap, subst, ◌�
 use Rattle.std.proofs.lemmas.List.{drop_min, take_min}
 use Rattle.rv_decode.specs.State.{ZcCore}
 use Rattle.zc_machine.specs.declared.answer.EnvCall.TheVariants.{Exit, Read, Write}
-use Rattle.zc_machine.specs.Answer.{core_after, exited, has_read, has_written}
+use Rattle.zc_machine.specs.Answer.{exited, has_read, has_written}
 use Rattle.zc_machine.specs.Buffer.{InMemory, bytes_at}
 use Rattle.zc_outside.specs.Course.{WrotePart, WroteTo}
-use Rattle.zc_machine.specs.Step.{Stopped, zc_step}
-use Rattle.zc_machine.proofs.RunLaws.{Came-start, committed_next, exit_ran, none_ended, read_next, refused_ran, spent_ran, stepped, stop_ran, stopped_step, wanted, write_next}
+use Rattle.zc_machine.specs.Step.{zc_step}
+use Rattle.zc_machine.proofs.RunLaws.{Came-start, Stops, committed_next, exit_ran, none_ended, read_next, refused_ran, spent_ran, stepped, stop_ran, stopped_step, wanted, write_next}
 use Rattle.zc_machine.proofs.StepLaws.{write_shows}
 use Rattle.zc_machine.proofs.run.run_with.Goals as goal
 
@@ -154,8 +154,8 @@ pub returns-in-Stopped-clause-ran : goal.returns-in-Stopped-clause-ran
 returns-in-Stopped-clause-ran g c =
     let s = stepped c.loop-left.invariant.came c.loop-left.invariant.goes_on c.act_on.ensures.made c.act_on.ensures.commits c.act_on.ensures.exit c.act_on.ensures.goes_on c.next_commit.ensures.none_before (omega arith) c.advance.ensures in
     let z' = s.acted in
-    let stops : zc_step z' ≡ Stopped c.in-Stopped.reason = stopped_step (zc_step z') c.in-Stopped.reason (cc s.answers) in
-    stop_ran s.came s.had c.advance.new.machine c.args.steps (omega arith) c.in-Stopped.reason stops (s.left_as ∙ ap (λ y. core_after y z') stops)
+    let stops : Stops (zc_step z') c.in-Stopped.reason = stopped_step (zc_step z') c.in-Stopped.reason (cc s.answers) in
+    stop_ran s.came s.had c.advance.new.machine c.args.steps (omega arith) c.in-Stopped.reason stops (s.left_as ∙ stops.stays z')
 
 pub returns-clause-ran : goal.returns-clause-ran
 returns-clause-ran g c =

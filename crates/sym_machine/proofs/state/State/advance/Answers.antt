@@ -17,11 +17,11 @@ use Rattle.sym_machine.proofs.state.State.advance.Goals.{then-not-quick_item+in-
 -- the item's step: the quick way changed nothing, and the slow one is done
 slow :
     (p : Program) (s t s' : Working) (item : Item) (next : Place) (r : Result SymStep AllocError) (a : SymStep) → t ≡ s
-    → Makes r (item_step t.map p (Some item) t.core next) t.core s'.core → r ≡ Ok a → a ≡ answer.Done
-    → RunsOn (item_step s.map p (Some item) s.core next) [] s.core s'.core
+    → Makes r (item_step [] t.map p (Some item) t.core next) t.core s'.core → r ≡ Ok a → a ≡ answer.Done
+    → RunsOn (item_step [] s.map p (Some item) s.core next) [] s.core s'.core
 slow p s t s' item next r a same made is done =
-    subst (λ (w : Working). RunsOn (item_step w.map p (Some item) w.core next) [] w.core s'.core) same
-    (subst (λ (q : Result SymStep AllocError). Makes q (item_step t.map p (Some item) t.core next) t.core s'.core) (is ∙ ap Ok done) made)
+    subst (λ (w : Working). RunsOn (item_step [] w.map p (Some item) w.core next) [] w.core s'.core) same
+    (subst (λ (q : Result SymStep AllocError). Makes q (item_step [] t.map p (Some item) t.core next) t.core s'.core) (is ∙ ap Ok done) made)
 
 pub loop-made-preserved : goal.loop-made-preserved
 loop-made-preserved c =
@@ -31,7 +31,7 @@ loop-made-preserved c =
     let next : Place = c.in-Some-item_here.next in
     let so_far = c.loop-made.invariant.runs in
     let step = c.place-place.ensures.step p so_far.of (so_far.exit ∙ c.requires.running) in
-    let ends : Working → Type 0 = λ s'. RunsOn (item_step s.map p (Some item) s.core next) [] s.core s'.core in
+    let ends : Working → Type 0 = λ s'. RunsOn (item_step [] s.map p (Some item) s.core next) [] s.core s'.core in
     let made : ends c.if-not-quick_item.self =
     elim c.if-not-quick_item.branch [
       | then-not-quick_item+in-Ok-Done+in-Ok-step_item-3+in-Wrote-1 w ↦ subst ends (sym w.self-is)

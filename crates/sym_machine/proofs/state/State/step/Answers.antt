@@ -1,5 +1,5 @@
 -- A step goes by the exit's status, and then by what stands at the place.
-use Rattle.std.proofs.Common.{◌≡◌, ◌+◌, None, Some, ap, sym, ◌∙◌, refl, inr, subst, arith}
+use Rattle.std.proofs.Common.{◌≡◌, ◌+◌, [], None, Some, ap, sym, ◌∙◌, refl, inr, subst, arith}
 use Rattle.psabi_sym.specs.Inputs.{parsed}
 use Rattle.rv_decode.specs.Memory.{extents_of}
 use Rattle.zc_base.specs.declared.place.Place.{Place}
@@ -21,12 +21,12 @@ use Rattle.sym_machine.proofs.state.State.step.Goals.{After-at}
 pub returns-in-Some : goal.returns-in-Some
 returns-in-Some c =
     let exited = sym (ap (λ (w : Working). w.core.exit) c.self.view_is) ∙ c.in-Some.is in
-    inr (exited, refl, step_past_exit (program_of (parsed c.args.cut.now)) c.args.self.now.core c.in-Some.status exited)
+    inr (exited, refl, step_past_exit [] (program_of (parsed c.args.cut.now)) c.args.self.now.core c.in-Some.status exited)
 
 -- a step of the definition, by what stands at the place
 step_here : (c : After-at) → plain_step (program_of (parsed c.args.cut.now)) c.args.self.now.core
     ≡ (let p = program_of (parsed c.args.cut.now) in
-    item_step c.args.self.now.map p (p.item c.self.inside.place) c.args.self.now.core (p.next c.self.inside.place))
+    item_step [] c.args.self.now.map p (p.item c.self.inside.place) c.args.self.now.core (p.next c.self.inside.place))
 step_here c =
     let p : Program = program_of (parsed c.args.cut.now) in
     let s : PlainCore = c.args.self.now.core in
@@ -35,7 +35,7 @@ step_here c =
     let of = ap (λ (w : Working). extents_of w.core.memory) c.self.view_is ∙ c.requires in
     let map : i.memory.map ≡ c.args.self.now.map = ap (λ (w : Working). w.map) c.self.view_is in
     let place : s.place ≡ i.place = ap (λ (w : Working). w.core.place) (sym c.self.view_is) in
-    step_of i.memory c.self.invariant.0.kept p of s running ∙ (λ j. item_step (map j) p (p.item (place j)) s (p.next (place j)))
+    step_of i.memory c.self.invariant.0.kept p of s running ∙ (λ j. item_step [] (map j) p (p.item (place j)) s (p.next (place j)))
 
 pub returns-in_default-at : goal.returns-in_default-at
 unfolding program_of
@@ -43,7 +43,7 @@ returns-in_default-at c =
     let p : Program = program_of (parsed c.args.cut.now) in
     let s : PlainCore = c.args.self.now.core in
     let none : p.item c.self.inside.place ≡ None = no_item (parsed c.args.cut.now) c.self.inside.place c.in_default-at.ensures in
-    let is = step_here (goal.at.returns-in_default-at c).After-at ∙ ap (λ o. item_step c.args.self.now.map p o s (p.next c.self.inside.place)) none in
+    let is = step_here (goal.at.returns-in_default-at c).After-at ∙ ap (λ o. item_step [] c.args.self.now.map p o s (p.next c.self.inside.place)) none in
     subst (λ (st : PlainStep). StepAnswers st c.stuck.result s s) (sym is) c.stuck.ensures
 
 pub returns-in_default-item : goal.returns-in_default-item
@@ -52,7 +52,7 @@ returns-in_default-item c =
     let p : Program = program_of (parsed c.args.cut.now) in
     let s : PlainCore = c.args.self.now.core in
     let none : p.item c.self.inside.place ≡ None = sym (ap (λ w. w.item) c.in-Some-at.ensures.1) ∙ c.in_default-item.is in
-    let is = step_here (goal.at.returns-in_default-item c).After-at ∙ ap (λ o. item_step c.args.self.now.map p o s (p.next c.self.inside.place)) none in
+    let is = step_here (goal.at.returns-in_default-item c).After-at ∙ ap (λ o. item_step [] c.args.self.now.map p o s (p.next c.self.inside.place)) none in
     subst (λ (st : PlainStep). StepAnswers st c.stuck-in_default-item.result s s) (sym is) c.stuck-in_default-item.ensures
 
 pub overflow_add-next : goal.overflow_add-next
@@ -74,5 +74,5 @@ returns c =
     let here : p.item q ≡ Some item = sym (ap (λ w. w.item) c.in-Some-at.ensures.1) ∙ c.in-Some-item.is in
     let next : p.next q ≡ to =
     λ j. record { object = q.object; section = q.section; offset = q.offset + sym (c.from.ensures ∙ ap (λ w. w.size) c.in-Some-at.ensures.1) j } in
-    let is = step_here (goal.at.returns c).After-at ∙ (λ j. item_step c.args.self.now.map p (here j) s (next j)) in
+    let is = step_here (goal.at.returns c).After-at ∙ (λ j. item_step [] c.args.self.now.map p (here j) s (next j)) in
     subst (λ (st : PlainStep). Makes c.step_item.result st s c.step_item.new.self.core) (sym is) c.step_item.ensures
