@@ -1,0 +1,2 @@
+-- What the code keeps of lines.
+pub mod Kept
