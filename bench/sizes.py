@@ -11,9 +11,9 @@ the others link the same objects of RV32IM, the same ones with C, and the same o
 relax, but where a column says otherwise. With `gc` they leave out the sections that nothing needs; for `zcld` GNU ld does
 that before, in a link that keeps relocations (`ld -r --gc-sections`), or `zcld gc` does where a column says so. Where one says
 `merge`, `zcld merge` shares equal ends of functions in a section before; in the columns with `one`, all functions of a file are in
-one section, and in those with `save`, functions of libgcc save and restore registers for them (-msave-restore). GNU ld and LLD put constants after the text, and in the columns of far constants where `zcld` puts them. In those of
-GNU ld without gp nothing is called `__global_pointer$`, so that it doesn't reach data by gp, and all data, constants too, lie
-where `zcld` puts them.
+one section, and in those with `save`, functions of libgcc save and restore registers for them (-msave-restore). GNU ld and LLD
+put constants after the text, and in the columns of far constants where `zcld` puts them. In those of GNU ld without gp nothing is
+called `__global_pointer$`, so that it doesn't reach data by gp, and all data, constants too, lie where `zcld` puts them.
 
 A figure is the bytes of all sections of code. What isn't installed is left out, and what a linker says of objects that it
 doesn't take is printed. Each image that `zcld` makes is run, and must do what its objects do. If both come to an instruction
@@ -131,7 +131,7 @@ class Compiler:
     def has(self, program, target):
         """Whether it can make these objects: picolibc and GCC's library are installed for a target that has them."""
         is_there = os.path.isdir(PICOLIBC) and programs.found(*COMPILERS['GCC'][0])
-        if program.has_library and (target not in MULTILIBS or not is_there):
+        if (program.has_library or target == SAVING) and (target not in MULTILIBS or not is_there):
             return False
         words = [self.command, *self.words, *target_words(target), '-mabi=ilp32', '-c', '-x', 'c', os.devnull, '-o', os.devnull]
         return programs.run(words).status == 0
