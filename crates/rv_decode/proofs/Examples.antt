@@ -11,7 +11,7 @@ use Rattle.rv_decode.specs.Decode.{decoded}
 use Rattle.rv_decode.specs.Memory.{Region, Data, Stack, cell_at, changed, written, byte_of}
 use Rattle.rv_decode.specs.State.{ZcCore, set_reg, start_regs}
 use Rattle.rv_decode.specs.Results.{imm_result, is_taken, reg_result}
-use Rattle.rv_decode.specs.Devices.{Loads}
+use Rattle.rv_decode.specs.declared.device_access.DeviceAccess.TheVariants as access
 use Rattle.rv_decode.specs.Effect.{Commits, Misaligned, Outside, effect, extended}
 
 -- register 0 stays
@@ -169,7 +169,7 @@ byte_loaded : effect (Load Lb 3 2 (pos 1)) 4 with_memory ≡ Commits (record wit
 unfolding with_memory before memory
 byte_loaded = refl
 
-past_memory : effect (Load Lbu 3 2 (pos 2)) 4 with_memory ≡ Outside (Loads Lbu 18 3 4)
+past_memory : effect (Load Lbu 3 2 (pos 2)) 4 with_memory ≡ Outside (access.Load Lbu 18 3 4)
 unfolding with_memory before memory
 past_memory = refl
 

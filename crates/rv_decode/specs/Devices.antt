@@ -1,13 +1,13 @@
 -- Devices: ranges of addresses outside memory. What is loaded there is an answer of the machine's environment, and what is stored
 -- there goes to it.
-use Rattle.std.specs.Prelude.{ℕ, ◌+◌, ◌*◌, ◌≤◌, ◌⊎◌, Bool, false, ◌&&◌, ◌||◌, nat_le, List, [], ◌∷◌, All}
+use Rattle.std.specs.Prelude.{ℕ, ◌+◌, ◌*◌, ◌%◌, ◌≤◌, ◌⊎◌, Bool, false, ◌&&◌, ◌||◌, nat_le, List, [], ◌∷◌, All}
+use Rattle.zc_base.specs.Fields.{half_bytes, word_bytes}
 use Rattle.zc_base.specs.declared.mem_map.MemMap.{MemMap}
 use Rattle.rv_decode.specs.declared.instr.LoadOp.{LoadOp}
 use Rattle.rv_decode.specs.declared.instr.LoadOp.TheVariants.{Lb, Lh, Lw, Lbu, Lhu}
 use Rattle.rv_decode.specs.declared.instr.StoreOp.{StoreOp}
 use Rattle.rv_decode.specs.declared.instr.StoreOp.TheVariants.{Sb, Sh, Sw}
 use Rattle.rv_decode.specs.Bits.{as_word, signed}
-use Rattle.rv_decode.specs.Memory.{byte_of}
 
 -- a range of addresses
 pub record Device : Type 0 where
@@ -22,11 +22,6 @@ AreOutside map devices = All (λ d. (d.at + d.size ≤ map.text) ⊎ (map.stack_
 abbrev pub in_devices : List Device → ℕ → ℕ → Bool
 in_devices [] a n = false
 in_devices (d ∷ ds) a n = (nat_le d.at a && nat_le (a + n) (d.at + d.size)) || in_devices ds a n
-
--- an access outside memory, by an instruction of so many bytes: a load that gives what it gets to rd, or a store of these bytes
-pub data DeviceAccess : Type 0 where
-  Loads : (op : LoadOp) → (at rd size : ℕ) → DeviceAccess
-  Stores : (at : ℕ) → (bytes : List ℕ) → (size : ℕ) → DeviceAccess
 
 -- ---- what is loaded and stored
 
@@ -45,6 +40,6 @@ widened Lhu n = n
 
 -- the bytes of a word that a store sends
 abbrev pub sent_bytes : StoreOp → ℕ → List ℕ
-sent_bytes Sb word = byte_of word 0 ∷ []
-sent_bytes Sh word = byte_of word 0 ∷ byte_of word 1 ∷ []
-sent_bytes Sw word = byte_of word 0 ∷ byte_of word 1 ∷ byte_of word 2 ∷ byte_of word 3 ∷ []
+sent_bytes Sb word = word % 256 ∷ []
+sent_bytes Sh word = half_bytes word
+sent_bytes Sw word = word_bytes word

@@ -8,7 +8,8 @@ use Rattle.rv_decode.specs.declared.instr.LoadOp.TheVariants.{Lb, Lh, Lw, Lbu, L
 use Rattle.rv_decode.specs.declared.instr.StoreOp.{StoreOp}
 use Rattle.rv_decode.specs.declared.instr.StoreOp.TheVariants.{Sb, Sh, Sw}
 use Rattle.rv_decode.specs.Bits.{add32, as_word, signed}
-use Rattle.rv_decode.specs.Devices.{DeviceAccess, Loads, Stores, sent_bytes}
+use Rattle.rv_decode.specs.declared.device_access.DeviceAccess.{DeviceAccess}
+use Rattle.rv_decode.specs.declared.device_access.DeviceAccess.TheVariants as access
 use Rattle.rv_decode.specs.Memory.{byte_of, changed, extents_of, is_data, lies_in, written}
 use Rattle.rv_decode.specs.Results.{imm_result, is_taken, reg_result, upper_result}
 use Rattle.rv_decode.specs.State.{ZcCore, byte_in, half_at, reg_in, set_reg, word_at}
@@ -79,7 +80,7 @@ load_result Lhu z a = half_at z a
 
 -- a load from an address
 abbrev pub loads : LoadOp → ℕ → ℕ → ℕ → ZcCore → Effect
-loads op a rd size z = attempting (load_width op) a z (Outside (Loads op a rd size)) (gives (load_result op z a) rd size z)
+loads op a rd size z = attempting (load_width op) a z (Outside (access.Load op a rd size)) (gives (load_result op z a) rd size z)
 
 -- the number of bytes that a store writes
 abbrev pub store_width : StoreOp → ℕ
@@ -94,7 +95,7 @@ stored n a word z = record z { memory = changed (written a n (byte_of word)) z.m
 -- a store to an address
 abbrev pub stores : StoreOp → ℕ → ℕ → ℕ → ZcCore → Effect
 stores op a word size z =
-    attempting (store_width op) a z (Outside (Stores a (sent_bytes op word) size)) (Commits (onward (stored (store_width op) a word z) size z.regs))
+    attempting (store_width op) a z (Outside (access.Store op a word size)) (Commits (onward (stored (store_width op) a word z) size z.regs))
 
 -- ---- the jump table
 

@@ -4,8 +4,10 @@
 
 pub mod bits;
 pub mod decode;
+pub mod device_access;
 mod formats;
 pub mod instr;
 pub mod normal;
 mod ops;
 pub mod results;
+pub mod widths;
