@@ -1,17 +1,21 @@
--- One line more: its range in the table, and that ranges lie outside the map.
+-- One line more: its range in the table, its output in the set, its bytes; and that ranges lie outside the map.
 use Rattle.std.proofs.Common.{◌≡◌, ◌⊎◌, ℕ, ◌+◌, ◌^◌, ◌<◌, ◌≤◌, Some, None, Bool, true, false, Option, List, [], ◌∷◌, ◌++◌, ltb, leb, eqb, inl, inr, refl, ap, sym, subst, ◌∙◌, append-nil, arith}
 use Rattle.std.specs.Prelude.{◌&&◌, ◌||◌, not}
-use Rattle.std.specs.List.{list_any}
+use Rattle.std.specs.List.{flat_map, list_any}
 use Rattle.std.proofs.lemmas.Bool.{and_parts, eq-eqb, eqb-true, leb-true, ltb-true, not-true}
 use Rattle.std.proofs.lemmas.Grind.{flat_map-append}
 use Rattle.std.proofs.lemmas.List.Elements.{All-cons, All-nil}
 use Rattle.std.proofs.lemmas.List.Folds.{list_any-append}
 use Rattle.zc_base.specs.declared.mem_map.MemMap.{MemMap}
 use Rattle.rv_decode.specs.Devices.{AreOutside, Device}
-use Rattle.devices.specs.Lines.{DevicesLine, Range, Output, Answer, Then, device_in, devices_of, is_then}
+use Rattle.devices.specs.Lines.{DevicesLine, Range, Output, Answer, Then, device_in, devices_of, is_then, output_in, outputs_of}
 use Rattle.devices.specs.Text.{Follow, have_common, is_range, may_follow, may_stand}
-use Rattle.devices.specs.Invariants.Kept.{CanFollow, IsBegun, IsOne, IsTable}
+use Rattle.devices.specs.Invariants.Kept.{CanFollow, IsBegun, IsOne, IsSet, IsTable}
 use Rattle.devices.proofs.RangeLaws.{any_one, common_false, common_true, true_not_false}
+
+or_none : (b : Bool) → (b || false) ≡ b
+or_none true = refl
+or_none false = refl
 
 -- ---- one line more
 
@@ -148,12 +152,30 @@ are_outside map before (Output a ∷ lines) follow = are_outside map (before ++ 
 are_outside map before (Answer bytes ∷ lines) follow = are_outside map (before ++ Answer bytes ∷ []) lines follow.1
 are_outside map before (Then bytes ∷ lines) follow = are_outside map (before ++ Then bytes ∷ []) lines follow.1
 
--- ---- whether something may follow
+-- ---- the rest of what is kept, with one line more
 
-pub ended_more : (before : List DevicesLine) (l : DevicesLine) (ended last : Bool) → ended ≡ list_any is_then before → last ≡ (ended || is_then l) → last ≡ list_any is_then (before ++ l ∷ [])
-ended_more before l ended last was is =
-    is ∙ ap (λ b. b || is_then l) was ∙ ap (λ b. list_any is_then before || b) (sym (or_none (is_then l))) ∙ sym (list_any-append is_then before (l ∷ []))
-  where
-    or_none : (b : Bool) → (b || false) ≡ b
-    or_none true = refl
-    or_none false = refl
+-- a test that some line passes
+pub any_more : (test : DevicesLine → Bool) (before : List DevicesLine) (l : DevicesLine) (some more : Bool) → some ≡ list_any test before → more ≡ (some || test l) → more ≡ list_any test (before ++ l ∷ [])
+any_more test before l some more was is =
+    is ∙ ap (λ b. b || test l) was ∙ ap (λ b. list_any test before || b) (sym (or_none (test l))) ∙ sym (list_any-append test before (l ∷ []))
+
+-- what lines have, joined
+pub bytes_more : (has : DevicesLine → List ℕ) (before : List DevicesLine) (l : DevicesLine) (bytes more : List ℕ) → bytes ≡ flat_map has before → more ≡ bytes ++ has l → more ≡ flat_map has (before ++ l ∷ [])
+bytes_more has before l bytes more was is =
+    is ∙ ap (λ b. b ++ has l) was ∙ ap (λ b. flat_map has before ++ b) (sym (append-nil (has l))) ∙ sym (flat_map-append has before (l ∷ []))
+
+outputs_more : (before : List DevicesLine) (l : DevicesLine) → outputs_of (before ++ l ∷ []) ≡ outputs_of before ++ output_in l
+outputs_more before l = sym (bytes_more output_in before l (outputs_of before) (outputs_of before ++ output_in l) refl refl)
+
+-- the set of outputs
+pub set_with : (has more : ℕ → Bool) (before : List DevicesLine) (at : ℕ) → IsSet has (outputs_of before) → ((a : ℕ) → more a ≡ (has a || eqb at a)) → IsSet more (outputs_of (before ++ Output at ∷ []))
+set_with has more before at set is a =
+    is a
+    ∙ ap (λ b. b || eqb at a) (set a)
+    ∙ ap (λ b. list_any (λ x. eqb x a) (outputs_of before) || b) (sym (or_none (eqb at a)))
+    ∙ sym (list_any-append (λ x. eqb x a) (outputs_of before) (at ∷ []))
+    ∙ ap (list_any (λ x. eqb x a)) (sym (outputs_more before (Output at)))
+
+pub set_same : (has : ℕ → Bool) (before : List DevicesLine) (l : DevicesLine) → output_in l ≡ [] → IsSet has (outputs_of before) → IsSet has (outputs_of (before ++ l ∷ []))
+set_same has before l none set =
+    subst (IsSet has) (sym (outputs_more before l ∙ ap (λ xs. outputs_of before ++ xs) none ∙ append-nil (outputs_of before))) set

@@ -4,5 +4,6 @@ pub mod KeptLaws
 pub mod LineLaws
 pub mod PlainLaws
 pub mod RangeLaws
+pub mod ShownLaws
 pub mod SpellLaws
 pub mod TextLaws

@@ -4,6 +4,7 @@ use Rattle.zc_base.specs.declared.mem_map.MemMap.{MemMap}
 use Rattle.devices.specs.Lines.{DevicesLine}
 use Rattle.devices.specs.Text.{FitsLine, Follow, devices_line, devices_text, devices_title, may_follow}
 use Rattle.devices.specs.declared.fault.DevicesFault.{DevicesFault}
+use Rattle.devices.specs.declared.read_devices.TheConstants.{DEVICES_LIMIT}
 use Rattle.devices.specs.declared.fault.DevicesFault.TheVariants.{Line, OutOfMemory, Size}
 
 -- the text begins with these lines, each of which may stand where it is, and `rest` follows them
@@ -22,5 +23,5 @@ IsNoLine map before rest =
 pub data IsDevicesFault (map : MemMap) (text : List ℕ) : DevicesFault → Type 0 where
   first_bad : ((rest : List ℕ) → text ≢ devices_title ++ 10 ∷ rest) → IsDevicesFault map text (Line 1)
   later_bad : (before : List DevicesLine) (rest : List ℕ) → BeginsWith map text before rest → rest ≢ [] → IsNoLine map before rest → IsDevicesFault map text (Line (length before + 2))
-  too_long : 8388608 < length text → IsDevicesFault map text Size
+  too_long : DEVICES_LIMIT < length text → IsDevicesFault map text Size
   no_memory : IsDevicesFault map text OutOfMemory

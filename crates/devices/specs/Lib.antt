@@ -1,4 +1,5 @@
 pub mod Lines
+pub mod Environment
 pub mod Text
 pub mod Fault
 pub mod Invariants

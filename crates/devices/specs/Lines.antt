@@ -60,12 +60,12 @@ then_of lines = flat_map then_in lines
 abbrev pub has_answers : List DevicesLine → Bool
 has_answers lines = list_any is_answer lines
 
--- so many times these bytes
+-- n copies of these bytes
 abbrev pub repeated : ℕ → List ℕ → List ℕ
 repeated zero bytes = []
 repeated (suc n) bytes = bytes ++ repeated n bytes
 
--- what devices answer, and reads read, in a run of at most so many steps: standard input, or the lines' bytes; `then` stands for more
+-- what devices answer, and reads read, in a run of at most `steps` steps: standard input, or the lines' bytes; `then` stands for more
 -- copies than the run can take
 abbrev pub answers_over : List DevicesLine → ℕ → List ℕ → List ℕ
 answers_over lines steps input =

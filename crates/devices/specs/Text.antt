@@ -10,6 +10,7 @@ use Rattle.text_lines.specs.Number.{hex_byte_of, hex_word_of}
 use Rattle.rv_decode.specs.Devices.{Device, in_devices}
 use Rattle.devices.specs.Lines.{DevicesLine, Range, Output, Answer, Then, devices_of, is_then}
 use Rattle.devices.specs.declared.fault.DevicesFault.{DevicesFault}
+use Rattle.devices.specs.declared.read_devices.TheConstants.{DEVICES_LIMIT}
 use Rattle.devices.specs.declared.fault.DevicesFault.TheVariants.{Line, OutOfMemory, Size}
 
 -- ---- the text that spells lines
@@ -120,9 +121,9 @@ lines_behind map [] = Err (Line 1)
 
 -- the lines that a text spells, or the first fault in it
 unfoldable pub devices_in : MemMap → List ℕ → Result (List DevicesLine) DevicesFault
-devices_in map text = if nat_lt 8388608 (length text) then Err Size else lines_behind map (lines_of text)
+devices_in map text = if nat_lt DEVICES_LIMIT (length text) then Err Size else lines_behind map (lines_of text)
 
 -- a text within the limit that spells lines is read as these, unless memory runs out
 abbrev pub ReadsDevices : MemMap → List ℕ → Result (List DevicesLine) DevicesFault → Type 0
 ReadsDevices map text result =
-    (lines : List DevicesLine) → IsDevicesText map text lines → length text ≤ 8388608 → (result ≡ Ok lines) ⊎ (result ≡ Err OutOfMemory)
+    (lines : List DevicesLine) → IsDevicesText map text lines → length text ≤ DEVICES_LIMIT → (result ≡ Ok lines) ⊎ (result ≡ Err OutOfMemory)

@@ -1,14 +1,16 @@
 // What devices answer, and reads read, as it is taken from the front.
 
-ghost use Rattle.std.specs.Prelude.{◌≡◌, ◌⊎◌, ◌<◌, ◌≤◌, ◌++◌, ◌∷◌, [], MatchOption, drop, length, slice_index, take};
-ghost use Rattle.rv_decode.specs.Devices.{number_from};
+ghost use Rattle.std.specs.Prelude.{◌≡◌, ◌^◌, ◌⊎◌, ◌<◌, ◌≤◌, ◌++◌, ◌∷◌, [], MatchOption, drop, length, slice_index, take};
+ghost use Rattle.rv_decode.specs.Devices.{number_from, widened};
 ghost use Rattle.rv_decode.specs.Effect.{load_width};
 ghost use Rattle.devices.specs.Lines.{repeated};
 
+use rv_decode::bits::signed_of;
 use rv_decode::instr::LoadOp;
 use std::marker::Model;
 
-/// Bytes that are taken from the front: some bytes, and then so many copies of others.
+/// Bytes that are taken from the front: some bytes, and then copies of others.
+#[derive(Drop)]
 pub struct Answers<'a> {
     rest: &'a [u8],
     again: &'a [u8],
@@ -37,7 +39,7 @@ fn refilled<'a>(rest: &'a [u8], again: &'a [u8], copies: u128) -> (&'a [u8], u12
 }
 
 impl<'a> Answers<'a> {
-    /// These bytes, and then so many copies of others.
+    /// These bytes, and then `copies` copies of others.
     pub fn new(first: &'a [u8], again: &'a [u8], copies: u128) -> Answers<'a>
         ensures { result ≡ first.now ++ repeated copies again.now }
     {
@@ -48,7 +50,7 @@ impl<'a> Answers<'a> {
         }
     }
 
-    /// Takes bytes that lie side by side, at most so many. It takes none only if none are wanted or none are left.
+    /// Takes bytes that lie side by side, at most `most`. It takes none only if none are wanted or none are left.
     pub fn take_piece(&mut self, most: usize) -> &'a [u8]
         ensures taken { self.old ≡ result.now ++ self.new }
         ensures within { length result.now ≤ most }
@@ -76,6 +78,7 @@ impl<'a> Answers<'a> {
     /// Takes what a load gets, and gives the number that it is; bytes that are missing count as 0.
     pub fn take_number(&mut self, op: LoadOp) -> u32
         ensures value { result ≡ number_from (take (load_width op) self.old) }
+        ensures below { result < 256 ^ load_width op }
         ensures left { self.new ≡ drop (load_width op) self.old }
     {
         let first = self.take_byte();
@@ -89,5 +92,36 @@ impl<'a> Answers<'a> {
                 first + 256 * (second + 256 * (third + 256 * fourth))
             }
         }
+    }
+
+    /// Takes what a load gets, and gives the word that the load makes of it.
+    pub fn take_value(&mut self, op: LoadOp) -> u32
+        ensures value { result ≡ widened op (number_from (take (load_width op) self.old)) }
+        ensures left { self.new ≡ drop (load_width op) self.old }
+    {
+        widened(op, self.take_number(op))
+    }
+
+    /// The same bytes. What is taken from them isn't taken from these.
+    pub fn copy(&self) -> Answers<'a>
+        ensures { result ≡ self.now }
+    {
+        Answers {
+            rest: self.rest,
+            again: self.again,
+            copies: self.copies,
+        }
+    }
+}
+
+// What a load makes of the number that its bytes are.
+fn widened(op: LoadOp, n: u32) -> u32
+    requires { n < 256 ^ load_width op }
+    ensures { result ≡ widened op n }
+{
+    match op {
+        LoadOp::Lb => signed_of(8, n).cast_unsigned(),
+        LoadOp::Lh => signed_of(16, n).cast_unsigned(),
+        LoadOp::Lw | LoadOp::Lbu | LoadOp::Lhu => n,
     }
 }

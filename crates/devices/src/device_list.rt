@@ -1,17 +1,20 @@
 // The devices that a text names.
 
-ghost use Rattle.std.specs.Prelude.{◌≡◌, ◌≢◌, ℕ, ◌+◌, ◌++◌, ◌∷◌, ◌||◌, [], IfOk, List, Some, length};
-ghost use Rattle.std.specs.BTreeMap.{get};
-ghost use Rattle.std.specs.Ordering.{nat_cmp};
-ghost use Rattle.rv_decode.specs.Devices.{Device};
-ghost use Rattle.devices.specs.Lines.{DevicesLine, devices_of, is_then};
+ghost use Rattle.std.specs.Prelude.{◌≡◌, ◌<◌, ◌==◌, ◌++◌, ◌∷◌, [], IfOk, length};
+ghost use Rattle.std.specs.List.{list_any};
+ghost use Rattle.rv_decode.specs.Devices.{Device, in_devices};
+ghost use Rattle.devices.specs.Lines.{answers_over, devices_of, has_answers, outputs_of};
 ghost use Rattle.devices.specs.Text.{is_range, may_follow};
-ghost use Rattle.devices.specs.Invariants.Kept.{CanFollow, IsTable, shown};
+ghost use Rattle.devices.specs.Invariants.Kept.{CanFollow, shown};
 
+use crate::answers::Answers;
 use crate::kept_line::KeptLine;
 use crate::ranges::{is_free, lie_in_one};
+use crate::tables::{
+    is_answering, is_ended, with_again, with_end, with_first, with_output, with_pushed,
+};
 use std::alloc::{AllocError, Global};
-use std::collections::BTreeMap;
+use std::collections::{BTreeMap, BTreeSet};
 use std::marker::Model;
 use zc_base::mem_map::MemMap;
 
@@ -21,6 +24,13 @@ pub struct Devices {
     lines: Vec<KeptLine>,
     // The end of each range, by its first address.
     ends: BTreeMap<u64, u64>,
+    // The addresses whose stored bytes appear on standard output.
+    outputs: BTreeSet<u32>,
+    // What devices answer first, and then again and again.
+    first: Vec<u8>,
+    again: Vec<u8>,
+    // Whether a line has what devices answer.
+    answering: bool,
     // Whether the last line is `then`.
     ended: bool,
 }
@@ -28,17 +38,20 @@ pub struct Devices {
 impl Model for Devices {
     ghost use Rattle.std.specs.Prelude.{◌≡◌, List, map};
     ghost use Rattle.std.specs.BTreeMap.{get};
+    ghost use Rattle.std.specs.BTreeSet.{contains};
     ghost use Rattle.std.specs.List.{list_any};
     ghost use Rattle.std.specs.Ordering.{nat_cmp};
-    ghost use Rattle.devices.specs.Lines.{DevicesLine, devices_of, is_then};
-    ghost use Rattle.devices.specs.Invariants.Kept.{IsTable, shown};
+    ghost use Rattle.devices.specs.Lines.{DevicesLine, answers_of, devices_of, has_answers, is_then, outputs_of, then_of};
+    ghost use Rattle.devices.specs.Invariants.Kept.{IsSet, IsTable, shown};
 
     ghost Value = { List DevicesLine };
 
     ghost view = { λ d. map shown d.lines.items };
 
-    ghost invariant = { λ d. IsTable (get nat_cmp d.ends) (devices_of (map shown d.lines.items))
-        × (d.ended ≡ list_any is_then (map shown d.lines.items)) };
+    ghost invariant = { λ d. let all = map shown d.lines.items in
+        IsTable (get nat_cmp d.ends) (devices_of all) × IsSet (contains nat_cmp d.outputs) (outputs_of all)
+        × (d.first.items ≡ answers_of all) × (d.again.items ≡ then_of all)
+        × (d.answering ≡ has_answers all) × (d.ended ≡ list_any is_then all) };
 }
 
 impl Devices {
@@ -49,6 +62,10 @@ impl Devices {
         Devices {
             lines: Vec::new(alloc),
             ends: BTreeMap::new(alloc),
+            outputs: BTreeSet::new(alloc),
+            first: Vec::new(alloc),
+            again: Vec::new(alloc),
+            answering: false,
             ended: false,
         }
     }
@@ -58,6 +75,43 @@ impl Devices {
         ensures { result ≡ length self.now }
     {
         self.lines.len()
+    }
+
+    /// Whether `count` bytes from an address on lie in one device.
+    pub fn has(&self, at: u32, count: u32) -> bool
+        requires { 0 < count }
+        ensures { result ≡ in_devices (devices_of self.now) at count }
+    {
+        lie_in_one(&self.ends, at, count)
+    }
+
+    /// Whether the byte that is stored at an address appears on standard output.
+    pub fn is_output(&self, at: u32) -> bool
+        ensures { result ≡ list_any (λ x. x == at) (outputs_of self.now) }
+    {
+        self.outputs.contains(&at)
+    }
+
+    /// Whether the lines have what devices answer, so that standard input isn't taken.
+    pub fn has_answers(&self) -> bool
+        ensures { result ≡ has_answers self.now }
+    {
+        self.answering
+    }
+
+    /// What devices answer, and reads read, in a run of at most `steps` steps: the lines' bytes, or else the input.
+    pub fn answers<'a>(&'a self, steps: u64, input: &'a [u8]) -> Answers<'a>
+        ensures { result ≡ answers_over self.now steps input.now }
+    {
+        if self.answering {
+            Answers::new(
+                self.first.as_slice(),
+                self.again.as_slice(),
+                u128::from(steps) << 32,
+            )
+        } else {
+            Answers::new(input, &[], 0)
+        }
     }
 
     /// Whether a line may follow these.
@@ -82,25 +136,32 @@ impl Devices {
         requires { CanFollow self (shown line) }
         ensures { IfOk result (λ devices. devices ≡ self ++ shown line ∷ []) }
     {
-        let Devices { lines, ends, ended } = self;
+        let Devices {
+            lines,
+            ends,
+            outputs,
+            first,
+            again,
+            answering,
+            ended,
+        } = self;
+        let answers = is_answering(answering, &line);
         let is_last = is_ended(ended, &line);
         let more = with_end(ends, &line)?;
+        let addresses = with_output(outputs, &line)?;
+        let bytes = with_first(first, &line)?;
+        let copied = with_again(again, &line)?;
         let all = with_pushed(lines, line)?;
         Ok(Devices {
             lines: all,
             ends: more,
+            outputs: addresses,
+            first: bytes,
+            again: copied,
+            answering: answers,
             ended: is_last,
         })
     }
-}
-
-// Lines and one more.
-fn with_pushed(lines: Vec<KeptLine>, line: KeptLine) -> Result<Vec<KeptLine>, AllocError>
-    ensures { IfOk result (λ all. all.items ≡ lines.items ++ line ∷ []) }
-{
-    let mut all = lines;
-    all.push(line)?;
-    Ok(all)
 }
 
 // Whether a range isn't empty, and lies outside the map.
@@ -109,50 +170,4 @@ fn is_range(map: MemMap, at: u32, size: u32) -> bool
 {
     let end = u64::from(at) + u64::from(size);
     size > 0 && end <= 1 << 32 && (end <= u64::from(map.text) || map.stack_high <= at)
-}
-
-// Whether a line is `then`.
-fn is_then(line: &KeptLine) -> bool
-    ensures { result ≡ is_then (shown line.now) }
-{
-    match line {
-        KeptLine::Then(_) => true,
-        KeptLine::Range { .. } | KeptLine::Output(_) | KeptLine::Answer(_) => false,
-    }
-}
-
-// Whether nothing may follow a line.
-fn is_ended(ended: bool, line: &KeptLine) -> bool
-    ensures { result ≡ (ended || is_then (shown line.now)) }
-{
-    ended || is_then(line)
-}
-
-// The table with one range more.
-fn with_range(
-    ends: BTreeMap<u64, u64>,
-    at: u32,
-    size: u32,
-) -> Result<BTreeMap<u64, u64>, AllocError>
-    ensures puts { IfOk result (λ more. get nat_cmp more at ≡ Some (at + size)) }
-    ensures keeps { IfOk result (λ more. (a : ℕ) → a ≢ at → get nat_cmp more a ≡ get nat_cmp ends a) }
-{
-    let mut more = ends;
-    more.insert(u64::from(at), u64::from(at) + u64::from(size))?;
-    Ok(more)
-}
-
-// The table with the range of a line that may follow.
-fn with_end(ends: BTreeMap<u64, u64>, line: &KeptLine) -> Result<BTreeMap<u64, u64>, AllocError>
-    ensures { IfOk result (λ more. (before : List DevicesLine) → IsTable (get nat_cmp ends) (devices_of before)
-        → CanFollow before (shown line.now)
-        → IsTable (get nat_cmp more) (devices_of (before ++ shown line.now ∷ []))) }
-{
-    match line {
-        KeptLine::Range { at, size } => {
-            let more = with_range(ends, *at, *size)?;
-            Ok(more)
-        }
-        KeptLine::Output(_) | KeptLine::Answer(_) | KeptLine::Then(_) => Ok(ends),
-    }
 }

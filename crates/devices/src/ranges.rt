@@ -29,7 +29,7 @@ pub fn is_free(ends: &BTreeMap<u64, u64>, at: u32, size: u32) -> bool
     }
 }
 
-/// Whether so many bytes from an address on lie in one range of the table.
+/// Whether `count` bytes from an address on lie in one range of the table.
 pub fn lie_in_one(ends: &BTreeMap<u64, u64>, at: u32, count: u32) -> bool
     requires { 0 < count }
     ensures { (ds : List Device) → IsTable (get nat_cmp ends.now) ds → result ≡ in_devices ds at count }

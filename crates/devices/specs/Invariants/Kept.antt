@@ -1,5 +1,6 @@
--- Lines as they are kept, and the table in which their ranges are found.
-use Rattle.std.specs.Prelude.{◌≡◌, ◌⊎◌, ℕ, ◌+◌, ◌<◌, true, false, List, [], ◌∷◌, Option, Some, None}
+-- Lines as they are kept, and the tables in which their ranges and outputs are found.
+use Rattle.std.specs.Prelude.{◌≡◌, ◌⊎◌, ℕ, ◌+◌, ◌<◌, ◌==◌, Bool, true, false, List, [], ◌∷◌, Option, Some, None}
+use Rattle.std.specs.List.{list_any}
 use Rattle.zc_base.specs.declared.mem_map.MemMap.{MemMap}
 use Rattle.rv_decode.specs.Devices.{Device}
 use Rattle.devices.specs.Lines.{DevicesLine, Range, Output, Answer, Then}
@@ -29,6 +30,10 @@ pub record IsTable (ends : ℕ → Option ℕ) (ds : List Device) : Type 0 where
   pub only : (a end : ℕ) → ends a ≡ Some end → IsBegun ds a end
   pub some : (e : Device) → IsOne e ds → 0 < e.size
   pub apart : (e f : Device) → IsOne e ds → IsOne f ds → (e ≡ f) ⊎ (have_common e f ≡ false)
+
+-- a set has these addresses, and nothing else
+abbrev pub IsSet : (ℕ → Bool) → List ℕ → Type 0
+IsSet has addresses = (a : ℕ) → has a ≡ list_any (λ x. x == a) addresses
 
 -- the last entry of a table below an address
 abbrev pub IsLastBegun : (ℕ → Option ℕ) → ℕ → Option (ℕ × ℕ) → Type 0

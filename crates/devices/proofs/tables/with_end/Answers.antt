@@ -5,7 +5,7 @@ use Rattle.devices.specs.Lines.{devices_of}
 use Rattle.devices.specs.Invariants.Kept.{CanFollow, IsTable, shown}
 use Rattle.devices.specs.declared.kept_line.KeptLine.{KeptLine}
 use Rattle.devices.proofs.KeptLaws.{table_with}
-use Rattle.devices.proofs.device_list.with_end.Goals as goal
+use Rattle.devices.proofs.tables.with_end.Goals as goal
 
 pub returns-in_ok-more-in-Range : goal.returns-in_ok-more-in-Range
 returns-in_ok-more-in-Range c = λ before table may.
