@@ -1,12 +1,14 @@
 // Runs under plans with cells.
 
 ghost use Rattle.std.specs.Prelude.{◌≡◌, None};
+ghost use Rattle.devices.specs.Environment.{only_input};
 ghost use Rattle.zc_machine.specs.RunEnd.{Ran, course_of};
 ghost use Rattle.zc_outside.specs.Desk.{OnlyWrites};
 ghost use Rattle.shared_cells.specs.SharedRun.{shared_by};
 
 use crate::ranges::Ranges;
 use crate::shared_schedule::SharedSchedule;
+use devices::environment::Environment;
 use interrupt_plan::shared_plan::SharedPlan;
 use zc_machine::machine::Machine;
 use zc_machine::run::{RunEnd, run_with};
@@ -26,16 +28,17 @@ pub fn run_shared<C: Console>(
 ) -> RunEnd
     requires running { machine.old.exit ≡ None }
     requires start { machine.old.commits ≡ 0 }
-    ensures ran { Ran (shared_by shared.now plan.now) (course_of machine.old input.now
+    ensures ran { Ran (shared_by shared.now plan.now) (course_of machine.old (only_input input.now)
         (shared_by shared.now plan.now) steps) result machine.new (C.shown console.old) (C.shown console.new) }
     ensures writes { OnlyWrites (C.shown console.old) (C.shown console.new) }
 {
     let ranges = Ranges::new(shared);
     let schedule = SharedSchedule { plan, ranges };
+    let environment = Environment::of_input(input);
     run_with(
         machine,
         ScheduleCursor::new(&schedule),
-        input,
+        environment,
         steps,
         console,
     )

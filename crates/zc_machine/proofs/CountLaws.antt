@@ -3,15 +3,17 @@
 use Rattle.std.specs.List.{list_any}
 use Rattle.std.specs.Option.{option_map_or}
 use Rattle.std.specs.Prelude.{◌||◌}
-use Rattle.std.proofs.Common.{◌≡◌, ℕ, zero, suc, ◌+◌, ◌-◌, ◌<◌, ◌≤◌, ⊎_elim, List, [], ◌∷◌, ◌++◌, length, take, drop, Bool, true, false, cond, Option, Some, None, Result, Ok, Err, refl, sym, ap, subst, ◌∙◌, arith}
+use Rattle.std.proofs.Common.{◌≡◌, ℕ, zero, suc, ◌+◌, ◌-◌, ◌<◌, ◌≤◌, ⊎_elim, List, [], ◌∷◌, ◌++◌, take, drop, Bool, true, false, cond, Option, Some, None, Result, Ok, Err, refl, sym, ap, subst, ◌∙◌, arith}
 use Rattle.std.proofs.lemmas.Bool.{cases_lt, false≢true}
 use Rattle.std.proofs.lemmas.List.Folds.{list_any-append}
 use Rattle.std.proofs.lemmas.Option.{none-some}
+use Rattle.devices.specs.Environment.{only_input}
 use Rattle.interrupt_plan.specs.Plan.{Entry, interrupts_at}
 use Rattle.rv_decode.specs.EventBytes.{written_to}
 use Rattle.rv_decode.specs.Run.{◌>>=◌}
-use Rattle.rv_decode.specs.Devices.{Loads, Stores, in_devices}
-use Rattle.rv_decode.specs.Effect.{load_width}
+use Rattle.rv_decode.specs.Devices.{in_devices, sent_bytes}
+use Rattle.rv_decode.specs.declared.device_access.DeviceAccess.TheVariants as access
+use Rattle.rv_decode.specs.Effect.{load_width, store_width}
 use Rattle.rv_decode.specs.State.{Event, Exit, Load, Read, Store, Write, ZcCore, ZcState}
 use Rattle.rv_decode.proofs.RunLaws.{bind_ok}
 use Rattle.zc_outside.specs.Course.{EndsWithStop, ExitsAt}
@@ -107,25 +109,25 @@ commit_of z r s (Wants (call.Write fd at len)) shown running made =
     (record { counts = refl; quiet = λ going none. none_more r.events (Write fd bytes) refl none })
 commit_of z r s (Ended status) shown running made = absurd (none-some status (sym running ∙ shown))
 commit_of z r s (Stopped reason) shown running made = absurd cc
-commit_of z r s (Asks (Loads op a rd size)) shown running made = answered (in_devices r.devices a (load_width op)) made
+commit_of z r s (Asks (access.Load op a rd size)) shown running made = answered (in_devices r.devices a (load_width op)) made
   where
     here : ZcState
     here = record r { core = z }
 
-    answered : (b : Bool) → cond b (Ok (device_answers (Loads op a rd size) here)) (Err BadAccess) ≡ Ok s → IsCommit z.commits r.events s
+    answered : (b : Bool) → cond b (Ok (device_answers (access.Load op a rd size) here)) (Err BadAccess) ≡ Ok s → IsCommit z.commits r.events s
     answered true h =
-        left_by z.commits r.events (device_answers (Loads op a rd size) here) s h
+        left_by z.commits r.events (device_answers (access.Load op a rd size) here) s h
         (record { counts = refl; quiet = λ going none. none_more r.events (Load a (load_width op) (take (load_width op) r.input)) refl none })
     answered false h = absurd cc
-commit_of z r s (Asks (Stores a bytes size)) shown running made = answered (in_devices r.devices a (length bytes)) made
+commit_of z r s (Asks (access.Store op a word size)) shown running made = answered (in_devices r.devices a (store_width op)) made
   where
     here : ZcState
     here = record r { core = z }
 
-    answered : (b : Bool) → cond b (Ok (device_answers (Stores a bytes size) here)) (Err BadAccess) ≡ Ok s → IsCommit z.commits r.events s
+    answered : (b : Bool) → cond b (Ok (device_answers (access.Store op a word size) here)) (Err BadAccess) ≡ Ok s → IsCommit z.commits r.events s
     answered true h =
-        left_by z.commits r.events (device_answers (Stores a bytes size) here) s h
-        (record { counts = refl; quiet = λ going none. none_more r.events (Store a bytes) refl none })
+        left_by z.commits r.events (device_answers (access.Store op a word size) here) s h
+        (record { counts = refl; quiet = λ going none. none_more r.events (Store a (sent_bytes op word)) refl none })
     answered false h = absurd cc
 
 turn_commits :
@@ -208,22 +210,22 @@ none_exited happens keeps (suc m) r s came running none =
     let turned = turn_commits happens keeps r parts.0 (running_before happens (suc m) r s came running) parts.1 in
     none_exited rest (keeps_later happens keeps) m parts.0 s parts.2 running (turned.quiet (running_before rest m parts.0 s parts.2 running) none)
 
--- ---- runs
+-- ---- runs without devices
 
 module _ (first : ZcCore) (input : List ℕ) (happens : ℕ → ZcCore → ZcCore) where
   -- the machine's count at the end of a run is that of the commits up to the exit and with it
   pub exit_counted :
       KeepsCount happens → first.exit ≡ None → first.commits ≡ 0 → (steps status : ℕ) (now : ZcCore) (before after : Desk)
-      → Ran happens (course_of first input happens steps) (end.Exit status) now before after
-      → (bytes : List ℕ) × ExitsAt (course_of first input happens steps) now.commits (record { bytes = bytes; status = status }) × Adds before.out after.out bytes
+      → Ran happens (course_of first (only_input input) happens steps) (end.Exit status) now before after
+      → (bytes : List ℕ) × ExitsAt (course_of first (only_input input) happens steps) now.commits (record { bytes = bytes; status = status }) × Adds before.out after.out bytes
   unfolding machine_after_with
   exit_counted keeps running start steps status now before after ran =
       let ended = ran.0 in
       let run = counted happens keeps ended.count (first_state first input) ended.last running ended.state in
-      let bytes = written_to 1 ended.last.events in
+      let bytes = written_to [] 1 ended.last.events in
       let number : now.commits ≡ run.made = ap (λ z. z.commits) ran.1 ∙ omega (arith, run.counts, start) in (
         bytes,
-        subst (λ n. ExitsAt (course_of first input happens steps) n (record { bytes = bytes; status = status })) (sym number) (record {
+        subst (λ n. ExitsAt (course_of first (only_input input) happens steps) n (record { bytes = bytes; status = status })) (sym number) (record {
           within = omega (arith, run.within, ended.within);
           last = ended.last;
           state = run.state;
@@ -237,7 +239,7 @@ module _ (first : ZcCore) (input : List ℕ) (happens : ℕ → ZcCore → ZcCor
   -- a run that comes to an exit isn't stopped
   pub never_stops :
       (m status : ℕ) (z : ZcState) (steps : ℕ) (reason : Reason) (before after : Desk) → machine_after first input happens m ≡ Ok z
-      → z.core.exit ≡ Some status → EndsWithStop (course_of first input happens steps) reason before after → ⊥
+      → z.core.exit ≡ Some status → EndsWithStop (course_of first (only_input input) happens steps) reason before after → ⊥
   unfolding machine_after_with
   never_stops m status z steps reason before after came exits stop = ⊎_elim stays over (cases_lt m (stop.early.count + 1))
     where

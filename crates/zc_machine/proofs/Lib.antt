@@ -14,6 +14,7 @@ pub mod StepLaws
 pub mod FrameLaws
 pub mod TurnLaws
 pub mod OutputLaws
+pub mod AnswerLaws
 pub mod ScheduleLaws
 pub mod RunLaws
 pub mod CountLaws

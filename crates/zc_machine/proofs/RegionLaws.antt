@@ -22,7 +22,7 @@ use Rattle.zc_machine.specs.declared.region.RegionKind.TheVariants as region
 use Rattle.zc_machine.proofs.WriteLaws.{cells_written_at, cells_written_none}
 
 -- two tests agree if each holds where the other does
-same_tests : (b c : Bool) → (b ≡ true → c ≡ true) → (c ≡ true → b ≡ true) → b ≡ c
+pub same_tests : (b c : Bool) → (b ≡ true → c ≡ true) → (c ≡ true → b ≡ true) → b ≡ c
 same_tests true c to from = sym (to refl)
 same_tests false true to from = from refl
 same_tests false false to from = refl

@@ -1,11 +1,17 @@
 -- What each kind of step shows of the state that it is made in.
+use Rattle.std.specs.Int.{w32, cast_unsigned}
 use Rattle.std.specs.Option.{option_map_or}
 use Rattle.std.specs.Prelude.{◌&&◌, ◌||◌}
-use Rattle.std.proofs.Common.{◌≡◌, ℕ, ◌+◌, ◌*◌, ◌/◌, ◌%◌, ◌⊎◌, inl, inr, ⊎_elim, List, [], ◌∷◌, Bool, true, false, cond, eqb, ltb, Option, Some, None, refl, ap, subst, arith}
+use Rattle.std.proofs.Common.{◌≡◌, ℕ, ◌+◌, ◌*◌, ◌/◌, ◌%◌, ◌^◌, ◌≤◌, ◌⊎◌, inl, inr, ⊎_elim, List, [], ◌∷◌, Bool, true, false, cond, eqb, ltb, Option, Some, None, refl, ap, subst, arith}
 use Rattle.std.proofs.lemmas.Bool.{and_parts, eqb-true, or_cases}
 use Rattle.rv_decode.specs.State.{ZcCore, reg_in, word_at}
 use Rattle.rv_decode.specs.Bits.{add32}
-use Rattle.rv_decode.specs.Devices.{Loads, Stores, sent_bytes}
+use Rattle.rv_decode.specs.declared.device_access.DeviceAccess.{DeviceAccess}
+use Rattle.rv_decode.specs.declared.device_access.DeviceAccess.TheVariants as access
+use Rattle.rv_decode.specs.declared.instr.LoadOp.{LoadOp}
+use Rattle.rv_decode.specs.declared.instr.LoadOp.TheVariants.{Lb, Lh, Lw, Lbu, Lhu}
+use Rattle.rv_decode.specs.declared.instr.StoreOp.{StoreOp}
+use Rattle.rv_decode.specs.declared.instr.StoreOp.TheVariants.{Sb, Sh, Sw}
 use Rattle.rv_decode.specs.Effect.{Effect, Commits, BadAccess, Misaligned, effect, Outside, attempting, gives, jumps, load_result, load_width, onward, store_width, stored}
 use Rattle.rv_decode.specs.Memory.{extents_of, is_data, is_text, lies_in}
 use Rattle.rv_decode.specs.declared.instr.Instr.{Instr}
@@ -22,19 +28,33 @@ use Rattle.zc_machine.specs.declared.answer.EnvCall.TheVariants.{Exit, Read, Wri
 use Rattle.zc_machine.proofs.CutLaws.{all_accessed_keeps}
 use Rattle.zc_machine.specs.Buffer.{InMemory}
 use Rattle.zc_machine.specs.Fetch.{Fetched, Found, Missing, fetched_at}
+use Rattle.zc_machine.specs.Shown.{EndsWithin}
 use Rattle.zc_machine.specs.Step.{ZcStep, Committed, Wants, Ended, Stopped, Asks, buffered, called, effect_step, made, zc_step}
 
--- what holds of an access that is made, and of each stop, holds of an access
-pub access_step : (P : ZcStep → Type 0) (z : ZcCore) (n a : ℕ) (other go : Effect) → P (effect_step go z) → P (effect_step other z) → ((reason : Reason) → P (Stopped reason)) → P (effect_step (attempting n a z other go) z)
-access_step P z n a other go made elsewhere stopped = either (eqb (a % n) 0) (lies_in is_data (extents_of z.memory) a n)
+-- what holds of an access that is made, of an aligned one elsewhere, and of each stop, holds of an access
+pub access_step : (P : ZcStep → Type 0) (z : ZcCore) (n a : ℕ) (other go : Effect) → P (effect_step go z) → (eqb (a % n) 0 ≡ true → P (effect_step other z)) → ((reason : Reason) → P (Stopped reason)) → P (effect_step (attempting n a z other go) z)
+access_step P z n a other go made elsewhere stopped = either (eqb (a % n) 0) (lies_in is_data (extents_of z.memory) a n) refl
   where
-    either : (b c : Bool) → P (effect_step (cond b (cond c go other) Misaligned) z)
-    either true true = made
-    either true false = elsewhere
-    either false c = stopped reason.Misaligned
+    either : (b c : Bool) → eqb (a % n) 0 ≡ b → P (effect_step (cond b (cond c go other) Misaligned) z)
+    either true true aligned = made
+    either true false aligned = elsewhere aligned
+    either false c aligned = stopped reason.Misaligned
+
+-- an access at a multiple of its width ends at 2^32 or before
+load_within : (op : LoadOp) (sum : ℕ) → eqb (sum % 2 ^ 32 % load_width op) 0 ≡ true → sum % 2 ^ 32 + load_width op ≤ 2 ^ 32
+load_within Lb sum aligned = omega arith
+load_within Lh sum aligned = omega (arith, eqb-true (sum % 2 ^ 32 % 2) 0 aligned)
+load_within Lw sum aligned = omega (arith, eqb-true (sum % 2 ^ 32 % 4) 0 aligned)
+load_within Lbu sum aligned = omega arith
+load_within Lhu sum aligned = omega (arith, eqb-true (sum % 2 ^ 32 % 2) 0 aligned)
+
+store_within : (op : StoreOp) (sum : ℕ) → eqb (sum % 2 ^ 32 % store_width op) 0 ≡ true → sum % 2 ^ 32 + store_width op ≤ 2 ^ 32
+store_within Sb sum aligned = omega arith
+store_within Sh sum aligned = omega (arith, eqb-true (sum % 2 ^ 32 % 2) 0 aligned)
+store_within Sw sum aligned = omega (arith, eqb-true (sum % 2 ^ 32 % 4) 0 aligned)
 
 -- a commit counts and doesn't exit, the status of an exit is the low byte of a0, what is read and written is told by a0, a1 and
--- a2 and lies in memory, and only an exit ends
+-- a2 and lies in memory, only an exit ends, and a device is asked for no byte beyond 2^32
 abbrev pub Shows : ZcCore → ZcStep → Type 0
 Shows z (Committed z') = (z'.commits ≡ z.commits + 1) × (z'.exit ≡ z.exit)
 Shows z (Wants (Exit status)) = status ≡ reg_in z 10 % 256
@@ -42,7 +62,7 @@ Shows z (Wants (Read at len)) = (at ≡ reg_in z 11) × (len ≡ reg_in z 12) ×
 Shows z (Wants (Write fd at len)) = (at ≡ reg_in z 11) × (len ≡ reg_in z 12) × InMemory z at len × ((fd ≡ 1) ⊎ (fd ≡ 2))
 Shows z (Ended status) = z.exit ≡ Some status
 Shows z (Stopped reason) = Unit {0}
-Shows z (Asks x) = Unit {0}
+Shows z (Asks x) = EndsWithin x
 
 module _ (z : ZcCore) where
   abbrev read : EnvCall
@@ -85,9 +105,11 @@ module _ (z : ZcCore) where
   effect_shows (Jalr rd base imm) size = (refl, refl)
   effect_shows (Branch op first second distance) size = (refl, refl)
   effect_shows (Load op rd base imm) size =
-      let a = add32 (reg_in z base) imm in access_step (Shows z) z (load_width op) a (Outside (Loads op a rd size)) (gives (load_result op z a) rd size z) (refl, refl) tt (λ reason. tt)
+      let a = add32 (reg_in z base) imm in access_step (Shows z) z (load_width op) a (Outside (access.Load op a rd size)) (gives (load_result op z a) rd size z) (refl, refl)
+      (load_within op (reg_in z base + cast_unsigned w32 imm)) (λ reason. tt)
   effect_shows (Store op source base imm) size =
-      let a = add32 (reg_in z base) imm in access_step (Shows z) z (store_width op) a (Outside (Stores a (sent_bytes op (reg_in z source)) size)) (Commits (onward (stored (store_width op) a (reg_in z source) z) size z.regs)) (refl, refl) tt (λ reason. tt)
+      let a = add32 (reg_in z base) imm in access_step (Shows z) z (store_width op) a (Outside (access.Store op a (reg_in z source) size)) (Commits (onward (stored (store_width op) a (reg_in z source) z) size z.regs)) (refl, refl)
+      (store_within op (reg_in z base + cast_unsigned w32 imm)) (λ reason. tt)
   effect_shows (WithImm op rd first imm) size = (refl, refl)
   effect_shows (WithReg op rd first second) size = (refl, refl)
   effect_shows (Fence rest) size = (refl, refl)
@@ -98,7 +120,7 @@ module _ (z : ZcCore) where
   -- a push or pop
   frames_show : (left : ZcCore) (xs : List Access) → (left.commits ≡ z.commits + 1) × (left.exit ≡ z.exit) → Shows z (effect_step (reaching_all xs z (Commits left)) z)
   frames_show left [] shows = shows
-  frames_show left (a ∷ rest) shows = access_step (Shows z) z 4 a.at BadAccess (reaching_all rest z (Commits left)) (frames_show left rest shows) tt (λ reason. tt)
+  frames_show left (a ∷ rest) shows = access_step (Shows z) z 4 a.at BadAccess (reaching_all rest z (Commits left)) (frames_show left rest shows) (λ aligned. tt) (λ reason. tt)
 
   -- the commit of a push or a pop
   framed_shows : (s : Short) → let y = all_accessed s (accesses_of s (reg_in z 2)) z in (y.commits + 1 ≡ z.commits + 1) × (y.exit ≡ z.exit)
@@ -146,3 +168,7 @@ module _ (z : ZcCore) where
   -- a write's buffer lies in memory, and it is to stream 1 or 2
   pub write_shows : (fd at len : ℕ) → zc_step z ≡ Wants (Write fd at len) → (at ≡ reg_in z 11) × (len ≡ reg_in z 12) × InMemory z at len × ((fd ≡ 1) ⊎ (fd ≡ 2))
   write_shows fd at len e = subst (Shows z) e step_shows
+
+  -- an access that is asked ends at 2^32 or before
+  pub asks_within : (x : DeviceAccess) → zc_step z ≡ Asks x → EndsWithin x
+  asks_within x e = subst (Shows z) e step_shows

@@ -4,7 +4,8 @@ use Rattle.std.specs.Option.{option_map_or}
 use Rattle.interrupt_plan.specs.Plan.{Interrupt}
 use Rattle.rv_decode.specs.Run.{◌>>=◌}
 use Rattle.rv_decode.specs.State.{ZcCore, ZcState}
-use Rattle.rv_decode.specs.Devices.{DeviceAccess, Loads, Stores}
+use Rattle.rv_decode.specs.declared.device_access.DeviceAccess.{DeviceAccess}
+use Rattle.rv_decode.specs.declared.device_access.DeviceAccess.TheVariants as access
 use Rattle.rv_decode.proofs.RunLaws.{bind_assoc, bind_ok}
 use Rattle.zc_machine.specs.declared.reason.Reason.{Reason}
 use Rattle.zc_machine.specs.Interrupt.{all_interrupted}
@@ -80,8 +81,8 @@ turn_devices happens r s h = by_exit r.core.exit h
     by_step (Wants (call.Write fd at len)) g = same _ refl g
     by_step (Ended status) g = same here refl g
     by_step (Stopped reason) g = absurd cc
-    by_step (Asks (Loads op a rd size)) g = answered _ (Loads op a rd size) (device_answers (Loads op a rd size) here) refl g
-    by_step (Asks (Stores a bytes size)) g = answered _ (Stores a bytes size) (device_answers (Stores a bytes size) here) refl g
+    by_step (Asks (access.Load op a rd size)) g = answered _ (access.Load op a rd size) (device_answers (access.Load op a rd size) here) refl g
+    by_step (Asks (access.Store op a word size)) g = answered _ (access.Store op a word size) (device_answers (access.Store op a word size) here) refl g
 
     by_exit : (o : Option ℕ) → option_map_or (λ _. Ok r) o (committed (zc_step (happens r.core)) here) ≡ Ok s → s.devices ≡ r.devices
     by_exit None g = by_step (zc_step (happens r.core)) g

@@ -9,16 +9,15 @@ use Rattle.zc_machine.specs.declared.answer.EnvCall.TheVariants.{Exit, Read, Wri
 use Rattle.zc_machine.specs.declared.answer.Step.{Step}
 use Rattle.zc_machine.specs.declared.answer.Step.TheVariants as answer
 use Rattle.zc_machine.specs.Fetch.{Fetched, Found, Missing}
-use Rattle.zc_machine.specs.declared.reason.Reason.TheVariants.{BadAccess}
 use Rattle.zc_machine.specs.Step.{ZcStep, Committed, Wants, Ended, Stopped, Asks}
 
--- the step's answer; the machine as it runs knows no device
+-- the step's answer
 abbrev pub answer_of : ZcStep → Step
 answer_of (Committed z) = answer.Committed
 answer_of (Wants c) = answer.Wants c
 answer_of (Ended status) = answer.Ended status
 answer_of (Stopped reason) = answer.Stopped reason
-answer_of (Asks x) = answer.Stopped BadAccess
+answer_of (Asks x) = answer.Asks x
 
 -- the state after a step from this one
 abbrev pub core_after : ZcStep → ZcCore → ZcCore

@@ -13,6 +13,7 @@ pub mod Interrupt
 pub mod Poked
 pub mod Schedule
 pub mod Run
+pub mod Shown
 pub mod Advance
 pub mod RunEnd
 pub mod Load

@@ -1,10 +1,12 @@
 -- Runs of the machine, with whatever happens to it between its commits.
-use Rattle.std.specs.Prelude.{ℕ, zero, suc, Bool, List, [], ◌∷◌, ◌++◌, length, take, drop, if◌then◌else◌, Result, Ok, Err}
+use Rattle.std.specs.Prelude.{ℕ, zero, suc, Bool, List, [], ◌∷◌, ◌++◌, take, drop, if◌then◌else◌, Result, Ok, Err}
 use Rattle.std.specs.Option.{option_map_or}
 use Rattle.interrupt_plan.specs.Plan.{Interrupt, Entry, interrupts_at}
 use Rattle.rv_decode.specs.Run.{◌>>=◌}
-use Rattle.rv_decode.specs.Devices.{Device, DeviceAccess, Loads, Stores, in_devices, number_from, widened}
-use Rattle.rv_decode.specs.Effect.{load_width, onward}
+use Rattle.rv_decode.specs.Devices.{Device, in_devices, number_from, sent_bytes, widened}
+use Rattle.rv_decode.specs.declared.device_access.DeviceAccess.{DeviceAccess}
+use Rattle.rv_decode.specs.declared.device_access.DeviceAccess.TheVariants as access
+use Rattle.rv_decode.specs.Effect.{load_width, onward, store_width}
 use Rattle.rv_decode.specs.State.{ZcCore, ZcState, Exit, Load, Read, Store, Write, set_reg}
 use Rattle.zc_machine.specs.declared.reason.Reason.TheVariants.{BadAccess}
 use Rattle.zc_machine.specs.declared.reason.Reason.{Reason}
@@ -28,19 +30,20 @@ answered (call.Write fd at len) r =
 -- a device's answer to an access is a commit with an event: a load takes as many bytes of the input as it asks for, or all that are
 -- left, and what comes of them goes to its register; a store changes nothing else
 abbrev pub device_answers : DeviceAccess → ZcState → ZcState
-device_answers (Loads op a rd size) r =
+device_answers (access.Load op a rd size) r =
     let bytes = take (load_width op) r.input in
     record r {
       core = onward r.core size (set_reg r.core.regs rd (widened op (number_from bytes)));
       input = drop (load_width op) r.input;
       events = r.events ++ Load a (load_width op) bytes ∷ [];
     }
-device_answers (Stores a bytes size) r = record r { core = onward r.core size r.core.regs; events = r.events ++ Store a bytes ∷ [] }
+device_answers (access.Store op a word size) r =
+    record r { core = onward r.core size r.core.regs; events = r.events ++ Store a (sent_bytes op word) ∷ [] }
 
 -- whether a device lies where an access goes
 abbrev pub is_answered : List Device → DeviceAccess → Bool
-is_answered devices (Loads op a rd size) = in_devices devices a (load_width op)
-is_answered devices (Stores a bytes size) = in_devices devices a (length bytes)
+is_answered devices (access.Load op a rd size) = in_devices devices a (load_width op)
+is_answered devices (access.Store op a word size) = in_devices devices a (store_width op)
 
 -- an access outside memory
 abbrev pub asked : DeviceAccess → ZcState → Result ZcState Reason

@@ -1,5 +1,6 @@
 -- How a run ends, and what it has then written.
 use Rattle.std.specs.Prelude.{◌≡◌, ℕ, List}
+use Rattle.devices.specs.Environment.{Environment, only_input}
 use Rattle.interrupt_plan.specs.Plan.{Entry}
 use Rattle.rv_decode.specs.EventBytes.{written_to}
 use Rattle.rv_decode.specs.State.{ZcCore, ZcState}
@@ -8,20 +9,20 @@ use Rattle.zc_outside.specs.Desk.{Desk}
 use Rattle.zc_machine.specs.declared.reason.Reason.{Reason}
 use Rattle.zc_machine.specs.declared.run.RunEnd.{RunEnd}
 use Rattle.zc_machine.specs.declared.run.RunEnd.TheVariants as end
-use Rattle.zc_machine.specs.Run.{interrupts_by, machine_after}
+use Rattle.zc_machine.specs.Run.{interrupts_by, machine_after_with}
 
--- the run from this core over this input, of at most `steps` commits, with what happens before each of them
-abbrev pub course_of : ZcCore → List ℕ → (ℕ → ZcCore → ZcCore) → ℕ → Course ZcState Reason
-course_of first input happens steps = record {
-  after = machine_after first input happens;
+-- the run from this core in this environment, of at most `steps` commits, with what happens before each of them
+abbrev pub course_of : ZcCore → Environment → (ℕ → ZcCore → ZcCore) → ℕ → Course ZcState Reason
+course_of first e happens steps = record {
+  after = machine_after_with first e.devices.ranges e.input happens;
   exit = λ s. s.core.exit;
-  written = λ s stream. written_to stream s.events;
+  written = λ s stream. written_to e.devices.outputs stream s.events;
   steps = steps;
 }
 
--- the run from this core over this input, of at most `steps` commits, under a plan
+-- the run from this core over this input, without devices, of at most `steps` commits, under a plan
 abbrev pub zc_course : ZcCore → List ℕ → List Entry → ℕ → Course ZcState Reason
-zc_course first input plan steps = course_of first input (interrupts_by plan) steps
+zc_course first input plan steps = course_of first (only_input input) (interrupts_by plan) steps
 
 -- a run came to this end and left the machine like this, and what it wrote up to there stands: the program exited; the machine
 -- stopped, and is left as it is after what happens before the commit that doesn't come; all commits were made, and what happens

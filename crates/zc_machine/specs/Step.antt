@@ -2,7 +2,7 @@
 use Rattle.std.specs.Prelude.{ℕ, ◌%◌, ◌==◌, ◌&&◌, ◌||◌, if◌then◌else◌}
 use Rattle.std.specs.Option.{option_map_or}
 use Rattle.rv_decode.specs.Memory.{extents_of, is_data, lies_in}
-use Rattle.rv_decode.specs.Devices.{DeviceAccess}
+use Rattle.rv_decode.specs.declared.device_access.DeviceAccess.{DeviceAccess}
 use Rattle.rv_decode.specs.State.{ZcCore, reg_in}
 use Rattle.rv_decode.specs.Effect as act
 use Rattle.rv_decode.specs.Effect.{Effect}

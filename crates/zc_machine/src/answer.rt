@@ -1,6 +1,7 @@
 // What a step of the machine answers.
 
 use crate::reason::Reason;
+use rv_decode::device_access::DeviceAccess;
 
 /// An environment call that the machine knows, whose buffer lies in its memory. `at` is the buffer's
 /// address and `len` its length in bytes; an exit has the status.
@@ -12,11 +13,12 @@ pub enum EnvCall {
 }
 
 /// What one step comes to: an instruction was committed, or nothing changed, since the program wants
-/// an environment call, has ended, or is stopped.
+/// an environment call, has ended, or is stopped, or since it loads or stores outside memory, where a device may lie.
 #[derive(Clone, Copy)]
 pub enum Step {
     Committed,
     Wants(EnvCall),
     Ended(u8),
     Stopped(Reason),
+    Asks(DeviceAccess),
 }

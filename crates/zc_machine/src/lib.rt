@@ -6,6 +6,7 @@ pub mod answer;
 pub mod between;
 mod cells;
 mod code;
+mod device_access;
 mod load;
 pub mod machine;
 mod memory;

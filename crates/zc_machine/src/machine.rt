@@ -15,6 +15,7 @@ ghost use Rattle.zc_machine.specs.Step.{effect_step, zc_step};
 
 mod accesses;
 mod calls;
+mod device_answers;
 mod frames;
 mod interrupts;
 mod jumps;

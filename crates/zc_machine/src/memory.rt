@@ -1,7 +1,7 @@
 // The machine's memory.
 
-ghost use Rattle.std.specs.Prelude.{◌≡◌, ◌+◌, ◌<◌, ◌≤◌, ◌^◌, if◌then◌else◌, IfSome, false, true, length, slice_index};
-ghost use Rattle.rv_decode.specs.Memory.{Text, changed, extents_of, lies_in, written};
+ghost use Rattle.std.specs.Prelude.{◌≡◌, ℕ, ◌+◌, ◌<◌, ◌≤◌, ◌^◌, if◌then◌else◌, Bool, IfSome, false, true, length, slice_index};
+ghost use Rattle.rv_decode.specs.Memory.{Kind, Text, changed, extents_of, lies_in, written};
 ghost use Rattle.zc_machine.specs.Answer.{fetched_as};
 ghost use Rattle.zc_machine.specs.Fetch.{Found};
 ghost use Rattle.zc_machine.specs.Memory.{AreApart, Fetches, Reaches};
@@ -40,6 +40,15 @@ impl Memory {
         ensures { result ≡ regions.items }
     {
         Memory { regions, last: 0 }
+    }
+
+    /// Says where cells lie, for the proof of a caller that needs none of them. Nothing runs.
+    #[inline]
+    pub fn recall_invariant(&self)
+        ensures { (fits : Kind → Bool) → (a : ℕ) → (n : ℕ) → lies_in fits (extents_of self.now) a n ≡ true
+            → a + n ≤ 2 ^ 32 }
+    {
+        let _count = self.regions.len();
     }
 
     /// Whether `count` cells from an address on lie in one region, and an access may reach them.

@@ -33,8 +33,8 @@ pub fn write<C: Console>(
     Ok(())
 }
 
-// Writes a piece that isn't empty.
-fn put<C: Console>(fd: u8, piece: &[u8], console: &mut C) -> Result<(), ConsoleFault>
+/// Writes a piece that isn't empty.
+pub fn put<C: Console>(fd: u8, piece: &[u8], console: &mut C) -> Result<(), ConsoleFault>
     requires stream { (fd ≡ 1) ⊎ (fd ≡ 2) }
     requires some { 0 < length piece.now }
     ensures ok { OnOk result (WroteTo fd piece.now (C.shown console.old) (C.shown console.new)) }

@@ -8,10 +8,12 @@ ghost use Rattle.zc_outside.specs.Desk.{OnlyWrites};
 
 use crate::answer::{EnvCall, Step};
 use crate::between::BetweenCommits;
+use crate::device_access::{is_answered, show};
 use crate::machine::Machine;
 use crate::output::write;
 use crate::reason::Reason;
 use crate::schedule_cursor::ScheduleCursor;
+use devices::environment::Environment;
 use interrupt_plan::plan::Plan;
 use zc_outside::console::{Console, ConsoleFault};
 
@@ -41,33 +43,42 @@ pub fn run<C: Console>(
         (C.shown console.old) (C.shown console.new) }
     ensures writes { OnlyWrites (C.shown console.old) (C.shown console.new) }
 {
-    run_with(machine, ScheduleCursor::new(plan), input, steps, console)
+    let environment = Environment::of_input(input);
+    run_with(
+        machine,
+        ScheduleCursor::new(plan),
+        environment,
+        steps,
+        console,
+    )
 }
 
-/// Runs a machine as `run` does, with whatever happens between its commits.
+/// Runs a machine as `run` does, in an environment and with whatever happens between its commits. A device answers a load
+/// with bytes from the front of the input, and a byte that is stored at an address for output goes to the console.
 pub fn run_with<B: BetweenCommits + Drop, C: Console>(
     machine: &mut Machine,
     mut between: B,
-    input: &[u8],
+    environment: Environment<'_>,
     steps: u64,
     console: &mut C,
 ) -> RunEnd
     requires running { machine.old.exit ≡ None }
     requires start { machine.old.commits ≡ 0 }
-    ensures ran { Ran (B.happens between) (course_of machine.old input.now (B.happens between) steps) result
+    ensures ran { Ran (B.happens between) (course_of machine.old environment.entry (B.happens between) steps) result
         machine.new (C.shown console.old) (C.shown console.new) }
     ensures writes { OnlyWrites (C.shown console.old) (C.shown console.new) }
 {
-    let mut left = input;
+    let Environment {
+        devices,
+        mut answers,
+    } = environment;
     while machine.commits() < steps {
         between.act_on(machine);
         let until = between.next_commit().min(steps);
         match advance(machine, until) {
             Step::Committed => {}
-            Step::Wants(EnvCall::Read { len, .. }) => {
-                let (front, rest) = left.split_at((len as usize).min(left.len()));
-                machine.answer_read(front);
-                left = rest;
+            Step::Wants(EnvCall::Read { .. }) => {
+                machine.answer_read_from(&mut answers);
             }
             Step::Wants(EnvCall::Write { fd, at, len }) => {
                 if let Err(fault) = write(machine, fd, at, len, console) {
@@ -81,6 +92,15 @@ pub fn run_with<B: BetweenCommits + Drop, C: Console>(
             }
             Step::Ended(status) => return RunEnd::Exit(status),
             Step::Stopped(reason) => return RunEnd::Stopped(reason),
+            Step::Asks(access) => {
+                if !is_answered(&devices, &access) {
+                    return RunEnd::Stopped(Reason::BadAccess);
+                }
+                if let Err(fault) = show(&devices, &access, console) {
+                    return RunEnd::Console(fault);
+                }
+                machine.answer_access(&access, &mut answers);
+            }
         }
     }
     RunEnd::Spent

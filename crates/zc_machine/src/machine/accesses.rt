@@ -12,6 +12,7 @@ use crate::cells::loaded;
 use crate::memory::Memory;
 use crate::reason::Reason;
 use crate::region::AccessKind;
+use rv_decode::device_access::DeviceAccess;
 use rv_decode::instr::{LoadOp, StoreOp};
 use zc_base::reg::Reg;
 
@@ -28,7 +29,12 @@ impl Machine {
         }
         match loaded(op, self.memory.reach(AccessKind::Data, a)) {
             Some(value) => self.give(value, rd, size),
-            None => Step::Stopped(Reason::BadAccess),
+            None => Step::Asks(DeviceAccess::Load {
+                op,
+                at: a,
+                rd,
+                size,
+            }),
         }
     }
 
@@ -45,7 +51,12 @@ impl Machine {
         if put(&mut self.memory, op, a, word) {
             self.go_on(size)
         } else {
-            Step::Stopped(Reason::BadAccess)
+            Step::Asks(DeviceAccess::Store {
+                op,
+                at: a,
+                word,
+                size,
+            })
         }
     }
 }

@@ -2,7 +2,7 @@ use Rattle.std.proofs.Common.{◌≡◌, Some, sym, ap, subst, ◌∙◌, ◌%�
 use Rattle.std.proofs.lemmas.Bool.{eqb-true}
 use Rattle.std.proofs.lemmas.Option.{cond_some}
 use Rattle.rv_decode.specs.Effect.{Effect, Outside, gives, load_result, load_width}
-use Rattle.rv_decode.specs.Devices.{Loads}
+use Rattle.rv_decode.specs.declared.device_access.DeviceAccess.TheVariants as access
 use Rattle.rv_decode.specs.Memory.{extents_of, is_data, lies_in}
 use Rattle.rv_decode.specs.State.{ZcCore}
 use Rattle.zc_machine.specs.Answer.{core_after}
@@ -26,7 +26,7 @@ returns-in-Some-clause-state c =
     let aligned : eqb (a % load_width op) 0 ≡ true = cc c.if-not-is_aligned_load.ensures in
     let lies : Bool = lies_in is_data (extents_of z.memory) a (load_width op) in
     let q : (lies ≡ true) × (load_result op z a ≡ value) = cond_some lies (load_result op z a) value (sym (reach_loaded z a op cells (subst P c.self.view_is c.reach.ensures) (eqb-true (a % load_width op) 0 aligned)) ∙ given) in
-    let made = reaching-made (load_width op) a z (Outside (Loads op a c.args.rd c.args.size)) (gives (load_result op z a) c.args.rd c.args.size z) aligned q.0 in
+    let made = reaching-made (load_width op) a z (Outside (access.Load op a c.args.rd c.args.size)) (gives (load_result op z a) c.args.rd c.args.size z) aligned q.0 in
     c.give.ensures.state
     ∙ ap (λ v. core_after (effect_step (gives v c.args.rd c.args.size z) z) z) (sym q.1)
     ∙ ap (λ (e : Effect). core_after (effect_step e z) z) (sym made)
