@@ -11,6 +11,7 @@ use Rattle.elf32_read.specs.Image.{image_fault}
 use Rattle.elf32_read.specs.Places.{place_list}
 use Rattle.elf32_read.specs.Segments.{segments_of}
 use Rattle.elf32_read.specs.declared.image_fault.ImageFault.{ImageFault}
+use Rattle.devices.specs.Environment.{only_input}
 use Rattle.interrupt_plan.specs.Plan.{Entry, IsPlan}
 use Rattle.psabi_sym.specs.Faults.{first_some, gather_fault}
 use Rattle.psabi_sym.specs.Inputs.{Inputs, parsed}
@@ -131,11 +132,11 @@ eventually_exits files elf preserves count exit traced plan is_plan =
 pub trace_exits :
     (inputs : Inputs) (s : PlainCore) (last : TraceEnd) (status count : ℕ) (before after : ConsoleState)
     → s ≡ first_plain (program_of (parsed inputs)) [] → last ≡ trace.Exited status → before.out ≡ []
-    → CountsSteps (plain_course (program_of (parsed inputs)) s.input LOAD_STEPS) last count (desk_of before) (desk_of after)
+    → CountsSteps (plain_course (program_of (parsed inputs)) (only_input s.input) LOAD_STEPS) last count (desk_of before) (desk_of after)
     → IsTraced inputs count (record { bytes = after.out; status = status })
 trace_exits inputs s last status count before after first exited empty counts =
     let p = program_of (parsed inputs) in
-    let here = subst (λ (x : PlainCore). CountsSteps (plain_course p x.input LOAD_STEPS) last count (desk_of before) (desk_of after)) first counts in
+    let here = subst (λ (x : PlainCore). CountsSteps (plain_course p (only_input x.input) LOAD_STEPS) last count (desk_of before) (desk_of after)) first counts in
     let counted : IsCounted (trace_run inputs) count status (desk_of before) (desk_of after) =
     subst (λ x. CountsSteps (trace_run inputs) x count (desk_of before) (desk_of after)) exited here in
     let same : after.out ≡ counted.bytes = counted.wrote ∙ ap (λ out. out ++ counted.bytes) empty in

@@ -2,6 +2,7 @@
 use Rattle.std.specs.Prelude.{◌≡◌, ℕ, List, [], ◌∷◌, ◌++◌, Some, Ok}
 use Rattle.zc_base.specs.MemMap.{standard_map}
 use Rattle.zc_base.specs.declared.place.Place.{Place}
+use Rattle.devices.specs.Environment.{only_input}
 use Rattle.interrupt_plan.specs.Plan.{Entry}
 use Rattle.psabi_sym.specs.Inputs.{Inputs, inputs_in, parsed}
 use Rattle.rv_decode.specs.State as event
@@ -22,7 +23,7 @@ standard_inputs files = inputs_in standard_map files
 
 -- the run of the objects' program
 abbrev pub trace_run : Inputs → Course PlainState (Place × Why)
-trace_run inputs = plain_course (program_of (parsed inputs)) [] LOAD_STEPS
+trace_run inputs = plain_course (program_of (parsed inputs)) (only_input []) LOAD_STEPS
 
 -- the run of an image under a plan
 abbrev pub image_run : List ℕ → List Entry → Course ZcState Reason

@@ -27,7 +27,7 @@ pub fn trace(alloc: Global, cut: &Cut) -> Result<Ended, LoadEnd>
 }
 
 // Traces the program from its start.
-fn trace_start(alloc: Global, cut: &Cut, sym: &mut Sym) -> Result<Ended, LoadEnd>
+fn trace_start(alloc: Global, cut: &Cut, sym: &mut Sym<'_>) -> Result<Ended, LoadEnd>
     requires { sym.old ≡ first_plain (program_of (parsed cut.now)) [] }
     ensures ok { IfOk result (λ ended. IsTraced cut.now ended.count ended.exit) }
     ensures err { IfErr result (TraceCause cut.now) }

@@ -12,6 +12,7 @@ use elf32_read::image::Image;
 use file::file_of;
 use interrupt_plan::plan::empty_plan;
 use rows::{AGAIN, HALFWORDS, PAGES, PROGRAMS, STEPS};
+use rv_decode::device_access::DeviceAccess;
 use std::alloc::{AllocError, Global};
 use std::process::Abort;
 use std::test::Fail;
@@ -230,6 +231,18 @@ fn step_text(alloc: Global, machine: &mut Machine) -> Result<String, AllocError>
         Step::Ended(status) => format!(in alloc; "ended {status}"),
         Step::Stopped(reason) => {
             format!(in alloc; "stopped {} {}", reason.number(), reason.name())
+        }
+        Step::Asks(access) => access_text(alloc, &access),
+    }
+}
+
+fn access_text(alloc: Global, access: &DeviceAccess) -> Result<String, AllocError> {
+    match access {
+        DeviceAccess::Load { op, at, rd, size } => {
+            format!(in alloc; "asks {op:?} {at:x} {} {size}", rd.number())
+        }
+        DeviceAccess::Store { op, at, word, size } => {
+            format!(in alloc; "asks {op:?} {at:x} {word:x} {size}")
         }
     }
 }

@@ -1,11 +1,9 @@
 // The symbolic machine: small objects, from their bytes to the ends of their runs. Expected results are worked out by
 // the manual.
 
-ghost use Rattle.std.specs.Prelude.{◌≡◌, IfOk};
 ghost use Rattle.psabi_sym.specs.Inputs.{parsed};
 ghost use Rattle.sym_machine.specs.Kept.{IsOf};
 ghost use Rattle.sym_machine.specs.Objects.{program_of};
-ghost use Rattle.sym_machine.specs.State.{first_plain};
 
 pub mod object;
 pub mod parts;
@@ -48,21 +46,13 @@ fn cut_of(alloc: Global, row: &str) -> Result<Cut, Fail> {
     Ok(Cut::new(alloc, objects)?)
 }
 
-// The machine at the start of a cut, with the input of a row.
-fn start(alloc: Global, cut: &Cut, row: &str) -> Result<Sym, Fail>
-    ensures first { IfOk result (λ sym. sym ≡ first_plain (program_of (parsed cut.now)) sym.input) }
-    ensures of { IfOk result (λ sym. IsOf (program_of (parsed cut.now)) sym) }
-{
-    let input = bytes_of(alloc, column(row, "in"))?;
-    Ok(Sym::start(alloc, cut, input.as_slice())?)
-}
-
 // Runs a cut as a row says, and returns how the run ended and what it wrote.
 fn ran(alloc: Global, cut: &Cut, row: &str) -> Result<String, Fail> {
     let steps = u64::from(number_of(row, "steps")?);
     let fails = [number_of(row, "fails")?];
     let mut console = MemConsole::new(alloc, b"", &fails)?;
-    let mut sym = start(alloc, cut, row)?;
+    let input = bytes_of(alloc, column(row, "in"))?;
+    let mut sym = Sym::start(alloc, cut, input.as_slice())?;
     let end = run(&mut sym, cut, steps, &mut console);
     ended(alloc, end, &console)
 }
@@ -197,7 +187,7 @@ fn runs_go_from_section_to_section(rt: HostRuntime) -> Result<(), Fail> {
 }
 
 // Makes a step, and returns its result as text.
-fn step_text(alloc: Global, sym: &mut Sym, cut: &Cut) -> Result<String, AllocError>
+fn step_text(alloc: Global, sym: &mut Sym<'_>, cut: &Cut) -> Result<String, AllocError>
     requires { IsOf (program_of (parsed cut.now)) sym.old }
     ensures { IsOf (program_of (parsed cut.now)) sym.new }
 {
@@ -205,6 +195,8 @@ fn step_text(alloc: Global, sym: &mut Sym, cut: &Cut) -> Result<String, AllocErr
         SymStep::Done => String::from_str(alloc, "done"),
         SymStep::Read { count } => format!(in alloc; "read {count}"),
         SymStep::Wrote { fd, bytes } => format!(in alloc; "wrote {fd} {bytes:?}"),
+        SymStep::Loaded { at, .. } => format!(in alloc; "loaded {at:x}"),
+        SymStep::Stored(sent) => format!(in alloc; "stored {:x} {:x}", sent.at, sent.word),
         SymStep::Exited(status) => format!(in alloc; "exited {status:x}"),
         SymStep::Stuck(place, why) => stuck_text(alloc, place, why),
     }
@@ -212,7 +204,8 @@ fn step_text(alloc: Global, sym: &mut Sym, cut: &Cut) -> Result<String, AllocErr
 
 // Makes the steps of a row: their results should be as the row says.
 fn expect_steps<R: Abort + AllocGlobal>(rt: &R, cut: &Cut, row: &str) -> Result<(), Fail> {
-    let mut sym = start(rt.alloc(), cut, row)?;
+    let input = bytes_of(rt.alloc(), column(row, "in"))?;
+    let mut sym = Sym::start(rt.alloc(), cut, input.as_slice())?;
     for want in column(row, "answers").split(';') {
         let answer = step_text(rt.alloc(), &mut sym, cut)?;
         assert_eq!(rt; answer.as_str(), want.trim(), "{row}");

@@ -3,6 +3,8 @@ pub mod StepLaws
 pub mod PageLaws
 pub mod MemoryLaws
 mod NumberLaws
+mod FillLaws
+mod DeviceLaws
 pub mod StateLaws
 pub mod FrameLaws
 pub mod PushPopLaws

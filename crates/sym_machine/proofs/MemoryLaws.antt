@@ -1,5 +1,5 @@
 -- Memory as it is kept: what a byte is, and which changes of what is kept are changes of memory.
-use Rattle.std.proofs.Common.{◌≡◌, ℕ, ◌+◌, ◌-◌, ◌<◌, ◌≤◌, ⊎_elim, List, [], ◌∷◌, length, get_or, Bool, true, false, cond, refl, sym, ap, ◌∙◌, arith, leb, ltb, ◌⊎◌, inl, inr}
+use Rattle.std.proofs.Common.{◌≡◌, ℕ, ◌+◌, ◌-◌, ◌<◌, ◌≤◌, ⊎_elim, List, [], ◌∷◌, length, get_or, Bool, true, false, cond, refl, sym, ap, ◌∙◌, subst, arith, leb, ltb, ◌⊎◌, inl, inr}
 use Rattle.std.specs.Prelude.{◌&&◌, ◌||◌}
 use Rattle.std.proofs.lemmas.Bool.{and_from, and_parts, cases_lt, cond-false, cond-true, le-leb, leb-true, lt-ltb, ltb-true}
 use Rattle.std.proofs.lemmas.List.{get_or_default, get_or_past, same_lists}
@@ -12,7 +12,7 @@ use Rattle.sym_machine.specs.declared.word.SymByte.TheVariants.{Undef}
 use Rattle.sym_machine.specs.Kept.{IsChanged, IsKept, Kept, above_only, kept_from, regions_of}
 use Rattle.sym_machine.specs.Pages.{AreCellsWritten}
 use Rattle.sym_machine.specs.Step.{undefined_below}
-use Rattle.sym_machine.proofs.WrittenLaws.{not_below, written_more}
+use Rattle.sym_machine.proofs.WrittenLaws.{not_below, written_further}
 
 -- ---- cells
 
@@ -159,22 +159,35 @@ module _ (a : ℕ) (given : ℕ → SymByte) where
   pub write_none : (k : Kept) → IsKept k → IsChanged (written a 0 given) k k
   write_none k is = stored_nowhere k is a 0 given (λ j lt l h. omega (arith, l, h)) (λ j lt kept l h. omega (arith, l, h))
 
-  pub write_more : (n : ℕ) (k k' k'' : Kept) → IsChanged (written a n given) k k' → IsChanged (written (a + n) 1 (λ _. given n)) k' k'' → IsChanged (written a (n + 1) given) k k''
-  write_more n k k' k'' first second = record {
+  -- n bytes, and then m more behind them
+  pub write_further : (n m : ℕ) (rest : ℕ → SymByte) → ((j : ℕ) → j < m → rest j ≡ given (n + j)) → (k k' k'' : Kept)
+      → IsChanged (written a n given) k k' → IsChanged (written (a + n) m rest) k' k'' → IsChanged (written a (n + m) given) k k''
+  write_further n m rest same k k' k'' first second = record {
     kept = second.kept;
     map = second.map ∙ first.map;
     from = second.from ∙ first.from;
     regions = second.regions
-        ∙ (λ j. changed (λ x c. undefined_below (first.map j) (first.from j) x (written (a + n) 1 (λ _. given n) x c)) (first.regions j))
-        ∙ changed-after (above_only k (written (a + n) 1 (λ _. given n))) (above_only k (written a n given)) (above_only k (written a (n + 1) given)) both (regions_of k);
+        ∙ (λ j. changed (λ x c. undefined_below (first.map j) (first.from j) x (written (a + n) m rest x c)) (first.regions j))
+        ∙ changed-after (above_only k (written (a + n) m rest)) (above_only k (written a n given)) (above_only k (written a (n + m) given)) both (regions_of k);
   }
     where
-      both : (x : ℕ) (c : SymByte) → above_only k (written (a + n) 1 (λ _. given n)) x (above_only k (written a n given) x c) ≡ above_only k (written a (n + 1) given) x c
+      both : (x : ℕ) (c : SymByte) → above_only k (written (a + n) m rest) x (above_only k (written a n given) x c) ≡ above_only k (written a (n + m) given) x c
       both x c = either (leb k.map.stack_low x && ltb x (kept_from k))
         where
-          either : (b : Bool) → cond b Undef (written (a + n) 1 (λ _. given n) x (cond b Undef (written a n given x c))) ≡ cond b Undef (written a (n + 1) given x c)
+          either : (b : Bool) → cond b Undef (written (a + n) m rest x (cond b Undef (written a n given x c))) ≡ cond b Undef (written a (n + m) given x c)
           either true = refl
-          either false = written_more a n given x c
+          either false = written_further a n m given rest same x c
+
+  pub write_more : (n : ℕ) (k k' k'' : Kept) → IsChanged (written a n given) k k' → IsChanged (written (a + n) 1 (λ _. given n)) k' k'' → IsChanged (written a (n + 1) given) k k''
+  write_more n k k' k'' first second = write_further n 1 (λ _. given n) (λ j lt. ap given (let e : n ≡ n + j = omega (arith, lt) in e)) k k' k'' first second
+
+  -- a write goes only by its own bytes
+  pub write_same : (n : ℕ) (rest : ℕ → SymByte) → ((j : ℕ) → j < n → rest j ≡ given j) → (k k' : Kept) → IsKept k → IsChanged (written a n rest) k k' → IsChanged (written a n given) k k'
+  write_same n rest same k k' is new =
+      let here : a ≡ a + 0 = omega arith in
+      let all : 0 + n ≡ n = omega arith in
+      subst (λ (m : ℕ). IsChanged (written a m given) k k') all
+      (write_further 0 n rest (λ j lt. same j lt ∙ ap given (let e : j ≡ 0 + j = omega arith in e)) k k k' (write_none k is) (subst (λ (b : ℕ). IsChanged (written b n rest) k k') here new))
 
 -- ---- what is there
 

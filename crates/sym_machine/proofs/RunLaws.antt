@@ -1,7 +1,9 @@
 -- Runs of the symbolic machine, one step at a time.
 use Rattle.std.specs.Option.{option_map_or}
 use Rattle.std.specs.Prelude.{◌⊎◌}
-use Rattle.std.proofs.Common.{◌≡◌, ℕ, zero, suc, ◌+◌, ◌-◌, ◌<◌, ◌≤◌, List, [], ◌∷◌, ◌++◌, Option, Some, None, Ok, Err, refl, ap, sym, ◌∙◌, inl, inr, ⊎_elim, arith}
+use Rattle.std.proofs.Common.{◌≡◌, ℕ, zero, suc, ◌+◌, ◌-◌, ◌<◌, ◌≤◌, List, [], ◌∷◌, ◌++◌, Option, Some, None, Result, Ok, Err, refl, ap, sym, ◌∙◌, inl, inr, ⊎_elim, arith, cond, eqb}
+use Rattle.std.proofs.lemmas.Bool.{ne_eqb}
+use Rattle.std.proofs.lemmas.Bool.Decides.{eqb_tells}
 use Rattle.std.proofs.lemmas.List.{append-nil}
 use Rattle.zc_base.specs.declared.mem_map.MemMap.{MemMap}
 use Rattle.zc_base.specs.declared.place.Place.{Place}
@@ -10,11 +12,12 @@ use Rattle.rv_decode.specs.declared.instr.Instr.{Instr}
 use Rattle.rv_decode.specs.Devices.{Device}
 use Rattle.rv_decode.specs.Memory.{extents_of}
 use Rattle.rv_decode.specs.Run.{iterate, ◌>>=◌}
-use Rattle.rv_decode.specs.State.{Event, Exit, Read, Write}
-use Rattle.rv_decode.specs.EventBytes.{bytes_to, written_to}
+use Rattle.rv_decode.specs.State.{Event, Exit, Load, Read, Store, Write}
+use Rattle.rv_decode.specs.EventBytes.{bytes_to, shown_bytes, written_to}
 use Rattle.rv_decode.proofs.RunLaws.{bind_ok, iterate-add, iterate-one}
 use Rattle.rv_decode.proofs.EventLaws.{written_to-more}
-use Rattle.zc_outside.specs.Course.{EndsAfter, EndsEarly, WrotePart, WroteTo}
+use Rattle.devices.specs.Environment.{Environment}
+use Rattle.zc_outside.specs.Course.{EndsAfter, EndsEarly, WrotePart, WroteTo, sent}
 use Rattle.zc_outside.specs.Desk.{Desk, WriteCause, Wrote}
 use Rattle.zc_outside.specs.declared.console.ConsoleFault.{ConsoleFault}
 use Rattle.zc_outside.proofs.Desk.{Wrote-append, Wrote-none}
@@ -26,12 +29,12 @@ use Rattle.sym_machine.specs.Devices.{device_does, does_with}
 use Rattle.sym_machine.specs.Advance.{RunsTo}
 use Rattle.sym_machine.specs.Kept.{IsOf}
 use Rattle.sym_machine.specs.Program.{Program}
-use Rattle.sym_machine.specs.Run.{plain_turn, program_after, recorded, program_after_with}
+use Rattle.sym_machine.specs.Run.{plain_turn, program_after_with, recorded}
 use Rattle.sym_machine.specs.RunEnd.{IsCounted, Traced, plain_course}
 use Rattle.sym_machine.specs.State.{PlainCore, PlainState, first_plain}
 use Rattle.sym_machine.specs.Expansions.{item_expansion}
 use Rattle.sym_machine.specs.Step.{PlainStep, Went, Stuck, after_change, ends, applied, in_turn, item_step, plain_step, step_with}
-use Rattle.sym_machine.proofs.StepLaws.{Ended, does_there, ended, extents-step, step_past_exit, step_expansion, step_single}
+use Rattle.sym_machine.proofs.StepLaws.{Ended, does_there, ended, extents-step, goes_with, step_past_exit, step_expansion, step_single}
 
 -- ---- a turn, taken apart
 
@@ -151,71 +154,106 @@ all_stay p (suc n) r r' status exited h =
     let rest = all_stay p n first.0 r' status (ap (λ s. s.exit) one.0 ∙ exited) first.2 in
     (rest.0 ∙ one.0, rest.1 ∙ one.1)
 
+-- ---- a turn, put together
+
+-- a state of a run in an environment
+abbrev pub state_in : Environment → PlainCore → List Event → PlainState
+state_in e s events = record { core = s; events = events; devices = e.devices.ranges }
+
+-- the state of a run there after some steps
+abbrev pub after_in : Program → Environment → ℕ → Result PlainState (Place × Why)
+after_in p e count = program_after_with p e.devices.ranges e.input count
+
+-- a step there
+abbrev pub step_in : Program → Environment → PlainCore → PlainStep
+step_in p e s = step_with e.devices.ranges p s
+
 -- a program that hasn't exited after some steps hadn't before
 pub running_before :
-    (p : Program) (input : List ℕ) (count k : ℕ) (r s : PlainState) → program_after p input count ≡ Ok r → r.core.exit ≡ None → k ≤ count
-    → program_after p input k ≡ Ok s → s.core.exit ≡ None
+    (p : Program) (e : Environment) (count k : ℕ) (r s : PlainState) → after_in p e count ≡ Ok r → r.core.exit ≡ None → k ≤ count
+    → after_in p e k ≡ Ok s → s.core.exit ≡ None
 unfolding program_after_with
-running_before p input count k r s at running within before =
-    let start : PlainState = record { core = first_plain p input; events = []; devices = [] } in
+running_before p e count k r s at running within before =
+    let start : PlainState = state_in e (first_plain p e.input) [] in
     let sum : k + (count - k) ≡ count = omega (arith, within) in
     let rest : iterate (plain_turn p) (count - k) s ≡ Ok r =
     sym (ap (λ q. q >>= iterate (plain_turn p) (count - k)) before) ∙ sym (iterate-add (plain_turn p) k (count - k) start)
     ∙ ap (λ n. iterate (plain_turn p) n start) sum ∙ at in
     by rest s.core.exit refl
   where
-    by : iterate (plain_turn p) (count - k) s ≡ Ok r → (e : Option ℕ) → s.core.exit ≡ e → s.core.exit ≡ None
+    by : iterate (plain_turn p) (count - k) s ≡ Ok r → (o : Option ℕ) → s.core.exit ≡ o → s.core.exit ≡ None
     by rest None is = is
     by rest (Some status) is = let same = all_stay p (count - k) s r status is rest in ap (λ c. c.exit) (sym same.0) ∙ running
 
--- ---- a turn, put together
-
 -- a step with its events
-went_turn : (p : Program) (s s' : PlainCore) (before events : List Event) → plain_step p s ≡ Went s' events → plain_turn p (record { core = s; events = before; devices = [] }) ≡ Ok (record { core = s'; events = before ++ events; devices = [] })
+went_turn : (p : Program) (e : Environment) (s s' : PlainCore) (before events : List Event) → step_in p e s ≡ Went s' events → plain_turn p (state_in e s before) ≡ Ok (state_in e s' (before ++ events))
 unfolding plain_turn
-went_turn p s s' before events went = ap (λ t. recorded t (record { core = s; events = before; devices = [] })) went
+went_turn p e s s' before events went = ap (λ t. recorded t (state_in e s before)) went
 
 -- a step that is stuck
-stuck_turn : (p : Program) (s : PlainCore) (before : List Event) (why : Why) → plain_step p s ≡ Stuck why → plain_turn p (record { core = s; events = before; devices = [] }) ≡ Err (s.place, why)
+stuck_turn : (p : Program) (e : Environment) (s : PlainCore) (before : List Event) (why : Why) → step_in p e s ≡ Stuck why → plain_turn p (state_in e s before) ≡ Err (s.place, why)
 unfolding plain_turn
-stuck_turn p s before why stuck = ap (λ t. recorded t (record { core = s; events = before; devices = [] })) stuck
+stuck_turn p e s before why stuck = ap (λ t. recorded t (state_in e s before)) stuck
 
 -- if step n + 1 is made, the run goes on to its state
-plain_more : (p : Program) (input : List ℕ) (n : ℕ) (s s' : PlainState) → program_after p input n ≡ Ok s → plain_turn p s ≡ Ok s' → program_after p input (n + 1) ≡ Ok s'
+plain_more : (p : Program) (e : Environment) (n : ℕ) (s s' : PlainState) → after_in p e n ≡ Ok s → plain_turn p s ≡ Ok s' → after_in p e (n + 1) ≡ Ok s'
 unfolding program_after_with
-plain_more p input n s s' before turn =
-    iterate-add (plain_turn p) n 1 (record { core = first_plain p input; events = []; devices = [] })
+plain_more p e n s s' before turn =
+    iterate-add (plain_turn p) n 1 (state_in e (first_plain p e.input) [])
     ∙ ap (λ r. r >>= iterate (plain_turn p) 1) before ∙ iterate-one (plain_turn p) s s' turn
 
 -- if step n + 1 isn't made, the run stops there
-plain_stuck : (p : Program) (input : List ℕ) (n : ℕ) (s : PlainState) (stop : Place × Why) → program_after p input n ≡ Ok s → plain_turn p s ≡ Err stop → program_after p input (n + 1) ≡ Err stop
+plain_stuck : (p : Program) (e : Environment) (n : ℕ) (s : PlainState) (stop : Place × Why) → after_in p e n ≡ Ok s → plain_turn p s ≡ Err stop → after_in p e (n + 1) ≡ Err stop
 unfolding program_after_with
-plain_stuck p input n s stop before turn =
-    iterate-add (plain_turn p) n 1 (record { core = first_plain p input; events = []; devices = [] })
+plain_stuck p e n s stop before turn =
+    iterate-add (plain_turn p) n 1 (state_in e (first_plain p e.input) [])
     ∙ ap (λ r. r >>= iterate (plain_turn p) 1) before ∙ ap (λ r. r >>= iterate (plain_turn p) 0) turn
 
 -- ---- what events write
 
-wrote_more : (events : List Event) (e : Event) (a b c : Desk) → Wrote (written_to 1 events) (written_to 2 events) a b → Wrote (bytes_to 1 e) (bytes_to 2 e) b c
-    → Wrote (written_to 1 (events ++ e ∷ [])) (written_to 2 (events ++ e ∷ [])) a c
-wrote_more events e a b c first second =
-    rw (written_to-more 1 events e, written_to-more 2 events e) (Wrote-append first second)
+-- what events write in an environment
+abbrev pub wrote_in : Environment → ℕ → List Event → List ℕ
+wrote_in e stream events = written_to e.devices.outputs stream events
+
+wrote_more : (e : Environment) (events : List Event) (x : Event) (a b c : Desk) → Wrote (wrote_in e 1 events) (wrote_in e 2 events) a b
+    → Wrote (bytes_to e.devices.outputs 1 x) (bytes_to e.devices.outputs 2 x) b c → Wrote (wrote_in e 1 (events ++ x ∷ [])) (wrote_in e 2 (events ++ x ∷ [])) a c
+wrote_more e events x a b c first second =
+    rw (written_to-more e.devices.outputs 1 events x, written_to-more e.devices.outputs 2 events x) (Wrote-append first second)
+
+-- an event that writes these bytes to one stream, if any
+pub record Writes (e : Environment) (x : Event) (stream : ℕ) (bytes : List ℕ) : Type 0 where
+  pub each : (number : ℕ) → bytes_to e.devices.outputs number x ≡ sent stream bytes number
+
+writes_one : (e : Environment) (x : Event) (stream : ℕ) (bytes : List ℕ) (a b : Desk) → Writes e x stream bytes → WroteTo stream bytes a b
+    → Wrote (bytes_to e.devices.outputs 1 x) (bytes_to e.devices.outputs 2 x) a b
+writes_one e x stream bytes a b writes wrote = rw (writes.each 1, writes.each 2) wrote
+
+pub write_writes : (e : Environment) (fd : ℕ) (bytes : List ℕ) → Writes e (Write fd bytes) fd bytes
+write_writes e fd bytes = record { each = λ number. refl }
+
+-- the number of standard output
+is_one : (number : ℕ) → eqb number 1 ≡ eqb 1 number
+is_one number = ⊎_elim (λ yes. yes.0 ∙ sym (ap (eqb 1) yes.1)) (λ no. no.0 ∙ sym (ne_eqb 1 number (λ e. no.1 (sym e)))) (eqb_tells number 1)
+
+-- what appears of a store does so on standard output
+pub store_writes : (e : Environment) (at : ℕ) (bytes : List ℕ) → Writes e (Store at bytes) 1 (shown_bytes e.devices.outputs at bytes)
+store_writes e at bytes = record { each = λ number. ap (λ b. cond b (shown_bytes e.devices.outputs at bytes) []) (is_one number) }
 
 -- ---- runs
 
--- the run has come to this state after `count` steps, and has written what its events write
-pub record Came (p : Program) (input : List ℕ) (count : ℕ) (s : PlainCore) (before now : Desk) : Type 0 where
+-- the run in this environment has come to this state after `count` steps, and has written what its events write
+pub record Came (p : Program) (e : Environment) (count : ℕ) (s : PlainCore) (before now : Desk) : Type 0 where
   pub events : List Event
-  pub so_far : program_after p input count ≡ Ok (record { core = s; events = events; devices = [] })
+  pub so_far : after_in p e count ≡ Ok (state_in e s events)
   pub running : s.exit ≡ None
   pub of : IsOf p s
-  pub wrote : Wrote (written_to 1 events) (written_to 2 events) before now
+  pub wrote : Wrote (wrote_in e 1 events) (wrote_in e 2 events) before now
 
-pub came_first : (p : Program) (input : List ℕ) (s : PlainCore) (desk : Desk) → s ≡ first_plain p input → Came p input 0 s desk desk
+pub came_first : (p : Program) (e : Environment) (s : PlainCore) (desk : Desk) → s ≡ first_plain p e.input → Came p e 0 s desk desk
 unfolding program_after_with
-came_first p input s desk is = record {
+came_first p e s desk is = record {
   events = [];
-  so_far = ap (λ t. Ok (record { core = t; events = []; devices = [] })) (sym is);
+  so_far = ap (λ t. Ok (state_in e t [])) (sym is);
   running = ap (λ (t : PlainCore). t.exit) is;
   of = ap (λ (t : PlainCore). extents_of t.memory) is;
   wrote = Wrote-none desk;
@@ -228,7 +266,7 @@ pub RunsTo-refl : (p : Program) (s : PlainCore) → IsOf p s → RunsTo p s s 0
 RunsTo-refl p s of = record {
   exit = refl;
   of = of;
-  runs = λ input count events so_far. let same : count + 0 ≡ count = omega arith in ap (program_after p input) same ∙ so_far;
+  runs = λ devices input count events so_far. let same : count + 0 ≡ count = omega arith in ap (program_after_with p devices input) same ∙ so_far;
 }
 
 -- one step more, without an event, after k steps without one
@@ -237,11 +275,12 @@ pub RunsTo-more :
 RunsTo-more p s last s2 k so_far exit went = record {
   exit = exit ∙ so_far.exit;
   of = extents-step [] p last s2 [] went ∙ so_far.of;
-  runs = λ input count events came.
+  runs = λ devices input count events came.
+      let e : Environment = record { devices = record { ranges = devices; outputs = [] }; input = input } in
       let same : count + (k + 1) ≡ count + k + 1 = omega arith in
-      ap (program_after p input) same
-      ∙ plain_more p input (count + k) (record { core = last; events = events; devices = [] }) (record { core = s2; events = events; devices = [] }) (so_far.runs input count events came)
-      (went_turn p last s2 events [] went ∙ ap (λ l. Ok (record { core = s2; events = l; devices = [] })) (append-nil events));
+      ap (program_after_with p devices input) same
+      ∙ plain_more p e (count + k) (state_in e last events) (state_in e s2 events) (so_far.runs devices input count events came)
+      (went_turn p e last s2 events [] (goes_with devices p last s2 [] went) ∙ ap (λ l. Ok (state_in e s2 l)) (append-nil events));
 }
 
 -- one step more that is made by the item at the place
@@ -254,112 +293,123 @@ RunsTo-made p map s last s2 k q next item step here after made so_far =
 
 -- a run that has come to a state comes to where that comes by them, and has written no more
 pub Came-on :
-    (p : Program) (input : List ℕ) (count : ℕ) (s last : PlainCore) (k : ℕ) (before now : Desk) → Came p input count s before now → RunsTo p s last k
-    → Came p input (count + k) last before now
-Came-on p input count s last k before now came on = record {
+    (p : Program) (e : Environment) (count : ℕ) (s last : PlainCore) (k : ℕ) (before now : Desk) → Came p e count s before now → RunsTo p s last k
+    → Came p e (count + k) last before now
+Came-on p e count s last k before now came on = record {
   events = came.events;
-  so_far = on.runs input count came.events came.so_far;
+  so_far = on.runs e.devices.ranges e.input count came.events came.so_far;
   running = on.exit ∙ came.running;
   of = on.of;
   wrote = came.wrote;
 }
 
-module _ (p : Program) (input : List ℕ) (count : ℕ) (s : PlainCore) (before now : Desk) (came : Came p input count s before now) where
+module _ (p : Program) (e : Environment) (count : ℕ) (s : PlainCore) (before now : Desk) (came : Came p e count s before now) where
   -- a step with one event
-  more : (s' : PlainCore) (e : Event) → plain_step p s ≡ Went s' (e ∷ []) → program_after p input (count + 1) ≡ Ok (record { core = s'; events = came.events ++ e ∷ []; devices = [] })
-  more s' e went =
-      plain_more p input count (record { core = s; events = came.events; devices = [] }) (record { core = s'; events = came.events ++ e ∷ []; devices = [] }) came.so_far (went_turn p s s' came.events (e ∷ []) went)
+  more : (s' : PlainCore) (x : Event) → step_in p e s ≡ Went s' (x ∷ []) → after_in p e (count + 1) ≡ Ok (state_in e s' (came.events ++ x ∷ []))
+  more s' x went =
+      plain_more p e count (state_in e s came.events) (state_in e s' (came.events ++ x ∷ [])) came.so_far (went_turn p e s s' came.events (x ∷ []) went)
 
   -- a step without an event
-  pub came_done : (s' : PlainCore) → s'.exit ≡ None → plain_step p s ≡ Went s' [] → Came p input (count + 1) s' before now
+  pub came_done : (s' : PlainCore) → s'.exit ≡ None → step_in p e s ≡ Went s' [] → Came p e (count + 1) s' before now
   came_done s' running went = record {
     events = came.events;
-    so_far = plain_more p input count (record { core = s; events = came.events; devices = [] }) (record { core = s'; events = came.events; devices = [] }) came.so_far
-        (went_turn p s s' came.events [] went ∙ ap (λ l. Ok (record { core = s'; events = l; devices = [] })) (append-nil came.events));
+    so_far = plain_more p e count (state_in e s came.events) (state_in e s' came.events) came.so_far
+        (went_turn p e s s' came.events [] went ∙ ap (λ l. Ok (state_in e s' l)) (append-nil came.events));
     running = running;
-    of = extents-step [] p s s' [] went ∙ came.of;
+    of = extents-step e.devices.ranges p s s' [] went ∙ came.of;
     wrote = came.wrote;
   }
 
   -- a read writes nothing
-  pub came_read : (s' : PlainCore) (bytes : List ℕ) → s'.exit ≡ None → plain_step p s ≡ Went s' (Read bytes ∷ []) → Came p input (count + 1) s' before now
+  pub came_read : (s' : PlainCore) (bytes : List ℕ) → s'.exit ≡ None → step_in p e s ≡ Went s' (Read bytes ∷ []) → Came p e (count + 1) s' before now
   came_read s' bytes running went = record {
     events = came.events ++ Read bytes ∷ [];
     so_far = more s' (Read bytes) went;
     running = running;
-    of = extents-step [] p s s' (Read bytes ∷ []) went ∙ came.of;
-    wrote = wrote_more came.events (Read bytes) before now now came.wrote (Wrote-none now);
+    of = extents-step e.devices.ranges p s s' (Read bytes ∷ []) went ∙ came.of;
+    wrote = wrote_more e came.events (Read bytes) before now now came.wrote (Wrote-none now);
   }
 
-  -- a write that the console made
-  pub came_wrote : (s' : PlainCore) (fd : ℕ) (bytes : List ℕ) (after : Desk) → s'.exit ≡ None → plain_step p s ≡ Went s' (Write fd bytes ∷ [])
-      → WroteTo fd bytes now after → Came p input (count + 1) s' before after
-  came_wrote s' fd bytes after running went wrote = record {
-    events = came.events ++ Write fd bytes ∷ [];
-    so_far = more s' (Write fd bytes) went;
+  -- nor does a load
+  pub came_loaded : (s' : PlainCore) (at width : ℕ) (bytes : List ℕ) → s'.exit ≡ None → step_in p e s ≡ Went s' (Load at width bytes ∷ []) → Came p e (count + 1) s' before now
+  came_loaded s' at width bytes running went = record {
+    events = came.events ++ Load at width bytes ∷ [];
+    so_far = more s' (Load at width bytes) went;
     running = running;
-    of = extents-step [] p s s' (Write fd bytes ∷ []) went ∙ came.of;
-    wrote = wrote_more came.events (Write fd bytes) before now after came.wrote wrote;
+    of = extents-step e.devices.ranges p s s' (Load at width bytes ∷ []) went ∙ came.of;
+    wrote = wrote_more e came.events (Load at width bytes) before now now came.wrote (Wrote-none now);
+  }
+
+  -- an event whose bytes the console took
+  pub came_wrote : (s' : PlainCore) (x : Event) (stream : ℕ) (bytes : List ℕ) (after : Desk) → Writes e x stream bytes → s'.exit ≡ None
+      → step_in p e s ≡ Went s' (x ∷ []) → WroteTo stream bytes now after → Came p e (count + 1) s' before after
+  came_wrote s' x stream bytes after writes running went wrote = record {
+    events = came.events ++ x ∷ [];
+    so_far = more s' x went;
+    running = running;
+    of = extents-step e.devices.ranges p s s' (x ∷ []) went ∙ came.of;
+    wrote = wrote_more e came.events x before now after came.wrote (writes_one e x stream bytes now after writes wrote);
   }
 
   module _ (steps : ℕ) where
     -- so far
-    abbrev pub traced : EndsAfter (plain_course p input steps) count before now
-    traced = record { last = record { core = s; events = came.events; devices = [] }; state = came.so_far; running = came.running; wrote = came.wrote }
+    abbrev pub traced : EndsAfter (plain_course p e steps) count before now
+    traced = record { last = state_in e s came.events; state = came.so_far; running = came.running; wrote = came.wrote }
 
     module _ (within : count < steps) where
-      abbrev early : EndsEarly (plain_course p input steps) before now
+      abbrev early : EndsEarly (plain_course p e steps) before now
       early = record { count = count; within = within; made = traced }
 
-      -- a write that the console refused
-      pub refused : (s' : PlainCore) (fd : ℕ) (bytes : List ℕ) (after : Desk) (fault : ConsoleFault) → plain_step p s ≡ Went s' (Write fd bytes ∷ [])
-          → WrotePart fd bytes now after → WriteCause before after fault → Traced (plain_course p input steps) (end.Console fault) before after
-      refused s' fd bytes after fault went part cause = record {
+      -- an event whose bytes the console refused
+      pub refused : (s' : PlainCore) (x : Event) (stream : ℕ) (bytes : List ℕ) (after : Desk) (fault : ConsoleFault) → Writes e x stream bytes
+          → step_in p e s ≡ Went s' (x ∷ []) → WrotePart stream bytes now after → WriteCause before after fault
+          → Traced (plain_course p e steps) (end.Console fault) before after
+      refused s' x stream bytes after fault writes went part cause = record {
         between = now;
         early = early;
-        next = record { core = s'; events = came.events ++ Write fd bytes ∷ []; devices = [] };
-        state = more s' (Write fd bytes) went;
-        stream = fd;
+        next = state_in e s' (came.events ++ x ∷ []);
+        state = more s' x went;
+        stream = stream;
         bytes = bytes;
-        write = λ stream. written_to-more stream came.events (Write fd bytes);
+        write = λ number. written_to-more e.devices.outputs number came.events x ∙ ap (λ l. wrote_in e number came.events ++ l) (writes.each number);
         wrote = part;
         cause = cause;
       }
 
       -- the exit
-      pub exited : (s' : PlainCore) (status : ℕ) → s'.exit ≡ Some status → plain_step p s ≡ Went s' (Exit status ∷ [])
-          → Traced (plain_course p input steps) (end.Exited status) before now
+      pub exited : (s' : PlainCore) (status : ℕ) → s'.exit ≡ Some status → step_in p e s ≡ Went s' (Exit status ∷ [])
+          → Traced (plain_course p e steps) (end.Exited status) before now
       exited s' status exit went = record {
         count = count + 1;
         within = omega arith;
-        last = record { core = s'; events = came.events ++ Exit status ∷ []; devices = [] };
+        last = state_in e s' (came.events ++ Exit status ∷ []);
         state = more s' (Exit status) went;
         exit = exit;
-        wrote = wrote_more came.events (Exit status) before now now came.wrote (Wrote-none now);
+        wrote = wrote_more e came.events (Exit status) before now now came.wrote (Wrote-none now);
       }
 
       -- and no step before it was one
-      pub counted : (s' : PlainCore) (status : ℕ) → s'.exit ≡ Some status → plain_step p s ≡ Went s' (Exit status ∷ [])
-          → IsCounted (plain_course p input steps) (count + 1) status before now
+      pub counted : (s' : PlainCore) (status : ℕ) → s'.exit ≡ Some status → step_in p e s ≡ Went s' (Exit status ∷ [])
+          → IsCounted (plain_course p e steps) (count + 1) status before now
       counted s' status exit went = record {
-        bytes = written_to 1 (came.events ++ Exit status ∷ []);
+        bytes = wrote_in e 1 (came.events ++ Exit status ∷ []);
         exits = record {
           within = omega arith;
-          last = record { core = s'; events = came.events ++ Exit status ∷ []; devices = [] };
+          last = state_in e s' (came.events ++ Exit status ∷ []);
           state = more s' (Exit status) went;
           status = exit;
           bytes = refl;
-          first = λ k r earlier after. running_before p input count k (record { core = s; events = came.events; devices = [] }) r came.so_far came.running (omega (arith, earlier)) after;
+          first = λ k r earlier after. running_before p e count k (state_in e s came.events) r came.so_far came.running (omega (arith, earlier)) after;
         };
         events = came.events;
         event = refl;
-        wrote = (wrote_more came.events (Exit status) before now now came.wrote (Wrote-none now)).out;
+        wrote = (wrote_more e came.events (Exit status) before now now came.wrote (Wrote-none now)).out;
       }
 
       -- a step that is stuck
-      pub stuck : (place : Place) (why : Why) → place ≡ s.place → plain_step p s ≡ Stuck why → Traced (plain_course p input steps) (end.Stuck place why) before now
+      pub stuck : (place : Place) (why : Why) → place ≡ s.place → step_in p e s ≡ Stuck why → Traced (plain_course p e steps) (end.Stuck place why) before now
       stuck place why at is = record {
         early = early;
-        next = plain_stuck p input count (record { core = s; events = came.events; devices = [] }) (place, why) came.so_far
-            (stuck_turn p s came.events why is ∙ ap (λ q. Err (q, why)) (sym at));
+        next = plain_stuck p e count (state_in e s came.events) (place, why) came.so_far
+            (stuck_turn p e s came.events why is ∙ ap (λ q. Err (q, why)) (sym at));
       }

@@ -6,6 +6,7 @@ use Rattle.std.proofs.lemmas.Bool.Decides.{eqb_tells}
 use Rattle.std.proofs.lemmas.List.{map-set}
 use Rattle.zc_base.specs.declared.mem_map.MemMap.{MemMap}
 use Rattle.zc_base.specs.declared.place.Place.{Place}
+use Rattle.rv_decode.specs.Devices.{Device}
 use Rattle.rv_decode.specs.Memory.{Extent, Stack, changed, extents_of, written}
 use Rattle.rv_decode.specs.State.{Event, Exit, Read, Write, set_reg}
 use Rattle.sym_machine.specs.declared.arguments.Arguments.{Arguments}
@@ -21,7 +22,7 @@ use Rattle.sym_machine.specs.Change.{Change, Goes, Stops, call_to, exit_does, se
 use Rattle.sym_machine.specs.Kept.{IsChanged, IsKept, IsWorking, Kept, above_only, kept_from, regions_of, word_of, register_words}
 use Rattle.sym_machine.specs.Program.{Program, start_memory}
 use Rattle.sym_machine.specs.State.{PlainCore, reg_of}
-use Rattle.sym_machine.specs.Step.{Stuck, Went, after_change, ends, applied, item_step, plain_step, undefined_below}
+use Rattle.sym_machine.specs.Step.{Stuck, Went, after_change, ends, applied, item_step, plain_step, step_with, undefined_below}
 use Rattle.sym_machine.specs.Words.{code_word, number_of, number_word, undef_word}
 use Rattle.rv_decode.proofs.MemoryLaws.{length_blank}
 use Rattle.rv_decode.proofs.RegisterLaws.{length-set_reg}
@@ -258,6 +259,11 @@ module _ (k : Kept) (is : IsKept k) (p : Program) (of : extents_of (regions_of k
       let sizes : k.map.stack_high - k.map.stack_low ≡ p.map.stack_high - p.map.stack_low = sym is.size ∙ ap (λ es. (second es).size) of ∙ length_blank (p.map.stack_high - p.map.stack_low) Undef in
       omega (arith, is.some, low_is, sizes)
 
-  -- a step of the machine is a step of the program
+  -- a step of the machine with devices is a step of the program with them
+  pub step_with_of : (devices : List Device) (s : PlainCore) → s.exit ≡ None → step_with devices p s ≡ item_step devices k.map p (p.item s.place) s (p.next s.place)
+  step_with_of devices s running =
+      step_running devices p s running ∙ item_by devices p.map k.map p (p.item s.place) s (p.next s.place) (sym low_is) (sym high_is)
+
+  -- and so without devices
   pub step_of : (s : PlainCore) → s.exit ≡ None → plain_step p s ≡ item_step [] k.map p (p.item s.place) s (p.next s.place)
-  step_of s running = step_running [] p s running ∙ item_by p.map k.map p (p.item s.place) s (p.next s.place) (sym low_is) (sym high_is)
+  step_of s running = step_with_of [] s running

@@ -20,7 +20,7 @@ use Rattle.sym_machine.specs.declared.why.Why.TheVariants.{StackPointer}
 use Rattle.sym_machine.specs.declared.word.SymByte.{SymByte}
 use Rattle.sym_machine.specs.declared.word.SymByte.TheVariants.{Undef}
 use Rattle.sym_machine.specs.Answer.{Makes}
-use Rattle.sym_machine.specs.Change.{Does, Goes, Stops, item_does, op_does}
+use Rattle.sym_machine.specs.Change.{Change, Does, Goes, Stops, item_does, op_does}
 use Rattle.sym_machine.specs.Kept.{IsOf}
 use Rattle.sym_machine.specs.Program.{Program}
 use Rattle.sym_machine.specs.Devices.{does_with}
@@ -140,15 +140,47 @@ in_turn_by m n (i ∷ is) next s low high =
     by (Stuck why) again = refl
 
 pub item_by :
-    (m n : MemMap) (p : Program) (item : Option Item) (s : PlainCore) (next : Place) → m.stack_low ≡ n.stack_low → m.stack_high ≡ n.stack_high
-    → item_step [] m p item s next ≡ item_step [] n p item s next
-item_by m n p item s next low high = by (item_expansion item)
+    (devices : List Device) (m n : MemMap) (p : Program) (item : Option Item) (s : PlainCore) (next : Place) → m.stack_low ≡ n.stack_low → m.stack_high ≡ n.stack_high
+    → item_step devices m p item s next ≡ item_step devices n p item s next
+item_by devices m n p item s next low high = by (item_expansion item)
   where
-    by :
-        (o : Option (List Instr))
-        → option_map_or (λ is. in_turn m is next s) o (applied m s (item_does p item s next)) ≡ option_map_or (λ is. in_turn n is next s) o (applied n s (item_does p item s next))
-    by None = made_by m n s (item_does p item s next) low high
+    does : Does
+    does = does_with devices p item s next (item_does p item s next)
+
+    by : (o : Option (List Instr)) → option_map_or (λ is. in_turn m is next s) o (applied m s does) ≡ option_map_or (λ is. in_turn n is next s) o (applied n s does)
+    by None = made_by m n s does low high
     by (Some is) = in_turn_by m n is next s low high
+
+-- ---- devices
+
+-- where the machine itself goes on, devices make no difference
+does_goes :
+    (devices : List Device) (p : Program) (item : Option Item) (s : PlainCore) (next : Place) (c : Change) → does_with devices p item s next (Goes c) ≡ Goes c
+does_goes [] p item s next c = refl
+does_goes (d ∷ ds) p item s next c = refl
+
+-- nor where an item is several instructions, or after the exit
+pub goes_with :
+    (devices : List Device) (p : Program) (s s' : PlainCore) (events : List Event) → plain_step p s ≡ Went s' events → step_with devices p s ≡ Went s' events
+goes_with devices p s s' events went = by_exit s.exit refl
+  where
+    here : Option Item
+    here = p.item s.place
+
+    by_does : s.exit ≡ None → item_expansion here ≡ None → (d : Does) → item_does p here s (p.next s.place) ≡ d → step_with devices p s ≡ Went s' events
+    by_does running single (Goes c) is =
+        step_single devices p s running single
+        ∙ ap (applied p.map s) (ap (does_with devices p here s (p.next s.place)) is ∙ does_goes devices p here s (p.next s.place) c ∙ sym is)
+        ∙ sym (step_single [] p s running single) ∙ went
+    by_does running single (Stops why) is = absurd (let stuck : Stuck why ≡ Went s' events = ap (applied p.map s) (sym is) ∙ sym (step_single [] p s running single) ∙ went in cc)
+
+    by_item : s.exit ≡ None → (o : Option (List Instr)) → item_expansion here ≡ o → step_with devices p s ≡ Went s' events
+    by_item running None single = by_does running single (item_does p here s (p.next s.place)) refl
+    by_item running (Some is) are = step_expansion devices p s is running are ∙ sym (step_expansion [] p s is running are) ∙ went
+
+    by_exit : (e : Option ℕ) → s.exit ≡ e → step_with devices p s ≡ Went s' events
+    by_exit None running = by_item running (item_expansion here) refl
+    by_exit (Some status) exited = step_past_exit devices p s status exited ∙ sym (step_past_exit [] p s status exited) ∙ went
 
 -- ---- where memory lies
 
@@ -210,6 +242,8 @@ pub of_again : (p : Program) (r : Result SymStep AllocError) (s s' : PlainCore) 
 of_again p (Ok answer.Done) s s' h of = extents-step [] p s s' [] h.2 ∙ of
 of_again p (Ok (answer.Read count)) s s' h of = extents-step [] p s s' _ h.1.2 ∙ of
 of_again p (Ok (answer.Wrote fd bytes)) s s' h of = extents-step [] p s s' _ h.1.2 ∙ of
+of_again p (Ok (answer.Loaded op at)) s s' h of = extents-step [] p s s' _ h.2 ∙ of
+of_again p (Ok (answer.Stored sent)) s s' h of = extents-step [] p s s' _ h.1.2 ∙ of
 of_again p (Ok (answer.Exited status)) s s' h of =
     ⊎_elim (λ now. extents-step [] p s s' _ now.2 ∙ of) (λ before. ap (λ (t : PlainCore). extents_of t.memory) before.1 ∙ of) h
 of_again p (Ok (answer.Stuck place why)) s s' h of = ap (λ (t : PlainCore). extents_of t.memory) h.1 ∙ of

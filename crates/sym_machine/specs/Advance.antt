@@ -1,22 +1,23 @@
 -- How far the machine comes by steps without an event.
-use Rattle.std.specs.Prelude.{◌≡◌, ℕ, ◌+◌, List, [], Result, Ok}
+use Rattle.std.specs.Prelude.{◌≡◌, ℕ, ◌+◌, List, Result, Ok}
 use Rattle.std.specs.declared.alloc.AllocError.{AllocError}
+use Rattle.rv_decode.specs.Devices.{Device}
 use Rattle.rv_decode.specs.State.{Event}
 use Rattle.sym_machine.specs.declared.answer.SymStep.{SymStep}
 use Rattle.sym_machine.specs.Answer.{Makes}
 use Rattle.sym_machine.specs.Kept.{IsOf}
 use Rattle.sym_machine.specs.Program.{Program}
-use Rattle.sym_machine.specs.Run.{program_after}
+use Rattle.sym_machine.specs.Run.{program_after_with}
 use Rattle.sym_machine.specs.State.{PlainCore}
 use Rattle.sym_machine.specs.Step.{plain_step}
 
--- whenever a run has come to state s, k steps more take it to state s2, and none of them is an event
+-- whenever a run with whatever devices has come to state s, k steps more take it to state s2, and none of them is an event
 pub record RunsTo (p : Program) (s s2 : PlainCore) (k : ℕ) : Type 0 where
   pub exit : s2.exit ≡ s.exit
   pub of : IsOf p s2
-  pub runs : (input : List ℕ) (count : ℕ) (events : List Event)
-      → program_after p input count ≡ Ok (record { core = s; events = events; devices = [] })
-      → program_after p input (count + k) ≡ Ok (record { core = s2; events = events; devices = [] })
+  pub runs : (devices : List Device) (input : List ℕ) (count : ℕ) (events : List Event)
+      → program_after_with p devices input count ≡ Ok (record { core = s; events = events; devices = devices })
+      → program_after_with p devices input (count + k) ≡ Ok (record { core = s2; events = events; devices = devices })
 
 -- the machine made k steps without an event from state s, and then a step with this answer, which left state s2
 pub record Advanced (p : Program) (s s2 : PlainCore) (k : ℕ) (step : Result SymStep AllocError) : Type 0 where

@@ -1,7 +1,9 @@
 -- What the answers of the code say of the definitions.
-use Rattle.std.specs.Prelude.{◌≡◌, ℕ, ◌≤◌, ◌⊎◌, true, List, [], ◌∷◌, length, take, Option, Some, None, Result, Ok, Err}
+use Rattle.std.specs.Prelude.{◌≡◌, ℕ, ◌+◌, ◌^◌, ◌≤◌, ◌⊎◌, true, min, List, [], ◌∷◌, length, take, Option, Some, None, Result, Ok, Err}
 use Rattle.std.specs.declared.alloc.AllocError.{AllocError}
-use Rattle.rv_decode.specs.State.{Event, Exit, Read, Write}
+use Rattle.rv_decode.specs.Devices.{sent_bytes}
+use Rattle.rv_decode.specs.Effect.{load_width, store_width}
+use Rattle.rv_decode.specs.State.{Event, Exit, Load, Read, Store, Write}
 use Rattle.sym_machine.specs.declared.answer.SymStep.{SymStep}
 use Rattle.sym_machine.specs.declared.answer.SymStep.TheVariants as answer
 use Rattle.sym_machine.specs.declared.why.Why.{Why}
@@ -13,17 +15,26 @@ use Rattle.sym_machine.specs.Step.{PlainStep, Went, Stuck}
 abbrev pub RunsOn : PlainStep → List Event → PlainCore → PlainCore → Type 0
 RunsOn step events old new = (old.exit ≡ None) × (new.exit ≡ None) × (step ≡ Went new events)
 
--- the answer and the state after it are this step's: reads, writes and the exit are events, a stuck step changes nothing, and
--- after the exit nothing changes any more
+-- the answer and the state after it are this step's: reads, writes, the exit and what a device answers are events, a stuck step
+-- changes nothing, and after the exit nothing changes any more
 abbrev pub StepAnswers : PlainStep → SymStep → PlainCore → PlainCore → Type 0
 StepAnswers step answer.Done old new = RunsOn step [] old new
 StepAnswers step (answer.Read count) old new = (count ≤ length old.input) × RunsOn step (Read (take count old.input) ∷ []) old new
 StepAnswers step (answer.Wrote fd bytes) old new = (is_output fd ≡ true) × RunsOn step (Write fd bytes.items ∷ []) old new
+StepAnswers step (answer.Loaded op at) old new =
+    RunsOn step (Load at (load_width op) (take (min (load_width op) (length old.input)) old.input) ∷ []) old new
+StepAnswers step (answer.Stored sent) old new =
+    (sent.at + store_width sent.op ≤ 2 ^ 32) × RunsOn step (Store sent.at (sent_bytes sent.op sent.word) ∷ []) old new
 StepAnswers step (answer.Exited status) old new =
     ((old.exit ≡ None) × (new.exit ≡ Some status) × (step ≡ Went new (Exit status ∷ [])))
     ⊎ ((old.exit ≡ Some status) × (new ≡ old) × (step ≡ Went new []))
 StepAnswers step (answer.Stuck place why) old new =
     (old.exit ≡ None) × (new ≡ old) × (place ≡ old.place) × (step ≡ Stuck why)
+
+-- what devices answer to a step, by what it is without them: this answer; or none, and then they make no difference
+abbrev pub DevicesAnswer : PlainStep → PlainStep → Option SymStep → PlainCore → PlainCore → Type 0
+DevicesAnswer step alone None old new = (new ≡ old) × (step ≡ alone)
+DevicesAnswer step alone (Some answer) old new = StepAnswers step answer old new
 
 -- a step without events: the program runs on, or the step is stuck for this cause and changes nothing
 abbrev pub RunsOnUnlessStuck : PlainStep → Option Why → PlainCore → PlainCore → Type 0

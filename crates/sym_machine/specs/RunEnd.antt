@@ -1,6 +1,7 @@
 -- How a run of the symbolic machine ends, and what it has then written.
 use Rattle.std.specs.Prelude.{◌≡◌, ℕ, List, [], ◌∷◌, ◌++◌, ⊤}
 use Rattle.zc_base.specs.declared.place.Place.{Place}
+use Rattle.devices.specs.Environment.{Environment}
 use Rattle.rv_decode.specs.EventBytes.{written_to}
 use Rattle.rv_decode.specs.State.{Event, Exit}
 use Rattle.zc_outside.specs.Course.{Course, EndsAfter, EndsEarly, EndsWithExit, EndsWithRefusal, EndsWithStop, ExitsAt}
@@ -10,15 +11,15 @@ use Rattle.sym_machine.specs.declared.run.TraceEnd.{TraceEnd}
 use Rattle.sym_machine.specs.declared.run.TraceEnd.TheVariants as end
 use Rattle.sym_machine.specs.declared.why.Why.{Why}
 use Rattle.sym_machine.specs.Program.{Program}
-use Rattle.sym_machine.specs.Run.{program_after}
+use Rattle.sym_machine.specs.Run.{program_after_with}
 use Rattle.sym_machine.specs.State.{PlainState}
 
--- the run of a program over an input, of at most `steps` steps; what stops it is that it is stuck at a place
-abbrev pub plain_course : Program → List ℕ → ℕ → Course PlainState (Place × Why)
-plain_course p input steps = record {
-  after = program_after p input;
+-- the run of a program in an environment, of at most `steps` steps; what stops it is that it is stuck at a place
+abbrev pub plain_course : Program → Environment → ℕ → Course PlainState (Place × Why)
+plain_course p e steps = record {
+  after = program_after_with p e.devices.ranges e.input;
   exit = λ s. s.core.exit;
-  written = λ s stream. written_to stream s.events;
+  written = λ s stream. written_to e.devices.outputs stream s.events;
   steps = steps;
 }
 

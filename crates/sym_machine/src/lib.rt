@@ -11,6 +11,7 @@ mod first_data;
 pub mod held;
 pub mod known;
 pub mod memory;
+mod output;
 pub mod page;
 pub mod pages;
 pub mod pool;

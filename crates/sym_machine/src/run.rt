@@ -1,18 +1,22 @@
 // Runs of the symbolic machine.
 
-ghost use Rattle.std.specs.Prelude.{◌≡◌, true, OnOk, OnErr, IfErr};
+ghost use Rattle.std.specs.Prelude.{◌≡◌};
+ghost use Rattle.devices.specs.Environment.{Environment, only_input};
 ghost use Rattle.psabi_sym.specs.Inputs.{parsed};
-ghost use Rattle.sym_machine.specs.Change.{is_output};
+ghost use Rattle.sym_machine.specs.Answer.{StepAnswers};
+ghost use Rattle.sym_machine.specs.Kept.{IsOf};
 ghost use Rattle.sym_machine.specs.Objects.{program_of};
 ghost use Rattle.sym_machine.specs.RunEnd.{CountsSteps, Traced, plain_course};
-ghost use Rattle.sym_machine.specs.State.{first_plain};
-ghost use Rattle.zc_outside.specs.Course.{WrotePart, WroteTo};
-ghost use Rattle.zc_outside.specs.Desk.{OnlyWrites, WriteCause};
+ghost use Rattle.sym_machine.specs.State.{PlainCore, first_plain};
+ghost use Rattle.sym_machine.specs.Step.{plain_step, step_with};
+ghost use Rattle.zc_outside.specs.Desk.{OnlyWrites};
 
 use crate::answer::SymStep;
+use crate::output::{show, write_to};
 use crate::sym::Sym;
 use crate::why::Why;
 use block_cut::cut::Cut;
+use devices::environment::DeviceMap;
 use zc_base::place::Place;
 use zc_outside::console::{Console, ConsoleFault};
 
@@ -29,9 +33,9 @@ pub enum TraceEnd {
 
 /// Runs the symbolic machine from the objects' start for at most `steps` steps. What the program writes goes to the
 /// console, each write in one piece.
-pub fn run<C: Console>(sym: &mut Sym, cut: &Cut, steps: u64, console: &mut C) -> TraceEnd
+pub fn run<C: Console>(sym: &mut Sym<'_>, cut: &Cut, steps: u64, console: &mut C) -> TraceEnd
     requires start { sym.old ≡ first_plain (program_of (parsed cut.now)) sym.old.input }
-    ensures ran { Traced (plain_course (program_of (parsed cut.now)) sym.old.input steps) result
+    ensures ran { Traced (plain_course (program_of (parsed cut.now)) (only_input sym.old.input) steps) result
         (C.shown console.old) (C.shown console.new) }
     ensures writes { OnlyWrites (C.shown console.old) (C.shown console.new) }
 {
@@ -40,29 +44,55 @@ pub fn run<C: Console>(sym: &mut Sym, cut: &Cut, steps: u64, console: &mut C) ->
 
 /// Runs the symbolic machine as `run` does, and says how many steps it made, of which an exit is one.
 pub fn run_counted<C: Console>(
-    sym: &mut Sym,
+    sym: &mut Sym<'_>,
     cut: &Cut,
     steps: u64,
     console: &mut C,
 ) -> (TraceEnd, u64)
     requires start { sym.old ≡ first_plain (program_of (parsed cut.now)) sym.old.input }
-    ensures ran { Traced (plain_course (program_of (parsed cut.now)) sym.old.input steps) result.0
+    ensures ran { Traced (plain_course (program_of (parsed cut.now)) (only_input sym.old.input) steps) result.0
         (C.shown console.old) (C.shown console.new) }
-    ensures count { CountsSteps (plain_course (program_of (parsed cut.now)) sym.old.input steps) result.0 result.1
-        (C.shown console.old) (C.shown console.new) }
+    ensures count { CountsSteps (plain_course (program_of (parsed cut.now)) (only_input sym.old.input) steps) result.0
+        result.1 (C.shown console.old) (C.shown console.new) }
+    ensures writes { OnlyWrites (C.shown console.old) (C.shown console.new) }
+{
+    run_with(sym, cut, DeviceMap::none(), steps, console)
+}
+
+/// Runs the symbolic machine as `run_counted` does, with devices. A load from one takes bytes from the front of the
+/// input, and a byte that is stored at an address for output goes to the console.
+pub fn run_with<C: Console>(
+    sym: &mut Sym<'_>,
+    cut: &Cut,
+    devices: DeviceMap<'_>,
+    steps: u64,
+    console: &mut C,
+) -> (TraceEnd, u64)
+    requires start { sym.old ≡ first_plain (program_of (parsed cut.now)) sym.old.input }
+    ensures ran { let e : Environment = record { devices = devices.entry; input = sym.old.input } in
+        Traced (plain_course (program_of (parsed cut.now)) e steps) result.0 (C.shown console.old)
+        (C.shown console.new) }
+    ensures count { let e : Environment = record { devices = devices.entry; input = sym.old.input } in
+        CountsSteps (plain_course (program_of (parsed cut.now)) e steps) result.0 result.1 (C.shown console.old)
+        (C.shown console.new) }
     ensures writes { OnlyWrites (C.shown console.old) (C.shown console.new) }
 {
     let mut made = 0;
     while made < steps {
         let (quiet, answer) = sym.advance(cut, steps - made);
         made += quiet;
-        let Ok(step) = answer else {
+        let Ok(alone) = answer else {
             return (TraceEnd::OutOfMemory, made);
         };
-        match step {
-            SymStep::Done | SymStep::Read { .. } => {}
+        match with_devices(sym, cut, &devices, alone) {
+            SymStep::Done | SymStep::Read { .. } | SymStep::Loaded { .. } => {}
             SymStep::Wrote { fd, bytes } => {
                 if let Err(fault) = write_to(console, fd, &bytes) {
+                    return (TraceEnd::Console(fault), made);
+                }
+            }
+            SymStep::Stored(sent) => {
+                if let Err(fault) = show(console, &devices, sent) {
                     return (TraceEnd::Console(fault), made);
                 }
             }
@@ -74,17 +104,17 @@ pub fn run_counted<C: Console>(
     (TraceEnd::Spent, steps)
 }
 
-// Writes bytes to the stream with a number.
-fn write_to<C: Console>(console: &mut C, fd: u8, bytes: &[u8]) -> Result<(), ConsoleFault>
-    requires { is_output fd ≡ true }
-    ensures ok { OnOk result (WroteTo fd bytes.now (C.shown console.old) (C.shown console.new)) }
-    ensures err { OnErr result (WrotePart fd bytes.now (C.shown console.old) (C.shown console.new)) }
-    ensures cause { IfErr result (WriteCause (C.shown console.old) (C.shown console.new)) }
-    ensures writes { OnlyWrites (C.shown console.old) (C.shown console.new) }
+// What a step comes to with devices, by what it came to without them.
+fn with_devices(sym: &mut Sym<'_>, cut: &Cut, devices: &DeviceMap<'_>, alone: SymStep) -> SymStep
+    requires { IsOf (program_of (parsed cut.now)) sym.old }
+    ensures { let p = program_of (parsed cut.now) in (s : PlainCore) → StepAnswers (plain_step p s) alone s sym.old
+        → StepAnswers (step_with devices.now.ranges p s) result s sym.new }
 {
-    if fd == 1 {
-        console.out(bytes)
-    } else {
-        console.err(bytes)
+    match alone {
+        SymStep::Stuck(place, why) => match sym.ask(cut, devices) {
+            Some(step) => step,
+            None => SymStep::Stuck(place, why),
+        },
+        other => other,
     }
 }

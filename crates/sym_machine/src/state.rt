@@ -15,6 +15,7 @@ ghost use Rattle.sym_machine.specs.Words.{code_word, number_of, number_word, und
 mod accesses;
 mod advance;
 mod calls;
+mod device_answers;
 mod ends;
 mod frames;
 mod items;
@@ -31,6 +32,7 @@ use crate::memory::SymMemory;
 use crate::why::Why;
 use crate::word::{SymByte, Value};
 use block_cut::cut::Cut;
+use devices::answers::Answers;
 use rv_decode::instr::LoadOp;
 use std::alloc::{AllocError, Global};
 use std::marker::Model;
@@ -38,20 +40,18 @@ use zc_base::place::Place;
 use zc_base::reg::Reg;
 
 /// The machine's state, but for the events: the place of the next item, the registers, memory, the
-/// input with how much of it was taken, and the exit's status.
+/// input that is left, and the exit's status.
 #[derive(Drop)]
-pub struct State {
+pub struct State<'a> {
     place: Place,
     registers: [Held; 32],
     memory: SymMemory,
-    input: Vec<u8>,
-    taken: usize,
+    answers: Answers<'a>,
     exit: Option<u8>,
     alloc: Global,
 }
 
-impl Model for State {
-    ghost use Rattle.std.specs.Prelude.{◌≤◌, drop, length};
+impl<'a> Model for State<'a> {
     ghost use Rattle.sym_machine.specs.Kept.{IsWorking, Working, regions_of, register_words};
 
     ghost Value = { Working };
@@ -61,25 +61,28 @@ impl Model for State {
         place = s.place;
         regs = register_words s.registers;
         memory = regions_of s.memory;
-        input = drop s.taken s.input.items;
+        input = s.answers;
         exit = s.exit;
       };
       map = s.memory.map;
     } };
 
-    ghost invariant = { λ s. IsWorking (register_words s.registers) s.memory × (s.taken ≤ length s.input.items) };
+    ghost invariant = { λ s. IsWorking (register_words s.registers) s.memory };
 }
 
-impl State {
+impl<'a> State<'a> {
     /// The state at the objects' start, with this input.
     #[tactic(auto, unfolding(crate::specs::Objects::program_of))]
-    pub fn start(alloc: Global, cut: &Cut, input: &[u8]) -> Result<State, AllocError>
-        ensures { IfOk result (λ s. s.core ≡ first_plain (program_of (parsed cut.now)) input.now) }
+    pub fn start_with(
+        alloc: Global,
+        cut: &Cut,
+        answers: Answers<'a>,
+    ) -> Result<State<'a>, AllocError>
+        ensures { IfOk result (λ s. s.core ≡ first_plain (program_of (parsed cut.now)) answers.entry) }
     {
         let map = cut.objects().map();
         let data = first_data(alloc, cut)?;
         let memory = SymMemory::new(alloc, map, data)?;
-        let input = Vec::from_slice(alloc, input)?;
         let mut registers = [Held::UNDEFINED; 32];
         registers[0] = Held::Number(0);
         registers[2] = Held::Number(map.stack_high);
@@ -87,8 +90,7 @@ impl State {
             place: cut.entry(),
             registers,
             memory,
-            input,
-            taken: 0,
+            answers,
             exit: None,
             alloc,
         })

@@ -3,25 +3,27 @@
 ghost use Rattle.std.specs.Prelude.{◌≡◌, ◌<◌, IfOk, None};
 ghost use Rattle.psabi_sym.specs.Inputs.{parsed};
 ghost use Rattle.sym_machine.specs.Advance.{Advanced};
-ghost use Rattle.sym_machine.specs.Answer.{Makes};
+ghost use Rattle.sym_machine.specs.Answer.{DevicesAnswer, Makes};
 ghost use Rattle.sym_machine.specs.Kept.{IsOf};
 ghost use Rattle.sym_machine.specs.Objects.{program_of};
 ghost use Rattle.sym_machine.specs.State.{first_plain};
-ghost use Rattle.sym_machine.specs.Step.{plain_step};
+ghost use Rattle.sym_machine.specs.Step.{plain_step, step_with};
 
 use crate::answer::SymStep;
 use crate::state::State;
 use block_cut::cut::Cut;
+use devices::answers::Answers;
+use devices::environment::DeviceMap;
 use std::alloc::{AllocError, Global};
 use std::marker::Model;
 
 /// The symbolic machine. Clauses see it as its state, but for the events.
 #[derive(Drop)]
-pub struct Sym {
-    state: State,
+pub struct Sym<'a> {
+    state: State<'a>,
 }
 
-impl Model for Sym {
+impl<'a> Model for Sym<'a> {
     ghost use Rattle.sym_machine.specs.State.{PlainCore};
 
     ghost Value = { PlainCore };
@@ -29,13 +31,21 @@ impl Model for Sym {
     ghost view = { λ s. s.state.core };
 }
 
-impl Sym {
+impl<'a> Sym<'a> {
     /// The state at the objects' start, with this input.
-    pub fn start(alloc: Global, cut: &Cut, input: &[u8]) -> Result<Sym, AllocError>
+    pub fn start(alloc: Global, cut: &Cut, input: &'a [u8]) -> Result<Sym<'a>, AllocError>
         ensures first { IfOk result (λ s. s ≡ first_plain (program_of (parsed cut.now)) input.now) }
         ensures of { IfOk result (λ s. IsOf (program_of (parsed cut.now)) s) }
     {
-        let state = State::start(alloc, cut, input)?;
+        Sym::start_with(alloc, cut, Answers::new(input, &[], 0))
+    }
+
+    /// The state at the objects' start. Reads take these answers from the front, and so do loads from devices.
+    pub fn start_with(alloc: Global, cut: &Cut, answers: Answers<'a>) -> Result<Sym<'a>, AllocError>
+        ensures first { IfOk result (λ s. s ≡ first_plain (program_of (parsed cut.now)) answers.entry) }
+        ensures of { IfOk result (λ s. IsOf (program_of (parsed cut.now)) s) }
+    {
+        let state = State::start_with(alloc, cut, answers)?;
         Ok(Sym { state })
     }
 
@@ -62,5 +72,16 @@ impl Sym {
         ensures advanced { Advanced (program_of (parsed cut.now)) self.old self.new result.0 result.1 }
     {
         self.state.advance(cut, steps)
+    }
+
+    /// Asks devices for the step of the objects that the machine was started with. If one of them answers, the step is
+    /// made; it is stuck where sp can't have what a load gives. If none does, nothing changes, and the step is the one
+    /// without devices.
+    pub fn ask(&mut self, cut: &Cut, devices: &DeviceMap<'_>) -> Option<SymStep>
+        requires { IsOf (program_of (parsed cut.now)) self.old }
+        ensures asked { DevicesAnswer (step_with devices.now.ranges (program_of (parsed cut.now)) self.old)
+            (plain_step (program_of (parsed cut.now)) self.old) result self.old self.new }
+    {
+        self.state.ask(cut, devices)
     }
 }

@@ -124,7 +124,7 @@ fn stepped(machine: &mut Machine) -> u32 {
     match machine.step() {
         Step::Committed => 0,
         Step::Stopped(reason) => reason.number(),
-        Step::Wants(_) | Step::Ended(_) => 98,
+        Step::Wants(_) | Step::Ended(_) | Step::Asks(_) => 98,
     }
 }
 

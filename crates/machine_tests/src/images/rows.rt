@@ -145,4 +145,13 @@ text 450D 0893 | data code 00010004 00000002 0 0300; | answers committed; stoppe
 # addi a7,x0,63; addi a1,sp,-16; ecall: a read of no bytes, as a2 is 0
 text 03F00893 FF010593 00000073 | answers committed; committed; wants read ffffff0 0; wants read ffffff0 0
 # c.li a0,2; addi a7,x0,64; addi a1,sp,-16; addi a2,x0,4; ecall
-text 4509 04000893 FF010593 00400613 00000073 | answers committed; committed; committed; committed; wants write 2 ffffff0 4";
+text 4509 04000893 FF010593 00400613 00000073 | answers committed; committed; committed; committed; wants write 2 ffffff0 4
+# lui a0,0x10013; lw a1,0(a0), and lbu a1,3(a0): outside memory
+text 10013537 00052583 | answers committed; asks Lw 10013000 11 4; asks Lw 10013000 11 4
+text 10013537 00354583 | answers committed; asks Lbu 10013003 11 4
+# lui a0,0x10013; sb a0,4(a0), and c.sw a0,4(a0)
+text 10013537 00A50223 | answers committed; asks Sb 10013004 10013000 4
+text 10013537 C148 | answers committed; asks Sw 10013004 10013000 2
+# lh a1,-1(sp), which isn't aligned, and lh a1,0(sp), which is outside the stack
+text FFF11583 | answers stopped 3 Misaligned
+text 00011583 | answers asks Lh 10000000 11 4";

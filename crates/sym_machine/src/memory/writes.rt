@@ -1,7 +1,7 @@
 // What is written to memory.
 
 ghost use Rattle.std.specs.Bool.{OnFalse, OnTrue};
-ghost use Rattle.std.specs.Prelude.{◌≡◌, ◌<◌, ◌^◌, true, length, map, slice_index_or};
+ghost use Rattle.std.specs.Prelude.{◌≡◌, ◌<◌, ◌^◌, true, drop, length, map, min, slice_index_or, take};
 ghost use Rattle.rv_decode.specs.Memory.{extents_of, is_data, lies_in, written};
 ghost use Rattle.sym_machine.specs.Kept.{IsChanged, regions_of};
 ghost use Rattle.sym_machine.specs.declared.word.SymByte.TheVariants.{Num, Undef};
@@ -9,6 +9,7 @@ ghost use Rattle.sym_machine.specs.declared.word.SymByte.TheVariants.{Num, Undef
 use super::SymMemory;
 use crate::span::Span;
 use crate::word::SymByte;
+use devices::answers::Answers;
 
 impl SymMemory {
     /// Writes numbers from an address on if all of their places are kept, and else changes nothing.
@@ -74,6 +75,38 @@ impl SymMemory {
         let _ = &self.map;
         for i in 0..numbers.len() {
             self.put(u64::from(a) + i as u64, SymByte::Num(numbers[i]));
+        }
+    }
+
+    /// Writes bytes from the front of the answers to a buffer, each if it is kept, until it is full or none are left.
+    /// Returns their number.
+    pub fn fill(&mut self, a: u32, len: u32, answers: &mut Answers<'_>) -> u32
+        ensures count { result ≡ min len (length answers.old) }
+        ensures left { answers.new ≡ drop result answers.old }
+        ensures filled { let bytes = map Num (take result answers.old) in
+            IsChanged (written a (length bytes) (λ i. slice_index_or bytes i Undef)) self.old self.new }
+    {
+        let _ = &self.map;
+        let mut done = 0;
+        while done < len {
+            let piece = answers.take_piece((len - done) as usize);
+            if piece.is_empty() {
+                break;
+            }
+            self.write_piece(u64::from(a) + u64::from(done), piece);
+            done += piece.len() as u32;
+        }
+        done
+    }
+
+    // Writes numbers from an address on, each if it is kept.
+    fn write_piece(&mut self, a: u64, numbers: &[u8])
+        ensures { IsChanged (written a (length (map Num numbers.now)) (λ i. slice_index_or
+            (map Num numbers.now) i Undef)) self.old self.new }
+    {
+        let _ = &self.map;
+        if a < 1 << 32 {
+            self.write_numbers(a as u32, numbers);
         }
     }
 

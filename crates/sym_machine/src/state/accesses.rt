@@ -1,7 +1,6 @@
 // Loads and stores.
 
 ghost use Rattle.std.specs.Prelude.{◌≡◌, ◌==◌, ◌<◌, ◌≤◌, ◌%◌, ℕ, None};
-ghost use Rattle.rv_decode.specs.Effect as effects;
 ghost use Rattle.sym_machine.specs.Answer.{Makes, reached};
 ghost use Rattle.sym_machine.specs.Change.{Does, load_does, accessing, store_does};
 ghost use Rattle.sym_machine.specs.State.{reg_of};
@@ -11,11 +10,12 @@ use super::State;
 use crate::answer::SymStep;
 use crate::why::Why;
 use rv_decode::instr::{LoadOp, StoreOp};
+use rv_decode::widths::{load_width, store_width};
 use std::alloc::AllocError;
 use zc_base::place::Place;
 use zc_base::reg::Reg;
 
-impl State {
+impl State<'_> {
     // A load from an address.
     pub(super) fn step_load(
         &mut self,
@@ -87,30 +87,5 @@ pub(super) fn is_multiple(a: u32, n: u32) -> bool
         2 => a % 2 == 0,
         4 => a % 4 == 0,
         _ => a % n == 0,
-    }
-}
-
-// The number of bytes that a load reads.
-pub(super) fn load_width(op: LoadOp) -> u32
-    ensures width { result ≡ effects.load_width op }
-    ensures some { 0 < result }
-{
-    match op {
-        LoadOp::Lb | LoadOp::Lbu => 1,
-        LoadOp::Lh | LoadOp::Lhu => 2,
-        LoadOp::Lw => 4,
-    }
-}
-
-// The number of bytes that a store writes.
-pub(super) fn store_width(op: StoreOp) -> u32
-    ensures width { result ≡ effects.store_width op }
-    ensures some { 0 < result }
-    ensures few { result ≤ 4 }
-{
-    match op {
-        StoreOp::Sb => 1,
-        StoreOp::Sh => 2,
-        StoreOp::Sw => 4,
     }
 }

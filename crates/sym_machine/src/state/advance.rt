@@ -12,7 +12,7 @@ use crate::cursor::{Cursor, item_here};
 use block_cut::cut::Cut;
 use std::alloc::AllocError;
 
-impl State {
+impl State<'_> {
     /// Makes at most `steps` steps, up to the first with an answer other than that it is done. Returns how many came
     /// before that one, and its answer.
     #[inline(always)]

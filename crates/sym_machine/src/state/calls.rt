@@ -23,7 +23,7 @@ const A2: u8 = 12;
 
 const A7: u8 = 17;
 
-impl State {
+impl State<'_> {
     // The call that a7 says, with the place after it.
     pub(super) fn step_call(&mut self, next: Place) -> Result<SymStep, AllocError>
         requires { self.old.core.exit ≡ None }

@@ -23,7 +23,7 @@ use zc_base::reg::Reg;
 
 const A0: usize = 10;
 
-impl State {
+impl State<'_> {
     // A step that is stuck.
     pub(super) fn stuck(&self, why: Why) -> SymStep
         requires { self.now.core.exit ≡ None }
@@ -271,15 +271,12 @@ impl State {
         ensures { StepAnswers (applied self.old.map self.old.core (read_does self.old.core to arguments)) result
             self.old.core self.new.core }
     {
-        let left = &self.input[self.taken..];
-        let count = left.len().min(arguments.len as usize);
-        self.memory.write_numbers(arguments.at, &left[..count]);
-        self.registers[A0] = Held::Number(count as u32);
-        self.taken += count;
+        let count = self
+            .memory
+            .fill(arguments.at, arguments.len, &mut self.answers);
+        self.registers[A0] = Held::Number(count);
         self.place = to;
-        SymStep::Read {
-            count: count as u32,
-        }
+        SymStep::Read { count }
     }
 
     // Writes these bytes out, and goes on to a place.

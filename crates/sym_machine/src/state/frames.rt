@@ -30,7 +30,7 @@ pub(super) enum PopEnd {
     ReturnsZero,
 }
 
-impl State {
+impl State<'_> {
     // A push: sp is lowered, and the registers of a list are saved above it. Or nothing changes, and this is why.
     pub(super) fn push(&mut self, list: u8, adjust: u8, next: Place) -> Option<Why>
         requires running { self.old.core.exit ≡ None }

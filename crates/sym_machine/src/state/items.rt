@@ -19,7 +19,7 @@ use rv_decode::instr::Instr;
 use std::alloc::AllocError;
 use zc_base::place::Place;
 
-impl State {
+impl State<'_> {
     // The step of an item, with the place after it.
     pub(super) fn step_item(
         &mut self,

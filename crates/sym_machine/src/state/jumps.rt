@@ -13,7 +13,7 @@ use std::alloc::AllocError;
 use zc_base::place::Place;
 use zc_base::reg::Reg;
 
-impl State {
+impl State<'_> {
     // A jump, if it goes to a place in code, with the next place's address in a register.
     pub(super) fn jump(
         &mut self,

@@ -16,15 +16,16 @@ ghost use Rattle.sym_machine.specs.Step.{applied, item_step};
 ghost use Rattle.sym_machine.specs.Words.{code_word, imm_word, number_of, number_word, reg_word, sum_word};
 
 use super::State;
-use super::accesses::{is_multiple, load_width, store_width};
+use super::accesses::is_multiple;
 use crate::held::Held;
 use block_cut::item::Item;
 use rv_decode::instr::{BranchOp, ImmOp, Instr, LoadOp, RegOp, StoreOp, UpperOp};
 use rv_decode::results::{imm_result, is_taken, reg_result, upper_result};
+use rv_decode::widths::{load_width, store_width};
 use zc_base::place::Place;
 use zc_base::reg::Reg;
 
-impl State {
+impl State<'_> {
     // Makes the step of an item, with the place after it, if it is a quick one, and else changes nothing.
     #[inline(always)]
     pub(super) fn quick_item(&mut self, item: &Item, next: Place) -> bool

@@ -23,7 +23,7 @@ use zc_base::reg::Reg;
 use zc_decode::decode16::decode16;
 use zc_decode::short::Short;
 
-impl State {
+impl State<'_> {
     // The step of two bytes that are no instruction of RV32IM: a push, a pop or two moves.
     pub(super) fn step_short(&mut self, half: u16, next: Place) -> SymStep
         requires { self.old.core.exit ≡ None }

@@ -19,7 +19,7 @@ use rv_decode::instr::{ImmOp, Instr};
 use std::alloc::AllocError;
 use zc_base::place::Place;
 
-impl State {
+impl State<'_> {
     // An instruction whose immediate is the lower part of a target.
     pub(super) fn step_lo(
         &mut self,

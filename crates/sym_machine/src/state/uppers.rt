@@ -20,7 +20,7 @@ use rv_decode::instr::{Instr, UpperOp};
 use std::alloc::AllocError;
 use zc_base::place::Place;
 
-impl State {
+impl State<'_> {
     // An instruction whose immediate is the upper part of a target.
     pub(super) fn step_hi(
         &mut self,

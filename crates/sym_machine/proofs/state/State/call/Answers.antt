@@ -1,5 +1,5 @@
 -- A call sets one register or two, or leaves no number in sp.
-use Rattle.std.proofs.Common.{◌≡◌, ◌≤◌, ◌<◌, ℕ, None, ap, sym, ◌∙◌, drop, length, subst, refl, set, arith}
+use Rattle.std.proofs.Common.{◌≡◌, ◌<◌, ℕ, None, ap, sym, ◌∙◌, length, subst, refl, set, arith}
 use Rattle.sym_machine.specs.declared.held.Held.TheVariants as held
 use Rattle.sym_machine.specs.declared.state.State.TheInside.{Inside}
 use Rattle.sym_machine.specs.declared.answer.SymStep.TheVariants as answer
@@ -16,7 +16,7 @@ use Rattle.sym_machine.proofs.state.State.call.Goals.{then-link-eq2-via-then-lin
 pub returns-then-link-eq2 : goal.returns-then-link-eq2
 returns-then-link-eq2 c =
     let s = c.args.self.now.core in
-    let many : 2 < length s.regs = omega (arith, c.self.invariant.0.registers_are.count, ap (λ (w : Working). length w.core.regs) c.self.view_is) in
+    let many : 2 < length s.regs = omega (arith, c.self.invariant.registers_are.count, ap (λ (w : Working). length w.core.regs) c.self.view_is) in
     let does : call_to c.args.rd c.args.temp c.args.to c.args.next ≡ Goes (calls c.number.result c.number-2.result c.args.next c.args.to) =
     (λ j. call_to (sym c.number.ensures.value j) (sym c.number-2.ensures.value j) c.args.to c.args.next) ∙ call_goes c.number.result c.number-2.result c.args.to c.args.next c.if-part-eq0.false in
     let stuck : applied c.args.self.now.map s (Goes (calls c.number.result c.number-2.result c.args.next c.args.to)) ≡ Stuck StackPointer =
@@ -33,23 +33,21 @@ returns-then-link-eq2 c =
 pub invariant_of-self : goal.invariant_of-self
 invariant_of-self c =
     let i = c.self.inside in
-    let is = c.self.invariant.0 in
+    let is = c.self.invariant in
     let is' = working_set i.registers i.memory i.memory c.number-2.result forgotten is is.kept refl c.if-part-eq0.false c.if-part-eq2.false in
-    let Is : Inside → Type 0 = λ n. IsWorking (register_words n.registers) n.memory × (n.taken ≤ length n.input.items) in
+    let Is : Inside → Type 0 = λ n. IsWorking (register_words n.registers) n.memory in
     elim c.if-link-ne0.branch [
       | then-link-ne0 w ↦
-          subst Is (sym w.self-inside-is) (
-            working_set (set i.registers c.number-2.result forgotten) i.memory i.memory c.number.result (held.Code c.args.next) is' is.kept refl w.if-link-ne0.true c.if-link-eq2.false,
-            c.self.invariant.1,
-          )
-      | else-link-ne0 w ↦ subst Is (sym w.self-inside-is) (is', c.self.invariant.1)
+          subst Is (sym w.self-inside-is)
+          (working_set (set i.registers c.number-2.result forgotten) i.memory i.memory c.number.result (held.Code c.args.next) is' is.kept refl w.if-link-ne0.true c.if-link-eq2.false)
+      | else-link-ne0 w ↦ subst Is (sym w.self-inside-is) is'
     ]
 
 pub returns : goal.returns
 returns c =
     let i = c.self.inside in
     let running : i.exit ≡ None = ap (λ (w : Working). w.core.exit) c.self.view_is ∙ c.requires in
-    let input = drop i.taken i.input.items in
+    let input = i.answers in
     let part = c.number-2.result in
     let before = core_of i.place i.registers i.memory input i.exit in
     let does : Goes (calls c.number.result part c.args.next c.args.to) ≡ call_to c.args.rd c.args.temp c.args.to c.args.next =
@@ -58,13 +56,13 @@ returns c =
     let told : (after : PlainCore) → StepAnswers (applied i.memory.map before (Goes (calls c.number.result part c.args.next c.args.to))) answer.Done before after → After after =
     λ after h. subst (λ (w : Working). StepAnswers (applied w.map w.core (call_to c.args.rd c.args.temp c.args.to c.args.next)) answer.Done w.core after) c.self.view_is
     (subst (λ (d : Does). StepAnswers (applied i.memory.map before d) answer.Done before after) does h) in
-    let Is : Inside → Type 0 = λ n. After (core_of c.args.to n.registers n.memory (drop n.taken n.input.items) n.exit) in
+    let Is : Inside → Type 0 = λ n. After (core_of c.args.to n.registers n.memory n.answers n.exit) in
     elim c.if-link-ne0.branch [
       | then-link-ne0 w ↦
           subst Is (sym w.self-inside-is)
-          (told _ (calls_on i.memory i.registers c.self.invariant.0 i.place c.args.to input i.exit running part c.number.result c.args.next c.if-part-eq0.false c.if-part-eq2.false w.if-link-ne0.true c.if-link-eq2.false))
+          (told _ (calls_on i.memory i.registers c.self.invariant i.place c.args.to input i.exit running part c.number.result c.args.next c.if-part-eq0.false c.if-part-eq2.false w.if-link-ne0.true c.if-link-eq2.false))
       | else-link-ne0 w ↦
           subst Is (sym w.self-inside-is)
           (told _ (subst (λ (r : ℕ). StepAnswers (applied i.memory.map before (Goes (calls r part c.args.next c.args.to))) answer.Done before (core_of c.args.to (set i.registers part forgotten) i.memory input i.exit)) (sym w.if-link-ne0.false)
-          (calls_off i.memory i.registers c.self.invariant.0 i.place c.args.to input i.exit running part c.args.next c.if-part-eq0.false c.if-part-eq2.false)))
+          (calls_off i.memory i.registers c.self.invariant i.place c.args.to input i.exit running part c.args.next c.if-part-eq0.false c.if-part-eq2.false)))
     ]

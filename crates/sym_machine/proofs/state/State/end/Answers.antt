@@ -1,4 +1,4 @@
-use Rattle.std.proofs.Common.{◌≡◌, ◌%◌, None, Some, ap, ◌∙◌, drop, subst}
+use Rattle.std.proofs.Common.{◌≡◌, ◌%◌, None, Some, ap, ◌∙◌, subst}
 use Rattle.sym_machine.specs.declared.answer.SymStep.TheVariants as answer
 use Rattle.sym_machine.specs.Answer.{StepAnswers}
 use Rattle.sym_machine.specs.Change.{exit_does}
@@ -11,7 +11,7 @@ pub returns : goal.returns
 returns c =
     let i = c.self.inside in
     let running : i.exit ≡ None = ap (λ (w : Working). w.core.exit) c.self.view_is ∙ c.requires in
-    let input = drop i.taken i.input.items in
+    let input = i.answers in
     let status = c.args.a0 % 256 in
     subst (λ (w : Working). StepAnswers (applied w.map w.core (exit_does (Some c.args.a0) w.core.place)) (answer.Exited status) w.core (core_of i.place i.registers i.memory input (Some status))) c.self.view_is
-    (exits i.memory i.registers c.self.invariant.0 i.place i.place input i.exit running c.args.a0)
+    (exits i.memory i.registers c.self.invariant i.place i.place input i.exit running c.args.a0)

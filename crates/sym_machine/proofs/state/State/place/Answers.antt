@@ -9,5 +9,5 @@ pub returns-clause-step : goal.returns-clause-step
 returns-clause-step c = λ p of running.
     let i = c.self.inside in
     let s = c.args.self.now.core in
-    step_of i.memory c.self.invariant.0.kept p (ap (λ (w : Working). extents_of w.core.memory) c.self.view_is ∙ of) s running
+    step_of i.memory c.self.invariant.kept p (ap (λ (w : Working). extents_of w.core.memory) c.self.view_is ∙ of) s running
     ∙ (λ j. item_step [] (c.self.view_is j).map p (p.item (sym c.self.view_is j).core.place) s (p.next (sym c.self.view_is j).core.place))

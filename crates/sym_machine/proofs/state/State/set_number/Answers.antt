@@ -1,4 +1,4 @@
-use Rattle.std.proofs.Common.{◌≡◌, ℕ, [], None, ap, sym, ◌∙◌, drop, subst, refl, set}
+use Rattle.std.proofs.Common.{◌≡◌, ℕ, [], None, ap, sym, ◌∙◌, subst, refl, set}
 use Rattle.sym_machine.specs.declared.held.Held.{Held}
 use Rattle.sym_machine.specs.declared.held.Held.TheVariants as held
 use Rattle.sym_machine.specs.Answer.{RunsOn}
@@ -12,15 +12,15 @@ use Rattle.sym_machine.proofs.state.State.set_number.Goals as goal
 pub invariant_of-self : goal.invariant_of-self
 invariant_of-self c =
     let i = c.self.inside in
-    let is = c.self.invariant.0 in
+    let is = c.self.invariant in
     let same = sym c.number.ensures.value in
-    (working_set i.registers i.memory i.memory c.number.result c.set_number.new.self is is.kept refl (λ e. c.requires.some (same ∙ e)) (λ e. c.requires.other (same ∙ e)), c.self.invariant.1)
+    working_set i.registers i.memory i.memory c.number.result c.set_number.new.self is is.kept refl (λ e. c.requires.some (same ∙ e)) (λ e. c.requires.other (same ∙ e))
 
 pub returns-clause-made : goal.returns-clause-made
 returns-clause-made c =
     let i = c.self.inside in
     let running : i.exit ≡ None = ap (λ (w : Working). w.core.exit) c.self.view_is ∙ c.requires.running in
-    let input = drop i.taken i.input.items in
+    let input = i.answers in
     let r = c.number.result in
     let same = sym c.number.ensures.value in
     let before = core_of i.place i.registers i.memory input i.exit in
@@ -28,4 +28,4 @@ returns-clause-made c =
     subst (λ (w : Working). RunsOn (applied w.map w.core (Goes (sets c.args.rd (number_word c.args.n) c.args.to))) [] w.core (after c.set_number.new.self)) c.self.view_is
     (subst (λ (n : ℕ). RunsOn (applied i.memory.map before (Goes (sets n (number_word c.args.n) c.args.to))) [] before (after c.set_number.new.self)) c.number.ensures.value
     (subst (λ (w : Held). RunsOn (applied i.memory.map before (Goes (sets r (number_word c.args.n) c.args.to))) [] before (after w)) (sym c.set_number.ensures)
-    (gives_on i.memory i.registers c.self.invariant.0 i.place c.args.to input i.exit running r (held.Number c.args.n) (λ e. c.requires.some (same ∙ e)) (λ e. c.requires.other (same ∙ e)))))
+    (gives_on i.memory i.registers c.self.invariant i.place c.args.to input i.exit running r (held.Number c.args.n) (λ e. c.requires.some (same ∙ e)) (λ e. c.requires.other (same ∙ e)))))

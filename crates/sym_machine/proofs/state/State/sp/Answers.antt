@@ -1,5 +1,5 @@
 -- sp is the address from which on the stack is kept.
-use Rattle.std.proofs.Common.{ℕ, drop, subst, sym}
+use Rattle.std.proofs.Common.{ℕ, subst, sym}
 use Rattle.sym_machine.specs.Invariants.Frames.{HasStack}
 use Rattle.sym_machine.specs.Kept.{Working}
 use Rattle.sym_machine.proofs.MemoryLaws.{settled_stays}
@@ -9,8 +9,8 @@ use Rattle.sym_machine.proofs.state.State.sp.Goals as goal
 pub returns : goal.returns
 returns c =
     let i = c.self.inside in
-    let is = c.self.invariant.0 in
-    let s = core_of i.place i.registers i.memory (drop i.taken i.input.items) i.exit in
+    let is = c.self.invariant in
+    let s = core_of i.place i.registers i.memory i.answers i.exit in
     subst (λ (w : Working). HasStack w.map c.kept_from.result w.core) c.self.view_is
     (subst (λ (n : ℕ). HasStack i.memory.map n s) (sym c.kept_from.ensures)
     (record { count = is.registers_are.count; number = is.sp; low = is.kept.low; high = is.kept.high; settled = settled_stays i.memory is.kept }))

@@ -35,7 +35,7 @@ step_here c =
     let of = ap (λ (w : Working). extents_of w.core.memory) c.self.view_is ∙ c.requires in
     let map : i.memory.map ≡ c.args.self.now.map = ap (λ (w : Working). w.map) c.self.view_is in
     let place : s.place ≡ i.place = ap (λ (w : Working). w.core.place) (sym c.self.view_is) in
-    step_of i.memory c.self.invariant.0.kept p of s running ∙ (λ j. item_step [] (map j) p (p.item (place j)) s (p.next (place j)))
+    step_of i.memory c.self.invariant.kept p of s running ∙ (λ j. item_step [] (map j) p (p.item (place j)) s (p.next (place j)))
 
 pub returns-in_default-at : goal.returns-in_default-at
 unfolding program_of

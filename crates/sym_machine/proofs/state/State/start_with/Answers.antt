@@ -7,7 +7,7 @@ use Rattle.sym_machine.specs.Kept.{regions_of}
 use Rattle.sym_machine.specs.Objects.{data_bytes, program_of}
 use Rattle.sym_machine.specs.Program.{start_memory}
 use Rattle.sym_machine.specs.Words.{number_word, undef_word}
-use Rattle.sym_machine.proofs.state.State.start.Goals as goal
+use Rattle.sym_machine.proofs.state.State.start_with.Goals as goal
 
 pub returns : goal.returns
 unfolding program_of
@@ -23,7 +23,7 @@ returns c =
       place = c.entry.ensures j;
       regs = start_regs (number_word 0) (number_word (map j).stack_high) undef_word;
       memory = memory j;
-      input = c.in_ok-input.ensures.items j;
+      input = c.args.answers;
       exit = None;
     }
 
