@@ -8,7 +8,8 @@ use Rattle.rv_decode.specs.declared.instr.Instr.{Instr}
 use Rattle.rv_decode.specs.declared.instr.Instr.TheVariants.{Upper, Jal, Jalr, Branch, Load, Store, WithImm, WithReg, Fence, Ecall, Ebreak, Csrrw}
 use Rattle.rv_decode.specs.Effect as act
 use Rattle.rv_decode.specs.Effect.{Effect, Commits, attempting, effect, jumps, load_width, onward, store_width}
-use Rattle.rv_decode.specs.Devices.{DeviceAccess, Loads, Stores}
+use Rattle.rv_decode.specs.declared.device_access.DeviceAccess.{DeviceAccess}
+use Rattle.rv_decode.specs.declared.device_access.DeviceAccess.TheVariants as access
 use Rattle.rv_decode.specs.Memory.{Extent, byte_of, changed, extents_of, is_data, is_stack, is_text, lies_in, written}
 use Rattle.rv_decode.specs.State.{ZcCore, ZcState, reg_in}
 use Rattle.rv_decode.proofs.MemoryLaws.{extents-changed}
@@ -184,8 +185,8 @@ committed_extents (Asks x) r r' leaves h = by x (is_answered r.devices x) h
   where
     by : (x : DeviceAccess) (b : Bool) → cond b (Ok (device_answers x r)) (Err BadAccess) ≡ Ok r' → extents_of r'.core.memory ≡ extents_of r.core.memory
     by x false g = absurd cc
-    by (Loads op a rd size) true g = let same : device_answers (Loads op a rd size) r ≡ r' = cc in ap (λ y. extents_of y.core.memory) (sym same)
-    by (Stores a bytes size) true g = let same : device_answers (Stores a bytes size) r ≡ r' = cc in ap (λ y. extents_of y.core.memory) (sym same)
+    by (access.Load op a rd size) true g = let same : device_answers (access.Load op a rd size) r ≡ r' = cc in ap (λ y. extents_of y.core.memory) (sym same)
+    by (access.Store op a word size) true g = let same : device_answers (access.Store op a word size) r ≡ r' = cc in ap (λ y. extents_of y.core.memory) (sym same)
 
 -- a commit leaves regions where they lie
 pub turn_extents : (r r' : ZcState) → zc_turn [] r ≡ Ok r' → extents_of r'.core.memory ≡ extents_of r.core.memory

@@ -2,7 +2,7 @@
 -- image's memory lies within the map, and devices outside it: so the machine reaches no memory either, and asks the same device for the
 -- same bytes at the same address.
 use Rattle.std.specs.Option.{option_and_then, option_map}
-use Rattle.std.proofs.Common.{◌≡◌, ℕ, ◌+◌, ◌%◌, ◌^◌, ◌<◌, ◌≤◌, List, [], ◌∷◌, ◌++◌, length, min, take, drop, Option, Some, None, Ok, Err, Bool, true, false, cond, refl, sym, ap, ◌∙◌, subst, inl, inr, ⊎_elim, arith, eqb, leb, ℤ}
+use Rattle.std.proofs.Common.{◌≡◌, ℕ, ◌+◌, ◌%◌, ◌^◌, ◌<◌, ◌≤◌, List, [], ◌∷◌, ◌++◌, length, min, take, drop, Option, Some, None, Ok, Err, Bool, true, false, cond, refl, sym, ap, ap₂, ◌∙◌, subst, inl, inr, ⊎_elim, arith, eqb, leb, ℤ}
 use Rattle.std.specs.Prelude.{◌&&◌, ◌⊎◌, All}
 use Rattle.std.proofs.lemmas.Bool.{and_parts, cases_Bool, cond-false, cond-true, eq-eqb, eqb-true, leb-true, or_cases}
 use Rattle.std.proofs.lemmas.List.Elements.{All-head, All-tail}
@@ -20,7 +20,9 @@ use Rattle.rv_decode.specs.declared.instr.LoadOp.TheVariants.{Lb, Lh, Lw, Lbu, L
 use Rattle.rv_decode.specs.declared.instr.StoreOp.{StoreOp}
 use Rattle.rv_decode.specs.declared.instr.StoreOp.TheVariants.{Sb, Sh, Sw}
 use Rattle.rv_decode.specs.Bits.{add32}
-use Rattle.rv_decode.specs.Devices.{AreOutside, Device, DeviceAccess, Loads, Stores, in_devices, number_from, sent_bytes, widened}
+use Rattle.rv_decode.specs.declared.device_access.DeviceAccess.{DeviceAccess}
+use Rattle.rv_decode.specs.declared.device_access.DeviceAccess.TheVariants as access
+use Rattle.rv_decode.specs.Devices.{AreOutside, Device, in_devices, number_from, sent_bytes, widened}
 use Rattle.rv_decode.specs.Effect.{Commits, Effect, Outside, attempting, effect, gives, load_result, load_width, onward, store_width, stored}
 use Rattle.rv_decode.specs.Memory.{byte_of, extents_of, is_data, lies_in}
 use Rattle.rv_decode.specs.State.{Event, Load, Store, ZcCore, ZcState, reg_in, set_reg}
@@ -163,26 +165,25 @@ first_is V Undef m rest all st h = absurd cc
 none_left : (all : List ℕ) → Some [] ≡ Some all → all ≡ []
 none_left all h = cc
 
+-- the lowest byte is the low eight bits
+lowest : (n : ℕ) → byte_of n 0 ≡ n % 256
+lowest n = omega arith
+
 -- so what the program sends is what the machine does
 sends : (V : Value → Option ℕ) (op : StoreOp) (w : SymWord) (n : ℕ) (all : List ℕ) → WordStands V w n → byte_numbers (stored_bytes op w) ≡ Some all → all ≡ sent_bytes op n
 sends V Sb w n all st h =
     let one = first_is V w.b0 (byte_of n 0) (Some []) all st.b0 h in
-    one.is ∙ ap (λ l. byte_of n 0 ∷ l) (none_left one.numbers one.later)
+    one.is ∙ ap₂ (λ b l. b ∷ l) (lowest n) (none_left one.numbers one.later)
 sends V Sh w n all st h =
     let one = first_is V w.b0 (byte_of n 0) (byte_numbers (w.b1 ∷ [])) all st.b0 h in
     let two = first_is V w.b1 (byte_of n 1) (Some []) one.numbers st.b1 one.later in
-    one.is ∙ ap (λ l. byte_of n 0 ∷ l) (two.is ∙ ap (λ l. byte_of n 1 ∷ l) (none_left two.numbers two.later))
+    one.is ∙ ap₂ (λ b l. b ∷ l) (lowest n) (two.is ∙ ap (λ l. byte_of n 1 ∷ l) (none_left two.numbers two.later))
 sends V Sw w n all st h =
     let one = first_is V w.b0 (byte_of n 0) (byte_numbers (w.b1 ∷ w.b2 ∷ w.b3 ∷ [])) all st.b0 h in
     let two = first_is V w.b1 (byte_of n 1) (byte_numbers (w.b2 ∷ w.b3 ∷ [])) one.numbers st.b1 one.later in
     let three = first_is V w.b2 (byte_of n 2) (byte_numbers (w.b3 ∷ [])) two.numbers st.b2 two.later in
     let four = first_is V w.b3 (byte_of n 3) (Some []) three.numbers st.b3 three.later in
-    one.is ∙ ap (λ l. byte_of n 0 ∷ l) (two.is ∙ ap (λ l. byte_of n 1 ∷ l) (three.is ∙ ap (λ l. byte_of n 2 ∷ l) (four.is ∙ ap (λ l. byte_of n 3 ∷ l) (none_left four.numbers four.later))))
-
-sent_length : (op : StoreOp) (n : ℕ) → length (sent_bytes op n) ≡ store_width op
-sent_length Sb n = refl
-sent_length Sh n = refl
-sent_length Sw n = refl
+    one.is ∙ ap₂ (λ b l. b ∷ l) (lowest n) (two.is ∙ ap (λ l. byte_of n 1 ∷ l) (three.is ∙ ap (λ l. byte_of n 2 ∷ l) (four.is ∙ ap (λ l. byte_of n 3 ∷ l) (none_left four.numbers four.later))))
 
 some_load : (op : LoadOp) → 0 < load_width op
 some_load Lb = omega arith
@@ -274,8 +275,8 @@ module _ {p : Program} {Named : Place → Type 0} {e : Image} {r r' : PlainState
       let v : ℕ = widened op (number_from bytes) in
       let small : v < 2 ^ 32 = widened_below op bytes (t.are y.alike.plain.input) t.short in
       let core : ZcCore = onward now size (set_reg now.regs rd v) in
-      let turn : zc_turn (cuts 0) z ≡ Ok (device_answers (Loads op a rd size) (record z { core = now })) =
-      asks laid now n a (Loads op a rd size) _ y.alike.extents y.turn
+      let turn : zc_turn (cuts 0) z ≡ Ok (device_answers (access.Load op a rd size) (record z { core = now })) =
+      asks laid now n a (access.Load op a rd size) _ y.alike.extents y.turn
       (ap (λ b. effect_at op rd size now b) (sym same)) (some_load op) at.aligned at.device refl in
       answer_comes (device_load op rd s next a) (Load a n bytes) core (drop n z.input) found.2 refl refl
       (turn ∙ ap (λ l. Ok (record z { core = onward now size (set_reg now.regs rd (widened op (number_from l))); input = drop n z.input; events = z.events ++ Load a n l ∷ [] })) (sym t.same))
@@ -283,7 +284,7 @@ module _ {p : Program} {Named : Place → Type 0} {e : Image} {r r' : PlainState
       (ready_moved (ready_fed (ready_set y.alike.ready rd v (number_word v) small (number_stands V v) (number_names Named v)) count) next _ _)
     where
       effect_at : LoadOp → ℕ → ℕ → ZcCore → ℕ → Effect
-      effect_at op rd size now b = attempting (load_width op) b now (Outside (Loads op b rd size)) (gives (load_result op now b) rd size now)
+      effect_at op rd size now b = attempting (load_width op) b now (Outside (access.Load op b rd size)) (gives (load_result op now b) rd size now)
 
   -- a store
   store_comes :
@@ -306,16 +307,16 @@ module _ {p : Program} {Named : Place → Type 0} {e : Image} {r r' : PlainState
       let word : ℕ = reg_in now source in
       let told : store.0 ≡ sent_bytes op word = sends V op (reg_of s source) word store.0 (y.alike.registers source low) store.1 in
       let core : ZcCore = onward now size now.regs in
-      let turn : zc_turn (cuts 0) z ≡ Ok (device_answers (Stores a (sent_bytes op word) size) (record z { core = now })) =
-      asks laid now n a (Stores a (sent_bytes op word) size) _ y.alike.extents y.turn
-      (ap (λ b. effect_at op word size now b) (sym same)) (some_store op) at.aligned at.device (ap (in_devices z.devices a) (sent_length op word)) in
+      let turn : zc_turn (cuts 0) z ≡ Ok (device_answers (access.Store op a word size) (record z { core = now })) =
+      asks laid now n a (access.Store op a word size) _ y.alike.extents y.turn
+      (ap (λ b. effect_at op word size now b) (sym same)) (some_store op) at.aligned at.device refl in
       answer_comes (record (continues next) { events = Store a store.0 ∷ [] }) (Store a store.0) core z.input store.2 refl refl
       (turn ∙ ap (λ l. Ok (record z { core = core; input = z.input; events = z.events ++ Store a l ∷ [] })) (sym told))
       (laid.next ∙ ap Some (below_top z.core.pc now.pc size y.pc laid.at.small)) from.sound.input
       (ready_moved y.alike.ready next _ _)
     where
       effect_at : StoreOp → ℕ → ℕ → ZcCore → ℕ → Effect
-      effect_at op word size now b = attempting (store_width op) b now (Outside (Stores b (sent_bytes op word) size)) (Commits (onward (stored (store_width op) b word now) size now.regs))
+      effect_at op word size now b = attempting (store_width op) b now (Outside (access.Store op b word size)) (Commits (onward (stored (store_width op) b word now) size now.regs))
 
   -- ---- items
 

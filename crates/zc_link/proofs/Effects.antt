@@ -8,7 +8,8 @@ use Rattle.rv_decode.specs.declared.instr.ImmOp.TheVariants.{Addi}
 use Rattle.rv_decode.specs.Bits.{add32}
 use Rattle.rv_decode.specs.declared.instr.LoadOp.TheVariants.{Lw}
 use Rattle.rv_decode.specs.declared.instr.StoreOp.TheVariants.{Sw}
-use Rattle.rv_decode.specs.Devices.{DeviceAccess, Loads, Stores, sent_bytes}
+use Rattle.rv_decode.specs.declared.device_access.DeviceAccess.{DeviceAccess}
+use Rattle.rv_decode.specs.declared.device_access.DeviceAccess.TheVariants as access
 use Rattle.rv_decode.specs.Effect.{Commits, Effect, Misaligned, Outside, attempting, effect, onward, stored}
 use Rattle.rv_decode.specs.Memory.{Extent, byte_of, extents_of, is_data, lies_in, written}
 use Rattle.rv_decode.specs.State.{ZcCore, reg_in, set_reg, word_at}
@@ -94,7 +95,7 @@ pub stores_are : (base : ℕ) (ds : List Slot) (y z : ZcCore) → reg_in y 2 ≡
 stores_are base [] y z at small h = record { memory = ap (λ x. x.memory) h; regs = ap (λ x. x.regs) h; rest = keeps_same h; reach = λ d m. absurd m }
 stores_are base (d ∷ ds) y z at small h =
     let a : add32 (reg_in y 2) (pos d.offset) ≡ base + d.offset = omega (arith, at, small d (inl refl)) in
-    let sends : ℕ → Effect = λ x. Outside (Stores x (sent_bytes Sw (reg_in y d.register)) h.0) in
+    let sends : ℕ → Effect = λ x. Outside (access.Store Sw x (reg_in y d.register) h.0) in
     let after : ℕ → ZcCore = λ x. onward (stored 4 x (reg_in y d.register) y) h.0 y.regs in
     let y1 : ZcCore = after (base + d.offset) in
     let first : attempting 4 (base + d.offset) y (sends (base + d.offset)) (Commits y1) ≡ Commits h.1 = subst (λ x. attempting 4 x y (sends x) (Commits (after x)) ≡ Commits h.1) a h.2 in
@@ -128,7 +129,7 @@ loads_are base [] y z at small h = record { regs = ap (λ x. x.regs) h; memory =
 loads_are base (d ∷ ds) y z at small h =
     let in_range = small d (inl refl) in
     let a : add32 (reg_in y 2) (pos d.offset) ≡ base + d.offset = omega (arith, at, in_range.0) in
-    let takes : ℕ → Effect = λ x. Outside (Loads Lw x d.register h.0) in
+    let takes : ℕ → Effect = λ x. Outside (access.Load Lw x d.register h.0) in
     let after : ℕ → ZcCore = λ x. onward y h.0 (set_reg y.regs d.register (word_at y x)) in
     let y1 : ZcCore = after (base + d.offset) in
     let first : attempting 4 (base + d.offset) y (takes (base + d.offset)) (Commits y1) ≡ Commits h.1 = subst (λ x. attempting 4 x y (takes x) (Commits (after x)) ≡ Commits h.1) a h.2 in

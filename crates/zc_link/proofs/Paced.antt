@@ -32,7 +32,7 @@ use Rattle.sym_machine.proofs.RunLaws.{stepped}
 use Rattle.zc_link.specs.IsSimulation.{IsPaced}
 use Rattle.zc_link.specs.LaidOut.{IsLaidOut}
 use Rattle.zc_link.specs.Pace.{Alone, CallOf, LongOf, commits_in, commits_of, long_commits, pace_of, span_of, stretch_of}
-use Rattle.zc_link.specs.Preserves.{aligns_of, is_align_at}
+use Rattle.zc_link.specs.Preserves.{aligns_of}
 use Rattle.zc_link.specs.TextLayout.{TextLayout, size_in, stretch_in}
 use Rattle.moved_runs.proofs.Elements.{any_flat, any_offset}
 use Rattle.zc_link.proofs.GroupItems.{group_known}
@@ -69,6 +69,10 @@ module _ {X : Type 0} (f g : X → Bool) (narrow : (x : X) → g x ≡ true → 
       by false false a b later h = later h
 
 -- ---- ALIGNs ahead
+
+-- whether the item at a place is one
+abbrev is_align_at : ParsedInputs → Place → Bool
+is_align_at p q = option_map_or is_align (item_at p q) false
 
 -- one that stands at a place or behind it in its section
 abbrev is_ahead : ParsedInputs → Place → Place → Bool

@@ -4,7 +4,7 @@ use Rattle.std.proofs.Common.{◌≡◌, ◌≢◌, ℕ, List, [], ◌∷◌, �
 use Rattle.std.proofs.lemmas.Bool.{cases_eq}
 use Rattle.rv_decode.specs.Bits.{add32}
 use Rattle.rv_decode.specs.declared.instr.LoadOp.TheVariants.{Lw}
-use Rattle.rv_decode.specs.Devices.{Loads}
+use Rattle.rv_decode.specs.declared.device_access.DeviceAccess.TheVariants as access
 use Rattle.rv_decode.specs.Effect.{Commits, Outside, attempting, onward}
 use Rattle.rv_decode.specs.Memory.{Region}
 use Rattle.rv_decode.specs.State.{ZcCore, reg_in, set_reg, word_at}
@@ -88,9 +88,9 @@ loads_zero (d ∷ ds) y yz zz low t h =
     let a : ℕ = add32 (reg_in y 2) (pos d.offset) in
     let sp : reg_in yz 2 ≡ reg_in y 2 = t.registers 2 (λ is. omega (arith, is)) in
     let v : ℕ = word_at y a in
-    let first : attempting 4 a y (Outside (Loads Lw a d.register h.0)) (Commits (onward yz h.0 (set_reg yz.regs d.register v))) ≡ Commits h.1 =
+    let first : attempting 4 a y (Outside (access.Load Lw a d.register h.0)) (Commits (onward yz h.0 (set_reg yz.regs d.register v))) ≡ Commits h.1 =
     sym (ap₂ (λ (m : List (Region ℕ)) (n : ℕ).
-    attempting 4 (add32 n (pos d.offset)) (record yz { memory = m }) (Outside (Loads Lw (add32 n (pos d.offset)) d.register h.0))
+    attempting 4 (add32 n (pos d.offset)) (record yz { memory = m }) (Outside (access.Load Lw (add32 n (pos d.offset)) d.register h.0))
     (Commits (onward yz h.0 (set_reg yz.regs d.register (word_at (record yz { memory = m }) (add32 n (pos d.offset))))))) t.memory sp) ∙ h.2 in
     let ok = reached_by a y (onward yz h.0 (set_reg yz.regs d.register v)) h.1 _ first in
     let y1 : ZcCore = onward y 0 (set_reg y.regs d.register v) in

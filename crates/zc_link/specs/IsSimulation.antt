@@ -30,8 +30,8 @@ pub record IsInside (e : Image) (r r' : PlainState) : Type 0 where
   pub running : r'.core.exit ≡ None
   pub unlisted : e.address r'.core.place ≡ None
 
--- a stretch is at most 16 steps; and it takes a commit, or else it is one ALIGN without padding, of which there are so many, and
--- behind it fewer lie ahead
+-- a stretch is at most 16 steps; and it takes a commit, or else it is one ALIGN without padding, of which there are
+-- `aligns`, and behind it fewer lie ahead
 pub record IsPaced (p : Program) (pace : Pace) (aligns : ℕ) : Type 0 where
   pub short : (q : Place) → pace.span q ≤ 16
   pub ahead : Place → ℕ

@@ -16,45 +16,43 @@ use Rattle.zc_machine.specs.Run.{interrupts_by, machine_after, machine_after_wit
 use Rattle.zc_link.specs.Image.{Image, IsFirstState, image_in, loaded_core}
 use Rattle.zc_link.specs.Stands.{Stands}
 
--- both have made the same environment calls and accesses to devices so far; and if the place is listed, or the program has exited,
--- each register and each byte of data and stack is what the program has there, unless that is undefined
+-- both have made the same environment calls and accesses to devices so far; and if the place is listed, or the program
+-- has exited, each register and each byte of data and stack is what the program has there, unless that is undefined
 pub record Follows (p : Program) (e : Image) (s : PlainState) (z : ZcState) : Type 0 where
   pub events : z.events ≡ s.events
   pub stands : IsSome (e.address s.core.place) ⊎ IsSome s.core.exit → Stands p e.address s.core z
 
--- the image keeps step with the program, with these devices and this input, from which they answer: for each number n of steps that
--- the program makes without getting stuck there is a number of commits, the same for all first states and all plans
+-- the image keeps step with the program, with these devices and this input, from which they answer: for each number n
+-- of steps that the program makes without getting stuck there is a number of commits, the same for all first states and
+-- all plans
 pub record KeepsStep (p : Program) (aligns : ℕ) (e : Image) (devices : List Device) (input : List ℕ) : Type 0 where
   pub commits : ℕ → ℕ
-  -- after so many commits the image follows the program
-  pub follows :
-      (n : ℕ) (s : PlainState) → program_after_with p devices input n ≡ Ok s → (first : ZcCore) → IsFirstState e first → (plan : List Entry) →
-      IsPlan plan → (z : ZcState) × (machine_after_with first devices input (interrupts_by plan) (commits n) ≡ Ok z) × Follows p e s z
+  -- after these commits the image follows the program
+  pub follows : (n : ℕ) (s : PlainState) → program_after_with p devices input n ≡ Ok s →
+      (first : ZcCore) → IsFirstState e first → (plan : List Entry) → IsPlan plan →
+      (z : ZcState) × (machine_after_with first devices input (interrupts_by plan) (commits n) ≡ Ok z) × Follows p e s z
   -- their number doesn't fall
   pub rises : (n k : ℕ) → n ≤ k → commits n ≤ commits k
   -- it goes on: while the program hasn't exited, its steps come to more and more commits
-  pub goes_on :
-      (n : ℕ) (s : PlainState) → program_after_with p devices input n ≡ Ok s
+  pub goes_on : (n : ℕ) (s : PlainState) → program_after_with p devices input n ≡ Ok s
       → IsSome s.core.exit ⊎ (n ≤ (aligns + 16) * (commits n + 1))
   -- there are at most 64 for each step, and 3 before the first
   pub at_most : (n : ℕ) → commits n ≤ 64 * n + 3
 
--- for all devices outside its memory, and each input; so many of the program's items are ALIGNs
+-- for all devices outside its memory, and each input; `aligns` of the program's items are ALIGNs
 abbrev pub FollowsAlways : Program → ℕ → Image → Type 0
 FollowsAlways p aligns e =
-    (devices : List Device) → AreOutside p.map devices → (input : List ℕ) → All (λ b. b < 256) input → KeepsStep p aligns e devices input
+    (devices : List Device) → AreOutside p.map devices → (input : List ℕ) → All (λ b. b < 256) input
+    → KeepsStep p aligns e devices input
 
 -- ---- files
 
--- whether the item at a place is an ALIGN, and how many items of the objects are
-abbrev pub is_align_at : ParsedInputs → Place → Bool
-is_align_at inputs q = option_map_or is_align (item_at inputs q) false
-
+-- how many of the objects' items are ALIGNs
 unfoldable pub aligns_of : ParsedInputs → ℕ
-aligns_of inputs = length (filter (is_align_at inputs) (all_places inputs.objects))
+aligns_of inputs = length (filter (λ q. option_map_or is_align (item_at inputs q) false) (all_places inputs.objects))
 
--- the file is an image without a fault, and with all devices, from every first state and under every plan of interrupts it does what
--- the objects' program does
+-- the file is an image without a fault, and with all devices, from every first state and under every plan of interrupts
+-- it does what the objects' program does
 pub record Preserves (inputs : Inputs) (elf : List ℕ) : Type 0 where
   pub image : Image
   pub read : image_in elf inputs.map ≡ Some image
@@ -68,4 +66,5 @@ abbrev pub FollowsWithin : ℕ → Program → Image → Type 0
 FollowsWithin most p e =
     (input : List ℕ) (n : ℕ) (s : PlainState) → All (λ b. b < 256) input → program_after p input n ≡ Ok s →
     (m : ℕ) × (m ≤ most * n + 3)
-    × ((plan : List Entry) → IsPlan plan → (z : ZcState) × (machine_after (loaded_core e) input (interrupts_by plan) m ≡ Ok z) × Follows p e s z)
+    × ((plan : List Entry) → IsPlan plan →
+    (z : ZcState) × (machine_after (loaded_core e) input (interrupts_by plan) m ≡ Ok z) × Follows p e s z)

@@ -28,6 +28,5 @@ abbrev pub value_in : Program → (Place → Option ℕ) → Value → Option �
 value_in p A (Code q) = A q
 value_in p A (AbsHi q) = option_map (λ x. hi20_of x * 2 ^ 12) (A q)
 value_in p A (PcHi q) =
-    option_and_then
-    (λ a. option_map (λ t. (a + hi20_of (way a t) * 2 ^ 12) % 2 ^ 32) (option_and_then (target_value A) (pc_target (p.item q))))
-    (A q)
+    let to = option_and_then (target_value A) (pc_target (p.item q)) in
+    option_and_then (λ a. option_map (λ t. (a + hi20_of (way a t) * 2 ^ 12) % 2 ^ 32) to) (A q)
