@@ -244,6 +244,23 @@ const LOAD_IMAGE: &str = "\
 7f454c460101010000000000000000000200f30001000000000001003400000000000000010000003400200001002800
 00000000010000005400000000000100000001000c0000000c00000005000000040000009308d0050345f1ff73000000";
 
+// An object of the first one's form, and an image of two headers and the text, of `lui a1,0xf0000`, `lbu a0,0(a1)`, `sb a0,4(a1)`,
+// `li a7,93` and `ecall`: what a device answers there is stored beside it, and is the status.
+const POLL: &str = "\
+7f454c460101010000000000000000000100f30001000000000000000000000094000000000000003400000000002800
+05000400b70500f003c505002382a5009308d00573000000000000000000000000000000000000000100000000000000
+0000000010000100005f737461727400002e74657874002e73796d746162002e737472746162002e7368737472746162
+000000000000000000000000000000000000000000000000000000000000000000000000000000000000000001000000
+010000000600000000000000340000001400000000000000000000000400000000000000070000000200000000000000
+000000004800000020000000030000000100000004000000100000000f00000003000000000000000000000068000000
+080000000000000000000000010000000000000017000000030000000000000000000000700000002100000000000000
+000000000100000000000000";
+
+const POLL_IMAGE: &str = "\
+7f454c460101010000000000000000000200f30001000000000001003400000000000000010000003400200001002800
+000000000100000054000000000001000000010014000000140000000500000004000000b70500f003c505002382a500
+9308d00573000000";
+
 // The first object with a section `.comment` in front, of one byte that the symbol `c` names, and a second section of code:
 // `li a0,1` and `ret`, under the symbol `f`. And what `gc` leaves of it: the second section is empty, and `c` is the number 0.
 const UNNAMED: &str = "\
@@ -428,6 +445,26 @@ const PLANS: [(&str, &str); 8] = [
     ("beside", "zcld shared 1\ncut 1 s00100004:07\n"),
 ];
 
+// Texts of devices, all but one of a device that `poll` loads from and stores to: one whose answers are the input's bytes; one with
+// answers, of which the second is one again and again; one without its range of 8 bytes; one whose output lies outside it; and one
+// of a device that lies outside the memory map only where text lies higher.
+const DEVICES: [(&str, &str); 5] = [
+    (
+        "open",
+        "zcld devices 1\ndevice f0000000 00000008\noutput f0000004\n",
+    ),
+    (
+        "told",
+        "zcld devices 1\ndevice f0000000 00000008\noutput f0000004\nanswer 41\nthen 42\n",
+    ),
+    ("small", "zcld devices 1\ndevice f0000000 00000004\n"),
+    (
+        "apart",
+        "zcld devices 1\ndevice f0000000 00000008\noutput f0000008\n",
+    ),
+    ("low", "zcld devices 1\ndevice 00100000 00000004\n"),
+];
+
 // Certificates: one target that 50 calls lead to, for which a table would take more than it saves; the same with a
 // leading zero, and without its last line.
 const CERTIFICATES: [(&str, &str); 3] = [
@@ -524,11 +561,12 @@ fn zeros(alloc: Global, special: &str, letter: &str) -> Result<Vec<u8>, Fail> {
 // The files of a call that are no texts: `x` and `z` are the object, `image` is its image, `short`, `blank` and `floats` are
 // those with flags, `short.elf` is the image of the first of these, `frames` and `frames.elf` are the object with code of Zcmp
 // and its image, `start` and `main` are the two objects that write, `hello.elf` and `elsewhere.elf` are their images, `echo` and
-// `echo.elf` are the program that reads, `load.elf` is the image that loads, `unnamed` and `named` are the objects with a second
+// `echo.elf` are the program that reads, `load.elf` is the image that loads, `poll` and `poll.elf` are the program that a device
+// answers, `unnamed` and `named` are the objects with a second
 // section of code, `far` is the object whose branch must stay in reach, `ends` and `inner` are the objects with two equal ends of
 // functions, `wide` is the one with these whose branch must stay in reach, `cell` is the object with shared data, and `bad` is no
 // ELF file.
-const FILES: [(&str, &str); 24] = [
+const FILES: [(&str, &str); 26] = [
     ("x", OBJECT),
     ("z", OBJECT),
     ("short", SHORT),
@@ -545,6 +583,8 @@ const FILES: [(&str, &str); 24] = [
     ("echo", ECHO),
     ("echo.elf", ECHO_IMAGE),
     ("load.elf", LOAD_IMAGE),
+    ("poll", POLL),
+    ("poll.elf", POLL_IMAGE),
     ("unnamed", UNNAMED),
     ("named", NAMED),
     ("far", FAR),
@@ -579,7 +619,7 @@ fn add_tables(alloc: Global, store: &mut MemStore) -> Result<(), Fail> {
     Ok(())
 }
 
-// The files of a call, with the plans and certificates, and `zeros` with as many zeros as `f` says. The calls that `s`
+// The files of a call, with the plans, the texts of devices and the certificates, and `zeros` with as many zeros as `f` says. The calls that `s`
 // numbers fail.
 fn store_of(alloc: Global, special: &str) -> Result<MemStore, Fail> {
     let fails = numbers(alloc, special, "s")?;
@@ -587,6 +627,7 @@ fn store_of(alloc: Global, special: &str) -> Result<MemStore, Fail> {
     let mut store = MemStore::new(alloc, fails.as_slice())?;
     add_files(alloc, &mut store)?;
     add_texts(&PLANS, &mut store)?;
+    add_texts(&DEVICES, &mut store)?;
     add_texts(&CERTIFICATES, &mut store)?;
     add_tables(alloc, &mut store)?;
     store.add("zeros", zeros.as_slice())?;

@@ -5,6 +5,8 @@
 #[cfg(test)]
 mod check;
 #[cfg(test)]
+mod device_runs;
+#[cfg(test)]
 mod fixture;
 #[cfg(test)]
 mod gc;

@@ -1,5 +1,6 @@
 // Lines and statuses that the tests of commands don't have.
 
+use devices::fault::DevicesFault;
 use elf32_read::fault::Fault;
 use elf32_read::image_fault::ImageFault;
 use interrupt_plan::fault::PlanFault;
@@ -17,7 +18,7 @@ const PLACE: Place = Place {
 };
 
 // Statuses from 118 on are kept for `zcld` itself.
-const ROWS: [(Outcome, &str, u8); 12] = [
+const ROWS: [(Outcome, &str, u8); 13] = [
     (Outcome::Exited(117), "exited 117\n", 117),
     (Outcome::Exited(118), "exited 118\n", 118),
     (Outcome::Exited(119), "exited 119\n", 118),
@@ -35,6 +36,11 @@ const ROWS: [(Outcome, &str, u8); 12] = [
     (
         Outcome::BadFile(FileFault::Image(ImageFault::TooLarge)),
         "bad image 5\n",
+        125,
+    ),
+    (
+        Outcome::BadFile(FileFault::Devices(DevicesFault::Size)),
+        "bad devices size\n",
         125,
     ),
     (

@@ -32,7 +32,9 @@ none =
     ∷ codes "plain --ou a x.o" ∷ codes "plain -o a x.o" ∷ codes "plain --cert c --out a x.o" ∷ codes "plain --out a x.o --help"
     ∷ codes "zc --out a x.o" ∷ codes "zc --out a --cert a x.o" ∷ codes "zc --out --cert c x.o"
     ∷ codes "run" ∷ codes "run i j" ∷ codes "run --steps +5 i" ∷ codes "run --steps -5 i" ∷ codes "run --steps  i" ∷ codes "run --steps 5x i"
-    ∷ codes "run --steps 1000000001 i" ∷ codes "run --steps 000000000000000000005 i" ∷ codes "trace --steps 5" ∷ codes "check c d"
+    ∷ codes "run --steps 1000000001 i" ∷ codes "run --steps 000000000000000000005 i" ∷ codes "run --devices i" ∷ codes "run i --devices"
+    ∷ codes "run --devices d --devices d i" ∷ codes "run --devices --plan p i" ∷ codes "trace --devices d" ∷ codes "trace --devices d --devices e x.o"
+    ∷ codes "share --devices d --out a --plan p x.o" ∷ codes "zc --devices d --out a --cert c x.o" ∷ codes "trace --steps 5" ∷ codes "check c d"
     ∷ codes "make 5" ∷ codes "make 5 0 0" ∷ codes "make 18446744073709551616 0" ∷ codes "make 5 1601" ∷ codes "make --steps 5 5 0" ∷ codes "gc x.o" ∷ codes "gc --out p" ∷ codes "gc --out p --out q x.o"
     ∷ codes "gc --cert c --out p x.o" ∷ codes "gc --out -p x.o" ∷ codes "merge x.o" ∷ codes "merge --out p" ∷ codes "merge --out -p x.o" ∷ codes "share --out a x.o" ∷ codes "share --plan p x.o"
     ∷ codes "share --out a --plan p" ∷ codes "share --out a --plan p --steps 1000000001 x.o" ∷ codes "list" ∷ codes "list i j" ∷ codes "list --steps 5 i" ∷ []
@@ -65,10 +67,13 @@ some =
     ∷ (codes "plain --out a -- --out b", Plain standard_map (codes "a") (codes "--out" ∷ codes "b" ∷ []))
     ∷ (codes "plain --out help zc", Plain standard_map (codes "help") (codes "zc" ∷ []))
     ∷ (codes "zc --cert ./a --out a x.o x.o", Zc standard_map (codes "a") (codes "./a") (codes "x.o" ∷ codes "x.o" ∷ []))
-    ∷ (codes "run i", Run standard_map None 10000000 (codes "i"))
-    ∷ (codes "run --steps=0 i --plan p", Run standard_map (Some (codes "p")) 0 (codes "i"))
-    ∷ (codes "run --steps 00000000001000000000 i", Run standard_map None 1000000000 (codes "i"))
-    ∷ (codes "trace --steps 5 x.o", Trace standard_map 5 (codes "x.o" ∷ []))
+    ∷ (codes "run i", Run standard_map None None 10000000 (codes "i"))
+    ∷ (codes "run --steps=0 i --plan p", Run standard_map None (Some (codes "p")) 0 (codes "i"))
+    ∷ (codes "run --devices d i", Run standard_map (Some (codes "d")) None 10000000 (codes "i"))
+    ∷ (codes "run --plan p i --devices=d --steps 5", Run standard_map (Some (codes "d")) (Some (codes "p")) 5 (codes "i"))
+    ∷ (codes "run --steps 00000000001000000000 i", Run standard_map None None 1000000000 (codes "i"))
+    ∷ (codes "trace --steps 5 x.o", Trace standard_map None 5 (codes "x.o" ∷ []))
+    ∷ (codes "trace x.o --devices d y.o", Trace standard_map (Some (codes "d")) 10000000 (codes "x.o" ∷ codes "y.o" ∷ []))
     ∷ (codes "check c", Check (codes "c"))
     ∷ (codes "make 5 0", Make None 5 0)
     ∷ (codes "make --out p 18446744073709551615 1600", Make (Some (codes "p")) 18446744073709551615 1600)
@@ -91,9 +96,9 @@ abbrev some_map : List (Text × Command)
 some_map =
     (codes "plain --text 08000000 --data 20000000 --stack 20600000 --out a x.o", Plain (map_at 0x0800_0000 0x2000_0000 0x2060_0000) (codes "a") (codes "x.o" ∷ []))
     ∷ (codes "zc --out a x.o --stack=005f1000 --cert c --data=000f1000 --text=00001000", Zc (map_at 0x1000 0x000F_1000 0x005F_1000) (codes "a") (codes "c") (codes "x.o" ∷ []))
-    ∷ (codes "run --stack fffff000 i", Run (map_at 0x0001_0000 0x0010_0000 0xFFFF_F000) None 10000000 (codes "i"))
-    ∷ (codes "run --text ffa0f000 --data ffaff000 --stack fffff000 i", Run (map_at 0xFFA0_F000 0xFFAF_F000 0xFFFF_F000) None 10000000 (codes "i"))
-    ∷ (codes "trace --text 00010000 --data 00100000 x.o --stack 10000000", Trace standard_map 10000000 (codes "x.o" ∷ [])) ∷ []
+    ∷ (codes "run --stack fffff000 i", Run (map_at 0x0001_0000 0x0010_0000 0xFFFF_F000) None None 10000000 (codes "i"))
+    ∷ (codes "run --text ffa0f000 --data ffaff000 --stack fffff000 i", Run (map_at 0xFFA0_F000 0xFFAF_F000 0xFFFF_F000) None None 10000000 (codes "i"))
+    ∷ (codes "trace --text 00010000 --data 00100000 x.o --stack 10000000", Trace standard_map None 10000000 (codes "x.o" ∷ [])) ∷ []
 
 some_map_spelled : map (λ row. command_of (words_of row.0)) some_map ≡ map (λ row. Some row.1) some_map
 unfolding program_app read_by_clap clap_on_literals checked_map if_text_of

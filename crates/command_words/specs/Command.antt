@@ -28,8 +28,8 @@ use Rattle.command_words.specs.Table.{OptionSyntax, PositionalSyntax, Syntax, ch
 pub data Command : Type 0 where
   Plain : (map : MemMap) (out : Text) (objects : List Text) → Command
   Zc : (map : MemMap) (out cert : Text) (objects : List Text) → Command
-  Run : (map : MemMap) (plan : Option Text) (steps : ℕ) (image : Text) → Command
-  Trace : (map : MemMap) (steps : ℕ) (objects : List Text) → Command
+  Run : (map : MemMap) (devices plan : Option Text) (steps : ℕ) (image : Text) → Command
+  Trace : (map : MemMap) (devices : Option Text) (steps : ℕ) (objects : List Text) → Command
   Check : (cert : Text) → Command
   Make : (prefix : Option Text) (number functions : ℕ) → Command
   Gc : (prefix : Text) (objects : List Text) → Command
@@ -91,16 +91,16 @@ zc_of (Words (text ∷ low ∷ stack ∷ Some out ∷ Some cert ∷ []) objects)
     if bytes_eq out cert then None else option_map (λ memory. Zc memory out cert objects) (map_given text low stack)
 zc_of other = None
 
--- `run` of its image in that map, under the plan if there is one
+-- `run` of its image in that map, with the devices and under the plan, if there are any
 abbrev pub run_of : Spelled → Option Command
-run_of (Words (text ∷ low ∷ stack ∷ plan ∷ steps ∷ []) (image ∷ [])) =
-    option_and_then (λ memory. option_map (λ n. Run memory plan n image) (steps_given steps)) (map_given text low stack)
+run_of (Words (text ∷ low ∷ stack ∷ devices ∷ plan ∷ steps ∷ []) (image ∷ [])) =
+    option_and_then (λ memory. option_map (λ n. Run memory devices plan n image) (steps_given steps)) (map_given text low stack)
 run_of other = None
 
--- `trace` of its objects in that map
+-- `trace` of its objects in that map, with the devices if there are any
 abbrev pub trace_of : Spelled → Option Command
-trace_of (Words (text ∷ low ∷ stack ∷ steps ∷ []) objects) =
-    option_and_then (λ memory. option_map (λ n. Trace memory n objects) (steps_given steps)) (map_given text low stack)
+trace_of (Words (text ∷ low ∷ stack ∷ devices ∷ steps ∷ []) objects) =
+    option_and_then (λ memory. option_map (λ n. Trace memory devices n objects) (steps_given steps)) (map_given text low stack)
 trace_of other = None
 
 -- `check` of its certificate
@@ -176,11 +176,11 @@ zc_meant args = Zc args.map args.out.now args.cert.now (texts args.objects.items
 
 -- the command that the words of `run` mean
 abbrev pub run_meant : RunArgs → Command
-run_meant args = Run args.map (option_copied args.plan) args.steps args.image.now
+run_meant args = Run args.map (option_copied args.devices) (option_copied args.plan) args.steps args.image.now
 
 -- the command that the words of `trace` mean
 abbrev pub trace_meant : TraceArgs → Command
-trace_meant args = Trace args.map args.steps (texts args.objects.items)
+trace_meant args = Trace args.map (option_copied args.devices) args.steps (texts args.objects.items)
 
 -- the command that the words of `make` mean
 abbrev pub make_meant : MakeArgs → Command

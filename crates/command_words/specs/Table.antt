@@ -61,19 +61,19 @@ zc_syntax = record {
   positionals = several (codes "OBJ") ∷ [];
 }
 
--- `run [--text A] [--data A] [--stack A] [--plan PLAN] [--steps N] IMAGE`
+-- `run [--text A] [--data A] [--stack A] [--devices DEVICES] [--plan PLAN] [--steps N] IMAGE`
 abbrev pub run_syntax : Syntax
 run_syntax = record {
   name = codes "run";
-  options = with_map (optional (codes "plan") ∷ optional (codes "steps") ∷ []);
+  options = with_map (optional (codes "devices") ∷ optional (codes "plan") ∷ optional (codes "steps") ∷ []);
   positionals = one (codes "IMAGE") ∷ [];
 }
 
--- `trace [--text A] [--data A] [--stack A] [--steps N] OBJ...`
+-- `trace [--text A] [--data A] [--stack A] [--devices DEVICES] [--steps N] OBJ...`
 abbrev pub trace_syntax : Syntax
 trace_syntax = record {
   name = codes "trace";
-  options = with_map (optional (codes "steps") ∷ []);
+  options = with_map (optional (codes "devices") ∷ optional (codes "steps") ∷ []);
   positionals = several (codes "OBJ") ∷ [];
 }
 

@@ -29,20 +29,23 @@ pub struct ZcArgs<'a> {
     pub objects: Vec<String>,
 }
 
-/// What `run` runs: an image that lies in the map, and the plan of its interrupts if there is one, by their names, for
-/// at most `steps` commits.
+/// What `run` runs: an image that lies in the map, and its devices and the plan of its interrupts if there are any, by
+/// their names, for at most `steps` commits.
 #[derive(Clone, Copy)]
 pub struct RunArgs<'a> {
     pub map: MemMap,
+    pub devices: Option<&'a str>,
     pub plan: Option<&'a str>,
     pub steps: u64,
     pub image: &'a str,
 }
 
-/// What `trace` runs: the objects, at least one, with data and stack in the map, for at most `steps` steps.
+/// What `trace` runs: the objects, at least one, with data and stack in the map, and the devices under a name if there
+/// are any, for at most `steps` steps.
 #[derive(Drop)]
-pub struct TraceArgs {
+pub struct TraceArgs<'a> {
     pub map: MemMap,
+    pub devices: Option<&'a str>,
     pub steps: u64,
     pub objects: Vec<String>,
 }
@@ -88,7 +91,7 @@ pub enum CommandLine<'a> {
     Plain(PlainArgs<'a>),
     Zc(ZcArgs<'a>),
     Run(RunArgs<'a>),
-    Trace(TraceArgs),
+    Trace(TraceArgs<'a>),
     Check { cert: &'a str },
     Make(MakeArgs<'a>),
     Gc(GcArgs<'a>),

@@ -140,6 +140,7 @@ fn run<'a>(found: &ArgMatches<'a>) -> Option<CommandLine<'a>>
     let steps = allowed_steps(found)?;
     Some(CommandLine::Run(RunArgs {
         map,
+        devices: value(found, "devices"),
         plan: value(found, "plan"),
         steps,
         image,
@@ -160,6 +161,7 @@ fn trace<'a>(alloc: Global, found: &ArgMatches<'a>) -> Result<Option<CommandLine
     let objects = object_names(alloc, found)?;
     Ok(Some(CommandLine::Trace(TraceArgs {
         map,
+        devices: value(found, "devices"),
         steps,
         objects,
     })))

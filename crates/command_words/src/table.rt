@@ -44,6 +44,11 @@ const CERT: OptionSyntax = OptionSyntax {
     required: true,
 };
 
+const DEVICES: OptionSyntax = OptionSyntax {
+    name: "devices",
+    required: false,
+};
+
 const PLAN: OptionSyntax = OptionSyntax {
     name: "plan",
     required: false,
@@ -103,17 +108,17 @@ const ZC: Syntax = Syntax {
     positionals: &[OBJECTS],
 };
 
-// `run [--text A] [--data A] [--stack A] [--plan PLAN] [--steps N] IMAGE`
+// `run [--text A] [--data A] [--stack A] [--devices DEVICES] [--plan PLAN] [--steps N] IMAGE`
 const RUN: Syntax = Syntax {
     name: "run",
-    options: &[TEXT, DATA, STACK, PLAN, STEPS],
+    options: &[TEXT, DATA, STACK, DEVICES, PLAN, STEPS],
     positionals: &[IMAGE],
 };
 
-// `trace [--text A] [--data A] [--stack A] [--steps N] OBJ...`
+// `trace [--text A] [--data A] [--stack A] [--devices DEVICES] [--steps N] OBJ...`
 const TRACE: Syntax = Syntax {
     name: "trace",
-    options: &[TEXT, DATA, STACK, STEPS],
+    options: &[TEXT, DATA, STACK, DEVICES, STEPS],
     positionals: &[OBJECTS],
 };
 

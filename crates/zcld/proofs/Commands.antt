@@ -23,8 +23,8 @@ use Rattle.zcld.proofs.ZcFacts.{zc_facts}
 facts : (command : Command) → Facts (task_of command) (work_of command)
 facts (Plain map out objects) = plain_facts map out objects
 facts (Zc map out cert objects) = zc_facts map out cert objects
-facts (Run map plan steps image) = run_facts map plan steps image
-facts (Trace map steps objects) = trace_facts map steps objects
+facts (Run map devices plan steps image) = run_facts map devices plan steps image
+facts (Trace map devices steps objects) = trace_facts map devices steps objects
 facts (Check cert) = check_facts cert
 facts (Make prefix number functions) = make_facts prefix number functions
 facts (Gc prefix objects) = gc_facts prefix objects

@@ -28,10 +28,10 @@ use Rattle.zcld.specs.Gc.{GcWork}
 use Rattle.zcld.specs.Headline.{HoldsImage, HoldsResults, Links, PreservesMoved}
 use Rattle.zcld.specs.Merge.{MergeWork}
 use Rattle.zcld.specs.ObjectNames.{named_from, names_from}
-use Rattle.zcld.specs.Objects.{objects_wanted, refused_for}
+use Rattle.zcld.specs.Objects.{objects_before, objects_wanted, refused_for}
 use Rattle.zcld.specs.Puts.{HasFiles, PutsFiles}
 use Rattle.zcld.specs.Plain.{PlainWork}
-use Rattle.zcld.specs.Share.{ShareWork, objects_before, share_wanted}
+use Rattle.zcld.specs.Share.{ShareWork, share_wanted}
 use Rattle.zcld.specs.Task.{IsWorked, OnlyRead, Performs, Task, UnreadCause}
 use Rattle.zcld.specs.Zc.{ZcWork}
 use Rattle.zcld.specs.declared.limits.TheConstants.{OBJECT_LIMIT}

@@ -3,6 +3,7 @@ pub mod CheckFacts
 pub mod Commands
 pub mod FaultIndex
 pub mod GcFacts
+pub mod GivenFacts
 pub mod Headline
 pub mod ListFacts
 pub mod MachineFacts
@@ -21,7 +22,6 @@ pub mod RewriteFacts
 pub mod RunFacts
 pub mod ShareEnds
 pub mod ShareFacts
-pub mod ShareFiles
 pub mod TraceFacts
 pub mod WithObjects
 pub mod ZcFacts

@@ -1,5 +1,6 @@
--- What is known of a command that runs a machine over the console's whole input: how that ends, and what it does to the counts.
-use Rattle.std.proofs.Common.{◌≡◌, ◌≢◌, ℕ, refl, ap, length, List, Option, Some, None, IsTrue, sym, subst, ◌∙◌, ◌⊎◌, inl, inr, arith}
+-- What is known of a command that runs a machine over the console's whole input, or over what devices answer: how that ends, and what it
+-- does to the counts.
+use Rattle.std.proofs.Common.{◌≡◌, ◌≢◌, ℕ, refl, ap, length, Bool, true, false, List, [], Option, Some, None, IsTrue, sym, subst, ◌∙◌, ◌⊎◌, inl, inr, arith}
 use Rattle.zc_outside.specs.Desk.{Desk, OnlyTakes}
 use Rattle.zc_outside.specs.Files.{Rose}
 use Rattle.zc_outside.specs.Shelf.{OnlyPuts, Shelf}
@@ -8,8 +9,8 @@ use Rattle.zc_outside.proofs.Shelf.{OnlyPuts-refl}
 use Rattle.zcld.specs.declared.outcome.Outcome.{Outcome}
 use Rattle.zcld.specs.declared.outcome.Outcome.TheVariants.{ReadFault, OutOfMemory, Usage}
 use Rattle.zcld.specs.Call.{IsSure}
-use Rattle.zcld.specs.Input.{IsLongInput, IsShortInput, TakesAll, TakesInput, UntakenCause}
-use Rattle.zcld.specs.Machines.{Executes, HasEnded, IsUnready, TakesAndRuns}
+use Rattle.zcld.specs.Input.{IsLongInput, IsShortInput, TakesAll, TakesInput, TakesUnless, UntakenCause}
+use Rattle.zcld.specs.Machines.{Executes, HasEnded, IsUnready, TakesAndRuns, TakesUnlessAnswered}
 use Rattle.zcld.specs.Task.{Task}
 use Rattle.zcld.proofs.Answering.{IsAnswer, IsFaulted, Moves, faulted_later, moves_on, no_memory, no_moves}
 use Rattle.zcld.proofs.OutputFacts.{output_moves}
@@ -56,15 +57,27 @@ module _ (task : Task) {End : Type 0} (Ends : End → Desk → Desk → Type 0) 
 -- a machine with its input that can't be had: no input, or no memory
 pub not_ready :
     (Runs : List ℕ → Outcome → World → World → Type 0) → ((input : List ℕ) (w : World) → Runs input OutOfMemory w w) →
-    (outcome : Outcome) (shelf : Shelf) (before after : Desk) → IsUnready outcome before after →
-    TakesAndRuns Runs outcome (world shelf before) (world shelf after)
-not_ready Runs lacks outcome shelf before after (inl untaken) = inl (record { untaken = untaken; shelf = refl })
-not_ready Runs lacks outcome shelf before after (inr memory) = inr (record {
+    (answered : Bool) (outcome : Outcome) (shelf : Shelf) (before after : Desk) → IsUnready answered outcome before after →
+    TakesUnlessAnswered answered Runs outcome (world shelf before) (world shelf after)
+not_ready Runs lacks true outcome shelf before after (inl untaken) = absurd untaken
+not_ready Runs lacks true outcome shelf before after (inr memory) =
+    subst (λ o. Runs [] o (world shelf before) (world shelf after)) (sym memory.0)
+    (subst (λ d. Runs [] OutOfMemory (world shelf before) (world shelf d)) (sym memory.2.1) (lacks [] (world shelf before)))
+not_ready Runs lacks false outcome shelf before after (inl untaken) = inl (record { untaken = untaken; shelf = refl })
+not_ready Runs lacks false outcome shelf before after (inr memory) = inr (record {
   input = memory.1;
   between = after;
   takes = memory.2;
   runs = subst (λ o. Runs memory.1 o (world shelf after) (world shelf after)) (sym memory.0) (lacks memory.1 (world shelf after));
 })
+
+-- the command ran over its input, or over none
+pub ran_over :
+    (Runs : List ℕ → Outcome → World → World → Type 0) (answered : Bool) (input : List ℕ) (outcome : Outcome) (shelf : Shelf) (before between : Desk) (after : World) →
+    TakesUnless answered input before between → Runs input outcome (world shelf between) after → TakesUnlessAnswered answered Runs outcome (world shelf before) after
+ran_over Runs true input outcome shelf before between after takes runs =
+    subst (λ d. Runs [] outcome (world shelf d) after) takes.1 (subst (λ xs. Runs xs outcome (world shelf between) after) takes.0 runs)
+ran_over Runs false input outcome shelf before between after takes runs = inr (record { input = input; between = between; takes = takes; runs = runs })
 
 -- taking input moves only the counts of the console's input
 takes_moves : (before after : World) → after.shelf ≡ before.shelf → OnlyTakes before.desk after.desk → Moves before after
@@ -125,3 +138,16 @@ module _ (task : Task) (takes : IsTrue task.takes) where
     run_moves each outcome before after (inr run) =
         moves_on before (world before.shelf run.between) after (takes_moves before (world before.shelf run.between) refl run.takes.only)
         (each run.input outcome (world before.shelf run.between) after run.runs)
+
+    -- a run whose answers are given takes no input
+    pub unless_ends :
+        ((input : List ℕ) (outcome : Outcome) (before after : World) → Runs input outcome before after → IsAnswer outcome ⊎ IsFaulted task outcome before after)
+        → (answered : Bool) (outcome : Outcome) (before after : World) → TakesUnlessAnswered answered Runs outcome before after → IsAnswer outcome ⊎ IsFaulted task outcome before after
+    unless_ends each true outcome before after runs = each [] outcome before after runs
+    unless_ends each false outcome before after runs = run_ends each outcome before after runs
+
+    pub unless_moves :
+        ((input : List ℕ) (outcome : Outcome) (before after : World) → Runs input outcome before after → Moves before after)
+        → (answered : Bool) (outcome : Outcome) (before after : World) → TakesUnlessAnswered answered Runs outcome before after → Moves before after
+    unless_moves each true outcome before after runs = each [] outcome before after runs
+    unless_moves each false outcome before after runs = run_moves each outcome before after runs

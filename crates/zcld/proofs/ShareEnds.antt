@@ -12,9 +12,10 @@ use Rattle.zcld.specs.declared.outcome.Outcome.{Outcome}
 use Rattle.zcld.specs.declared.outcome.Outcome.TheVariants.{Exited, OutOfMemory, Spent, Stopped}
 use Rattle.zcld.specs.Input.{UntakenCause}
 use Rattle.zcld.specs.Machines.{TakesAndRuns}
+use Rattle.zcld.specs.Objects.{last_file, objects_before}
 use Rattle.zcld.specs.Puts.{UnputCause}
 use Rattle.zcld.specs.Run.{plan_wanted}
-use Rattle.zcld.specs.Share.{PutsAndRuns, last_file, objects_before, share_inputs, share_refusal}
+use Rattle.zcld.specs.Share.{PutsAndRuns, share_inputs, share_refusal}
 use Rattle.zcld.specs.Task.{UnreadCause}
 use Rattle.zcld.proofs.ShareFacts.{by_refusals}
 

@@ -4,6 +4,7 @@ use Rattle.std.proofs.Common.{◌≡◌, ◌++◌, ℕ, List, [], ◌∷◌, Opt
 use Rattle.std.proofs.lemmas.Option.{same_Some, none-some}
 use Rattle.std.specs.Option.{option_or}
 use Rattle.block_cut.specs.Faults.{first_fault}
+use Rattle.devices.specs.Environment.{only_input}
 use Rattle.elf32_read.specs.declared.fault.Fault.{Fault}
 use Rattle.interrupt_plan.specs.SharedPlan.{SharedEntry}
 use Rattle.interrupt_plan.specs.Text.{shared_in}
@@ -31,15 +32,16 @@ use Rattle.zcld.specs.declared.outcome.Outcome.TheVariants.{BadFile, OutOfMemory
 use Rattle.zcld.specs.Call.{DoesWith, task_of}
 use Rattle.zcld.specs.ErrLine.{NamesNothing, err_line}
 use Rattle.zcld.specs.Machines.{TakesAndRuns}
-use Rattle.zcld.specs.Objects.{IsUngathered, refused_for}
+use Rattle.zcld.specs.Objects.{IsUngathered, last_file, refused_for}
 use Rattle.zcld.specs.Outcome.{link_outcome}
 use Rattle.zcld.specs.Run.{EndsRun, end_outcome, plan_refusal}
 use Rattle.zc_link.specs.Links.{IsZcLink}
 use Rattle.zcld.specs.declared.share.SharedImage.{SharedImage}
-use Rattle.zcld.specs.Share.{IsReadyToShare, PutsAndRuns, ShareWork, last_file, objects_before, share_inputs, share_refusal, share_wanted}
+use Rattle.zcld.specs.Share.{IsReadyToShare, PutsAndRuns, ShareWork, share_inputs, share_refusal, share_wanted}
 use Rattle.zcld.specs.Task.{OnlyRead, Task, UnreadCause}
 use Rattle.zcld.proofs.Answering.{Facts, IsAnswer, IsFaulted, Moves, faulted_later, moves_on, no_memory, no_moves}
 use Rattle.zcld.proofs.FaultIndex.{refusal_line}
+use Rattle.zcld.proofs.GivenFacts.{last_is, objects_are}
 use Rattle.zcld.proofs.MachineFacts.{ended_ends, ended_moves, run_ends, run_moves}
 use Rattle.zcld.proofs.OutputFacts.{output_moves, unput_ends}
 use Rattle.zcld.proofs.RangeOrder.{any_order}
@@ -56,18 +58,6 @@ pub by_refusals :
 by_refusals P refused bad (Some f) plan outcome some = subst P (same_Some (Refused f.0 f.1) outcome some) (refused f.0 f.1)
 by_refusals P refused bad None (Err fault) outcome some = subst P (same_Some (BadFile (Plan fault)) outcome some) (bad fault)
 by_refusals P refused bad None (Ok plan) outcome none = absurd (none-some outcome none)
-
--- ---- the files
-
-pub objects_are : (objects : List (List ℕ)) (plan : List ℕ) → objects_before (objects ++ plan ∷ []) ≡ objects
-objects_are [] plan = refl
-objects_are (o ∷ []) plan = refl
-objects_are (o ∷ (p ∷ objects)) plan = ap (λ os. o ∷ os) (objects_are (p ∷ objects) plan)
-
-pub plan_is : (objects : List (List ℕ)) (plan : List ℕ) → last_file (objects ++ plan ∷ []) ≡ plan
-plan_is [] plan = refl
-plan_is (o ∷ []) plan = refl
-plan_is (o ∷ (p ∷ objects)) plan = plan_is (p ∷ objects) plan
 
 -- ---- the work
 
@@ -87,7 +77,7 @@ module _ (out plan : List ℕ) (steps : ℕ) (names : List (List ℕ)) where
     run_put_ends outcome before after (inl memory) = inl (no_memory outcome memory.0)
     run_put_ends outcome before after (inr (inl unput)) = unput_ends task refl outcome before after unput.cause
     run_put_ends outcome before after (inr (inr put)) =
-        elim (ended_ends task (EndsRun first happens steps input) end_outcome (end_of_run first happens steps input) outcome (world put.between before.desk) after put.does) [
+        elim (ended_ends task (EndsRun first happens steps (only_input input)) end_outcome (end_of_run first happens steps (only_input input)) outcome (world put.between before.desk) after put.does) [
           | inl answer ↦ inl answer
           | inr fault ↦ inr (faulted_later task outcome before (world put.between before.desk) after (put_moves before put.between put.only)
               (λ sure. record { store = put.only.sure ∙ sure.store; console = sure.console; input = sure.input }) fault)
@@ -98,7 +88,7 @@ module _ (out plan : List ℕ) (steps : ℕ) (names : List (List ℕ)) where
     run_put_moves outcome before after (inr (inl unput)) = output_moves before after unput.only (subst (λ d. OnlyWrites before.desk d) (sym unput.desk) (OnlyWrites-refl before.desk))
     run_put_moves outcome before after (inr (inr put)) =
         moves_on before (world put.between before.desk) after (put_moves before put.between put.only)
-        (ended_moves task (EndsRun first happens steps input) end_outcome outcome (world put.between before.desk) after put.does)
+        (ended_moves task (EndsRun first happens steps (only_input input)) end_outcome outcome (world put.between before.desk) after put.does)
 
   -- what happens before the commits, by the files and a plan
   abbrev happens_by : List (List ℕ) → List SharedEntry → ℕ → ZcCore → ZcCore
@@ -137,7 +127,7 @@ module _ (out plan : List ℕ) (steps : ℕ) (names : List (List ℕ)) where
     refusal_is : share_refusal files ≡ option_or (refused_for (first_fault (inputs_in standard_map objects))) (plan_refusal (shared_in text))
     refusal_is =
         ap₂ (λ (os : List (List ℕ)) (t : List ℕ). option_or (refused_for (first_fault (inputs_in standard_map os))) (plan_refusal (shared_in t)))
-        (objects_are objects text) (plan_is objects text)
+        (objects_are objects text) (last_is objects text)
 
     refused_with : (left : List (List ℕ)) (outcome : Outcome) → share_refusal files ≡ Some outcome → err_line left outcome ≡ err_line files outcome → DoesWith (Some (Share out plan steps names)) left outcome before after
     refused_with left outcome refused line = record { files = files; line = line; does = inr (inl (record { only = only; read = read; refused = refused })) }
@@ -190,7 +180,7 @@ module _ (out plan : List ℕ) (steps : ℕ) (names : List (List ℕ)) where
               linked = linked;
               shares = link_shares (share_inputs files) ready.link linked;
               plan = shared.plan;
-              spelled = ap shared_in (plan_is objects text) ∙ ready.spelled;
+              spelled = ap shared_in (last_is objects text) ∙ ready.spelled;
               run =
                   subst (λ happens. TakesAndRuns (PutsAndRuns out ready.link.elf happens steps) outcome after end) happens_are
                   (subst (λ image. TakesAndRuns (PutsAndRuns out image (shared_by shared.ranges.items shared.plan) steps) outcome after end) ready.image_is ran);

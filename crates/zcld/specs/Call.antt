@@ -20,10 +20,10 @@ use Rattle.zcld.specs.Merge.{MergeWork}
 use Rattle.zcld.specs.Objects.{objects_refusal, objects_wanted}
 use Rattle.zcld.specs.Plain.{PlainWork}
 use Rattle.zcld.specs.Rewrites.{rewrite_task}
-use Rattle.zcld.specs.Run.{RunWork, run_refusal, run_wanted}
+use Rattle.zcld.specs.Run.{RunWork, run_refusal, run_texts, run_wanted}
 use Rattle.zcld.specs.Share.{ShareWork, share_refusal, share_wanted}
 use Rattle.zcld.specs.Task.{Performs, Task}
-use Rattle.zcld.specs.Trace.{TraceWork}
+use Rattle.zcld.specs.Trace.{TraceWork, trace_refusal, trace_texts, trace_wanted}
 use Rattle.zcld.specs.Zc.{ZcWork}
 
 -- ---- the commands
@@ -42,15 +42,15 @@ task_of (Zc map out cert objects) = record {
   puts = true;
   takes = false;
 }
-task_of (Run map plan steps image) = record {
-  wanted = run_wanted plan image;
-  refusal = run_refusal map;
+task_of (Run map devices plan steps image) = record {
+  wanted = run_wanted devices plan image;
+  refusal = λ files. run_refusal map (run_texts devices plan files);
   puts = false;
   takes = true;
 }
-task_of (Trace map steps objects) = record {
-  wanted = objects_wanted objects;
-  refusal = objects_refusal map;
+task_of (Trace map devices steps objects) = record {
+  wanted = trace_wanted devices objects;
+  refusal = λ files. trace_refusal map (trace_texts devices files);
   puts = false;
   takes = true;
 }
@@ -85,8 +85,8 @@ task_of (Listing image) = record {
 abbrev pub work_of : Command → List (List ℕ) → Outcome → World → World → Type 0
 work_of (Plain map out objects) = PlainWork map out
 work_of (Zc map out cert objects) = ZcWork map out cert
-work_of (Run map plan steps image) = RunWork map steps
-work_of (Trace map steps objects) = TraceWork map steps
+work_of (Run map devices plan steps image) = λ files. RunWork map steps (run_texts devices plan files)
+work_of (Trace map devices steps objects) = λ files. TraceWork map steps (trace_texts devices files)
 work_of (Check cert) = CheckWork
 work_of (Make prefix number functions) = MakeWork prefix number functions
 work_of (Gc prefix objects) = GcWork prefix
@@ -151,7 +151,7 @@ pub record IsClean (task : Task) (before after : World) : Type 0 where
       × (¬ RoseAbove INPUT_LIMIT before.desk.taken after.desk.taken)
   pub written : ¬ Rose before.desk.write_faults after.desk.write_faults
 
--- the store and the console are sure; and if the command takes the console's input, the console tells that it isn't too
+-- the store and the console are sure; and if the command may take the console's input, the console tells that it isn't too
 -- long
 pub record IsSure (task : Task) (before : World) : Type 0 where
   pub store : IsTrue before.shelf.sure

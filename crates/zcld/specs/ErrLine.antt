@@ -1,6 +1,8 @@
 -- The line that names an outcome on standard error, and the status that the program ends with.
 use Rattle.std.specs.Prelude.{◌≡◌, ℕ, nat_lt, if◌then◌else◌, is_none, List, [], ◌∷◌, ◌++◌, codes, decimal, slice_get, Option, Some, None}
 use Rattle.std.specs.Option.{option_and_then, option_map}
+use Rattle.devices.specs.declared.fault.DevicesFault.{DevicesFault}
+use Rattle.devices.specs.declared.fault.DevicesFault.TheVariants as devices
 use Rattle.elf32_read.specs.declared.fault.Fault.{Fault}
 use Rattle.elf32_read.specs.Fault.{fault_number, fault_name, fault_symbol}
 use Rattle.elf32_read.specs.Object.{object_fault}
@@ -16,7 +18,7 @@ use Rattle.sym_machine.specs.declared.why.Why.{Why}
 use Rattle.sym_machine.specs.Why.{why_name, why_number}
 use Rattle.zc_machine.specs.declared.reason.Reason.{Reason}
 use Rattle.zc_machine.specs.Reason.{reason_name, reason_number}
-use Rattle.zcld.specs.declared.outcome.FileFault.TheVariants.{Certificate, Image, Plan, Rejected}
+use Rattle.zcld.specs.declared.outcome.FileFault.TheVariants.{Certificate, Devices, Image, Plan, Rejected}
 use Rattle.zcld.specs.declared.outcome.Outcome.{Outcome}
 use Rattle.zcld.specs.declared.outcome.Outcome.TheVariants.{Broken, Done, Exited, Usage, Refused, ReadFault, WriteFault, OutOfMemory, BadFile, Stopped, Stuck, Spent}
 
@@ -56,6 +58,12 @@ plan_fault_text (plan.OutOfOrder number) = codes "bad plan order " ++ decimal nu
 plan_fault_text plan.TooLarge = codes "bad plan size"
 plan_fault_text plan.OutOfMemory = codes "out of memory"
 
+-- a fault of a text of devices names its line
+abbrev pub devices_fault_text : DevicesFault → List ℕ
+devices_fault_text (devices.Line number) = codes "bad devices line " ++ decimal number
+devices_fault_text devices.Size = codes "bad devices size"
+devices_fault_text devices.OutOfMemory = codes "out of memory"
+
 -- a fault of a certificate names its line
 abbrev pub certificate_fault_text : CertFault → List ℕ
 certificate_fault_text (cert.BadLine number) = codes "bad certificate line " ++ decimal number
@@ -85,6 +93,7 @@ err_line files ReadFault = line (codes "read fault")
 err_line files WriteFault = line (codes "write fault")
 err_line files OutOfMemory = line (codes "out of memory")
 err_line files (BadFile (Image fault)) = line (codes "bad image " ++ decimal (image_fault_number fault))
+err_line files (BadFile (Devices fault)) = line (devices_fault_text fault)
 err_line files (BadFile (Plan fault)) = line (plan_fault_text fault)
 err_line files (BadFile (Certificate fault)) = line (certificate_fault_text fault)
 err_line files (BadFile Rejected) = line (codes "rejected")

@@ -1,5 +1,5 @@
 -- The console's whole input.
-use Rattle.std.specs.Prelude.{◌≡◌, ℕ, ◌+◌, ◌-◌, ◌^◌, ◌<◌, ◌≤◌, ◌⊎◌, ◌↔◌, ◌++◌, IsTrue, length, min, List, [], Option, Some, None, ⊤}
+use Rattle.std.specs.Prelude.{◌≡◌, ℕ, ◌+◌, ◌-◌, ◌^◌, ◌<◌, ◌≤◌, ◌⊎◌, ◌↔◌, ◌++◌, Bool, true, false, IsTrue, length, min, List, [], Option, Some, None, ⊤}
 use Rattle.zc_outside.specs.Desk.{Desk, OnlyTakes}
 use Rattle.zc_outside.specs.Files.{Rose}
 use Rattle.zcld.specs.declared.input.TheConstants.{INPUT_LIMIT}
@@ -44,6 +44,18 @@ UntakenCause other before after = ⊥
 pub record IsUntaken (outcome : Outcome) (before after : Desk) : Type 0 where
   pub cause : UntakenCause outcome before after
   pub only : OnlyTakes before after
+
+-- ---- input that isn't wanted where the answers are given without it
+
+-- none was taken, as the answers are given; or the whole input was
+abbrev pub TakesUnless : Bool → List ℕ → Desk → Desk → Type 0
+TakesUnless true input before after = (input ≡ []) × (after ≡ before)
+TakesUnless false input before after = TakesInput input before after
+
+-- the input can't be had, as it is wanted
+abbrev pub IsUntakenUnless : Bool → Outcome → Desk → Desk → Type 0
+IsUntakenUnless true outcome before after = ⊥
+IsUntakenUnless false outcome before after = IsUntaken outcome before after
 
 -- ---- a piece of the input
 

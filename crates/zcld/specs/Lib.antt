@@ -3,6 +3,7 @@ pub mod Input
 pub mod Outcome
 pub mod Task
 pub mod Objects
+pub mod Given
 pub mod Reading
 pub mod Machines
 pub mod Puts

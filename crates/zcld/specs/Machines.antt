@@ -1,10 +1,13 @@
--- What a command does that runs a machine: it takes the console's whole input, and the machine comes to an end.
-use Rattle.std.specs.Prelude.{◌≡◌, ℕ, ◌⊎◌, List}
+-- What a command does that runs a machine: it takes the console's whole input, unless devices answer without it, and the machine comes
+-- to an end.
+use Rattle.std.specs.Prelude.{◌≡◌, ℕ, ◌⊎◌, Bool, true, false, List, []}
+use Rattle.devices.specs.Environment.{Environment, environment_of}
+use Rattle.devices.specs.Lines.{DevicesLine, has_answers}
 use Rattle.zc_outside.specs.Desk.{Desk, OnlyWrites}
 use Rattle.zc_outside.specs.World.{World, world}
 use Rattle.zcld.specs.declared.outcome.Outcome.{Outcome}
 use Rattle.zcld.specs.declared.outcome.Outcome.TheVariants.{OutOfMemory}
-use Rattle.zcld.specs.Input.{IsUntaken, TakesInput}
+use Rattle.zcld.specs.Input.{IsUntaken, IsUntakenUnless, TakesInput, TakesUnless}
 
 -- a machine came to one of its ends, which is this outcome; the console was only written to, and the store is unchanged
 pub record HasEnded
@@ -26,10 +29,12 @@ pub record LacksInput (outcome : Outcome) (before after : World) : Type 0 where
   pub untaken : IsUntaken outcome before.desk after.desk
   pub shelf : after.shelf ≡ before.shelf
 
--- there is no machine with its input: the input can't be had, or it was taken whole, and there was no memory for the machine
-abbrev pub IsUnready : Outcome → Desk → Desk → Type 0
-IsUnready outcome before after =
-    IsUntaken outcome before after ⊎ ((outcome ≡ OutOfMemory) × (input : List ℕ) × TakesInput input before after)
+-- there is no machine with its input, which isn't wanted where the answers are given: the input can't be had, or it was taken whole,
+-- and there was no memory for the machine
+abbrev pub IsUnready : Bool → Outcome → Desk → Desk → Type 0
+IsUnready answered outcome before after =
+    IsUntakenUnless answered outcome before after
+    ⊎ ((outcome ≡ OutOfMemory) × (input : List ℕ) × TakesUnless answered input before after)
 
 -- the whole input was taken, and after that the command ran over it
 pub record HasRun
@@ -42,3 +47,15 @@ pub record HasRun
 -- the input can't be had, or it was taken whole and the command ran
 abbrev pub TakesAndRuns : (List ℕ → Outcome → World → World → Type 0) → Outcome → World → World → Type 0
 TakesAndRuns Runs outcome before after = LacksInput outcome before after ⊎ HasRun Runs outcome before after
+
+-- the answers are given, and the command ran over no input; or it takes the whole input and runs
+abbrev pub TakesUnlessAnswered : Bool → (List ℕ → Outcome → World → World → Type 0) → Outcome → World → World → Type 0
+TakesUnlessAnswered true Runs = Runs []
+TakesUnlessAnswered false Runs = TakesAndRuns Runs
+
+-- the command ran with the devices of these lines, for at most `steps` steps: over what they answer, with the input left as it was,
+-- or, if they have no answers, over the whole input, which was taken before
+abbrev pub AnswersOrTakes :
+    List DevicesLine → ℕ → (Environment → Outcome → World → World → Type 0) → Outcome → World → World → Type 0
+AnswersOrTakes lines steps Runs =
+    TakesUnlessAnswered (has_answers lines) (λ input. Runs (environment_of lines steps input))

@@ -1,5 +1,5 @@
 -- The objects that a command reads, and why they are refused.
-use Rattle.std.specs.Prelude.{◌≡◌, ℕ, ◌⊎◌, List, Option, Some, None}
+use Rattle.std.specs.Prelude.{◌≡◌, ℕ, ◌⊎◌, List, [], ◌∷◌, Option, Some, None}
 use Rattle.std.specs.Option.{option_map}
 use Rattle.zc_outside.specs.Files.{Files}
 use Rattle.zc_outside.specs.Shelf.{Shelf}
@@ -29,6 +29,17 @@ objects_refusal map files = refused_for (first_fault (inputs_in map files))
 -- objects are read up to their limit
 abbrev pub objects_wanted : List (List ℕ) → List Wanted
 objects_wanted names = each_within OBJECT_LIMIT names
+
+-- the objects are the files before the last one, which is a text
+abbrev pub objects_before : List (List ℕ) → List (List ℕ)
+objects_before [] = []
+objects_before (file ∷ []) = []
+objects_before (file ∷ (next ∷ files)) = file ∷ objects_before (next ∷ files)
+
+abbrev pub last_file : List (List ℕ) → List ℕ
+last_file [] = []
+last_file (file ∷ []) = file
+last_file (file ∷ (next ∷ files)) = last_file (next ∷ files)
 
 -- why objects that were read go no further: they are refused for this fault, or memory ran out
 abbrev pub RefusalCause : Option (ℕ × Fault) → Outcome → Type 0

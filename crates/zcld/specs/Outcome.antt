@@ -3,6 +3,8 @@ use Rattle.load_runner.specs.declared.load_end.LoadEnd.{LoadEnd}
 use Rattle.load_runner.specs.declared.load_end.LoadEnd.TheVariants as load
 use Rattle.interrupt_plan.specs.declared.fault.PlanFault.{PlanFault}
 use Rattle.interrupt_plan.specs.declared.fault.PlanFault.TheVariants as plan
+use Rattle.devices.specs.declared.fault.DevicesFault.{DevicesFault}
+use Rattle.devices.specs.declared.fault.DevicesFault.TheVariants as devices
 use Rattle.pick_check.specs.declared.fault.CertFault.{CertFault}
 use Rattle.pick_check.specs.declared.fault.CertFault.TheVariants as cert
 use Rattle.psabi_sym.specs.declared.link_fault.LinkFault.{LinkFault}
@@ -13,7 +15,7 @@ use Rattle.tail_merge.specs.declared.merge_fault.MergeFault.{MergeFault}
 use Rattle.tail_merge.specs.declared.merge_fault.MergeFault.TheVariants as merge
 use Rattle.zc_outside.specs.declared.read_files.ReadFault as files
 use Rattle.zc_outside.specs.declared.read_files.ReadFault.TheVariants as read
-use Rattle.zcld.specs.declared.outcome.FileFault.TheVariants.{Certificate, Plan}
+use Rattle.zcld.specs.declared.outcome.FileFault.TheVariants.{Certificate, Devices, Plan}
 use Rattle.zcld.specs.declared.outcome.Outcome.{Outcome}
 use Rattle.zcld.specs.declared.outcome.Outcome.TheVariants.{Broken, Refused, ReadFault, OutOfMemory, BadFile, Stuck, Spent}
 
@@ -45,6 +47,12 @@ plan_outcome (plan.BadLine number) = BadFile (Plan (plan.BadLine number))
 plan_outcome (plan.OutOfOrder number) = BadFile (Plan (plan.OutOfOrder number))
 plan_outcome plan.TooLarge = BadFile (Plan plan.TooLarge)
 plan_outcome plan.OutOfMemory = OutOfMemory
+
+-- the outcome when a text names no devices
+abbrev pub devices_outcome : DevicesFault → Outcome
+devices_outcome (devices.Line number) = BadFile (Devices (devices.Line number))
+devices_outcome devices.Size = BadFile (Devices devices.Size)
+devices_outcome devices.OutOfMemory = OutOfMemory
 
 -- the outcome when a text is no certificate
 abbrev pub certificate_outcome : CertFault → Outcome

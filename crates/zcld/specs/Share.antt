@@ -1,9 +1,10 @@
 -- What `share` does: it reads objects and a plan whose interrupts also write shared data, links the objects as `zc` does, takes the
 -- console's whole input, puts the image, and then makes commits of the Zc machine under the plan.
-use Rattle.std.specs.Prelude.{◌≡◌, ℕ, ◌⊎◌, List, [], ◌∷◌, ◌++◌, Option, Some, None, Ok}
+use Rattle.std.specs.Prelude.{◌≡◌, ℕ, ◌⊎◌, List, ◌++◌, Option, Some, None, Ok}
 use Rattle.std.specs.List.Sorted.{IsPermutation}
 use Rattle.std.specs.Option.{option_or}
 use Rattle.block_cut.specs.Faults.{first_fault}
+use Rattle.devices.specs.Environment.{only_input}
 use Rattle.interrupt_plan.specs.SharedPlan.{SharedEntry}
 use Rattle.interrupt_plan.specs.Text.{shared_in}
 use Rattle.psabi_sym.specs.Inputs.{Inputs, inputs_in, parsed}
@@ -25,7 +26,7 @@ use Rattle.zcld.specs.declared.outcome.Outcome.{Outcome}
 use Rattle.zcld.specs.declared.outcome.Outcome.TheVariants.{OutOfMemory}
 use Rattle.zcld.specs.declared.share.SharedImage.{SharedImage}
 use Rattle.zcld.specs.Machines.{HasEnded, TakesAndRuns}
-use Rattle.zcld.specs.Objects.{objects_refusal, objects_wanted}
+use Rattle.zcld.specs.Objects.{last_file, objects_before, objects_refusal, objects_wanted}
 use Rattle.zcld.specs.Puts.{UnputCause}
 use Rattle.zcld.specs.Run.{EndsRun, end_outcome, plan_refusal, plan_wanted}
 
@@ -35,18 +36,7 @@ use Rattle.zcld.specs.Run.{EndsRun, end_outcome, plan_refusal, plan_wanted}
 abbrev pub share_wanted : List ℕ → List (List ℕ) → List Wanted
 share_wanted plan objects = objects_wanted objects ++ plan_wanted (Some plan)
 
--- the plan is the last file, and the objects are those before it
-abbrev pub objects_before : List (List ℕ) → List (List ℕ)
-objects_before [] = []
-objects_before (file ∷ []) = []
-objects_before (file ∷ (next ∷ files)) = file ∷ objects_before (next ∷ files)
-
-abbrev pub last_file : List (List ℕ) → List ℕ
-last_file [] = []
-last_file (file ∷ []) = file
-last_file (file ∷ (next ∷ files)) = last_file (next ∷ files)
-
--- the objects in the standard map
+-- the objects in the standard map; the plan is the last file
 abbrev pub share_inputs : List (List ℕ) → Inputs
 share_inputs files = inputs_in standard_map (objects_before files)
 
@@ -79,7 +69,7 @@ abbrev pub PutsAndRuns :
 PutsAndRuns out image happens steps input outcome before after =
     ((outcome ≡ OutOfMemory) × (after ≡ before))
     ⊎ (IsImageUnput outcome before after
-    ⊎ HasPutImage out image (HasEnded (EndsRun (first_core_of image standard_map) happens steps input) end_outcome) outcome before after)
+    ⊎ HasPutImage out image (HasEnded (EndsRun (first_core_of image standard_map) happens steps (only_input input)) end_outcome) outcome before after)
 
 -- what `share` puts and runs, as the program holds it: the image of the objects' link, the plan that a text spells, and the objects'
 -- ranges of shared data in any order

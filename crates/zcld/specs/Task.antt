@@ -7,7 +7,7 @@ use Rattle.zcld.specs.declared.outcome.Outcome.{Outcome}
 use Rattle.zcld.specs.declared.outcome.Outcome.TheVariants.{ReadFault, OutOfMemory}
 
 -- what a command does outside: it reads these files, and refuses them by their bytes, or not; it puts files, or not; it
--- takes the console's input, or not; and it writes to the console
+-- may take the console's input, or not; and it writes to the console
 pub record Task : Type 0 where
   pub wanted : List Wanted
   pub refusal : List (List ℕ) → Option Outcome

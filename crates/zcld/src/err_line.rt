@@ -9,11 +9,12 @@ ghost use Rattle.text_lines.specs.Hex.{hex_at, hex_word};
 ghost use Rattle.zc_outside.specs.Desk.{OnlyWrites};
 ghost use Rattle.zc_outside.specs.Streams.{KeepsBytes};
 ghost use Rattle.zcld.specs.Call.{WritesLine};
-ghost use Rattle.zcld.specs.ErrLine.{certificate_fault_text, err_line, fault_symbol_name, fault_text, line as with_line_feed, name_in, plan_fault_text, stop_text, stuck_text};
+ghost use Rattle.zcld.specs.ErrLine.{certificate_fault_text, devices_fault_text, err_line, fault_symbol_name, fault_text, line as with_line_feed, name_in, plan_fault_text, stop_text, stuck_text};
 ghost use Rattle.zcld.specs.declared.outcome.Outcome.TheVariants.{Refused};
 
 use crate::outcome::{FileFault, Outcome};
 use arrayvec::ArrayString;
+use devices::fault::DevicesFault;
 use elf32_read::fault::Fault;
 use elf32_read::object::Object;
 use interrupt_plan::fault::PlanFault;
@@ -123,6 +124,7 @@ pub fn line_of(outcome: &Outcome) -> ArrayString<ROOM>
         Outcome::BadFile(FileFault::Image(fault)) => {
             numbered_line("bad image ", u64::from(fault.number()))
         }
+        Outcome::BadFile(FileFault::Devices(fault)) => bad_devices(*fault),
         Outcome::BadFile(FileFault::Plan(fault)) => bad_plan(*fault),
         Outcome::BadFile(FileFault::Certificate(fault)) => bad_certificate(*fault),
         Outcome::BadFile(FileFault::Rejected) => line("rejected"),
@@ -173,6 +175,17 @@ pub fn numbered_line(text: &str, number: u64) -> ArrayString<ROOM>
     line.push_str(digits.format(number));
     line.push_str("\n");
     line
+}
+
+// The line of a fault of a text of devices.
+fn bad_devices(fault: DevicesFault) -> ArrayString<ROOM>
+    ensures { result.bytes ≡ with_line_feed (devices_fault_text fault) }
+{
+    match fault {
+        DevicesFault::Line(number) => numbered_line("bad devices line ", u64::from(number)),
+        DevicesFault::Size => line("bad devices size"),
+        DevicesFault::OutOfMemory => line("out of memory"),
+    }
 }
 
 // The line of a fault of a plan.

@@ -2,7 +2,7 @@
 
 ghost use Rattle.std.specs.Prelude.{◌≡◌, ◌+◌, ◌-◌, ◌^◌, IfOk, IfErr, length, min};
 ghost use Rattle.zc_outside.specs.Desk.{OnlyTakes};
-ghost use Rattle.zcld.specs.Input.{IsUntaken, TakesInput, TakesPart, UntakenCause};
+ghost use Rattle.zcld.specs.Input.{IsUntaken, IsUntakenUnless, TakesInput, TakesPart, TakesUnless, UntakenCause};
 
 use crate::outcome::Outcome;
 use std::alloc::Global;
@@ -26,6 +26,23 @@ pub fn take_all<C: Console>(alloc: Global, console: &mut C) -> Result<Vec<u8>, O
         }
     }
     Err(Outcome::ReadFault)
+}
+
+/// The console's whole input, or none if the answers are given without it; or how the call ends without the input.
+pub fn take_unless<C: Console>(
+    alloc: Global,
+    answered: bool,
+    console: &mut C,
+) -> Result<Vec<u8>, Outcome>
+    ensures ok { IfOk result (λ input. TakesUnless answered input.items (C.shown console.old) (C.shown console.new)) }
+    ensures err { IfErr result (λ outcome.
+        IsUntakenUnless answered outcome (C.shown console.old) (C.shown console.new)) }
+{
+    if answered {
+        Ok(Vec::new(alloc))
+    } else {
+        take_all(alloc, console)
+    }
 }
 
 // Takes a piece of the input after what was taken so far, and returns its length: 0 at the end.

@@ -7,6 +7,7 @@ pub mod check;
 pub mod ending;
 pub mod err_line;
 pub mod gc;
+pub mod given;
 pub mod input;
 pub mod limits;
 pub mod list;

@@ -3,6 +3,7 @@
 ghost use Rattle.std.specs.Prelude.{◌≡◌};
 ghost use Rattle.zcld.specs.ErrLine.{status_of};
 
+use devices::fault::DevicesFault;
 use elf32_read::fault::Fault;
 use elf32_read::image_fault::ImageFault;
 use interrupt_plan::fault::PlanFault;
@@ -17,11 +18,12 @@ use zc_base::place::Place;
 use zc_machine::reason::Reason;
 use zc_outside::read_files::ReadFault;
 
-/// What is wrong with a file that isn't an object: it is no image, no plan or no certificate, or it is a certificate
-/// that isn't accepted.
+/// What is wrong with a file that isn't an object: it is no image, names no devices, is no plan or no certificate, or
+/// it is a certificate that isn't accepted.
 #[derive(Clone, Copy, PartialEq, Eq, Debug)]
 pub enum FileFault {
     Image(ImageFault),
+    Devices(DevicesFault),
     Plan(PlanFault),
     Certificate(CertFault),
     Rejected,
@@ -127,6 +129,22 @@ impl From<PlanFault> for Outcome {
             PlanFault::OutOfMemory => Outcome::OutOfMemory,
             PlanFault::BadLine { .. } | PlanFault::OutOfOrder { .. } | PlanFault::TooLarge => {
                 Outcome::BadFile(FileFault::Plan(fault))
+            }
+        }
+    }
+}
+
+impl From<DevicesFault> for Outcome {
+    ghost use Rattle.std.specs.Prelude.{◌≡◌};
+    ghost use Rattle.zcld.specs.Outcome.{devices_outcome};
+
+    ghost from_gives = { λ fault outcome. outcome ≡ devices_outcome fault };
+
+    fn from(fault: DevicesFault) -> Outcome {
+        match fault {
+            DevicesFault::OutOfMemory => Outcome::OutOfMemory,
+            DevicesFault::Line(_) | DevicesFault::Size => {
+                Outcome::BadFile(FileFault::Devices(fault))
             }
         }
     }

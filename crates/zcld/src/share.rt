@@ -147,7 +147,7 @@ fn put_and_run<S: Store, C: Console>(
     let Ok(image) = Image::read(shared.image.as_slice(), MemMap::standard()) else {
         unreachable!();
     };
-    let Ready { mut machine, input } = match make_ready(alloc, &image, console) {
+    let Ready { mut machine, input } = match make_ready(alloc, &image, false, console) {
         Ok(ready) => ready,
         Err(outcome) => return outcome,
     };

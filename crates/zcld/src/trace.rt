@@ -1,30 +1,58 @@
-// The command `trace`: objects are read, and the symbolic machine runs them.
+// The command `trace`: objects are read, and the symbolic machine runs them with devices.
 
-ghost use Rattle.std.specs.Prelude.{◌≡◌, Some};
+ghost use Rattle.std.specs.Prelude.{◌≡◌, ◌⊎◌, ◌++◌, ℕ, IfOk, IfErr, List, None, Ok, Some, option_copied};
+ghost use Rattle.std.specs.Option.{option_or};
+ghost use Rattle.block_cut.specs.Faults.{first_fault};
+ghost use Rattle.psabi_sym.specs.Faults.{gather_fault};
 ghost use Rattle.psabi_sym.specs.Objects.{contents_of};
 ghost use Rattle.zc_base.specs.MemMap.{IsMap};
 ghost use Rattle.zc_outside.specs.Shelf.{Shelf};
+ghost use Rattle.zc_outside.specs.Wanted.{AreRead, ReadsAll};
 ghost use Rattle.zc_outside.specs.World.{world};
-ghost use Rattle.command_words.specs.Command.{trace_meant};
+ghost use Rattle.command_words.specs.Command.{texts, trace_meant};
 ghost use Rattle.zcld.specs.Call.{DoesWith};
 ghost use Rattle.zcld.specs.ErrLine.{NamesNothing};
-ghost use Rattle.zcld.specs.Machines.{TakesAndRuns};
-ghost use Rattle.zcld.specs.Trace.{Traces, trace_outcome as outcome_of_end};
+ghost use Rattle.zcld.specs.Given.{IsGiven, devices_refusal, lines_given, text_file, text_held};
+ghost use Rattle.zcld.specs.Machines.{AnswersOrTakes};
+ghost use Rattle.zcld.specs.Objects.{refused_for};
+ghost use Rattle.zcld.specs.Reading.{KeepsAll};
+ghost use Rattle.zcld.specs.Task.{UnreadCause};
+ghost use Rattle.zcld.specs.Trace.{Traces, trace_outcome as outcome_of_end, trace_wanted};
 
 use crate::ending::Ending;
-use crate::input::take_all;
-use crate::objects::gather_named;
+use crate::given::{devices_given, read_given};
+use crate::input::take_unless;
+use crate::objects::{Reading, gather, read_all};
 use crate::outcome::Outcome;
 use block_cut::cut::Cut;
 use command_words::command_line::TraceArgs;
+use devices::device_list::Devices;
+use devices::environment::DeviceMap;
+use devices::read_devices::DEVICES_LIMIT;
+use psabi_sym::objects::Objects;
 use std::alloc::Global;
-use sym_machine::run::{TraceEnd, run as run_machine};
+use sym_machine::run::{TraceEnd, run_with};
 use sym_machine::sym::Sym;
+use zc_base::mem_map::MemMap;
 use zc_outside::console::{Console, ConsoleFault};
 use zc_outside::store::Store;
 
-/// Runs the objects at the places of their own code, over the console's whole input.
-#[tactic(auto, using(crate::proofs::Refusals::names_nothing))]
+// The files that `trace` reads: the objects, and a text of devices if there is one.
+#[derive(Drop)]
+struct TraceFiles {
+    objects: Reading,
+    devices: Option<Vec<u8>>,
+}
+
+// What `trace` runs: the objects' items, with devices.
+#[derive(Drop)]
+struct Traceable {
+    cut: Cut,
+    devices: Devices,
+}
+
+/// Runs the objects at the places of their own code, with the devices under a name if there are any. They run over the
+/// console's whole input, unless the devices have answers.
 pub fn trace<S: Store, C: Console>(
     alloc: Global,
     args: &TraceArgs,
@@ -35,30 +63,78 @@ pub fn trace<S: Store, C: Console>(
     ensures { DoesWith (Some (trace_meant args.now)) (contents_of result.files.items) result.outcome
         (world (S.shown store.old) (C.shown console.old)) (world (S.shown store.new) (C.shown console.new)) }
 {
-    let objects = match gather_named(alloc, args.objects.as_slice(), args.map, store) {
+    let files = match read_files(alloc, args, store) {
+        Ok(files) => files,
+        Err(outcome) => return Ending::alone(alloc, outcome),
+    };
+    let objects = match gather(alloc, files.objects, args.map) {
         Ok(objects) => objects,
         Err(ending) => return ending,
     };
-    match Cut::new(alloc, objects) {
-        Ok(cut) => Ending::alone(alloc, execute(alloc, &cut, args.steps, console)),
-        Err(fault) => Ending::alone(alloc, Outcome::from(fault)),
+    match make_traceable(alloc, objects, &files.devices, args.map) {
+        Ok(program) => Ending::alone(alloc, execute(alloc, &program, args.steps, console)),
+        Err(outcome) => Ending::alone(alloc, outcome),
     }
 }
 
-// Runs objects over the console's whole input.
-fn execute<C: Console>(alloc: Global, cut: &Cut, steps: u64, console: &mut C) -> Outcome
-    ensures runs { (shelf : Shelf) → TakesAndRuns (Traces cut.now steps) result
+// Reads the objects, and then the devices, if there are any, before any of them is judged; or says how the call ends
+// without them.
+fn read_files<S: Store>(
+    alloc: Global,
+    args: &TraceArgs,
+    store: &mut S,
+) -> Result<TraceFiles, Outcome>
+    ensures ok { IfOk result (λ files. (read : List (List ℕ)) × KeepsAll read files.objects × AreRead
+        (S.shown store.old).files (trace_wanted (option_copied args.now.devices) (texts args.now.objects.items))
+        (read ++ text_file (text_held files.devices))) }
+    ensures given { IfOk result (λ files. IsGiven (option_copied args.now.devices) (text_held files.devices)) }
+    ensures err { IfErr result (UnreadCause
+        (trace_wanted (option_copied args.now.devices) (texts args.now.objects.items))
+        (S.shown store.old) (S.shown store.new)) }
+    ensures reads { ReadsAll (trace_wanted (option_copied args.now.devices) (texts args.now.objects.items))
+        (S.shown store.old) (S.shown store.new) }
+{
+    let objects = read_all(alloc, args.objects.as_slice(), store)?;
+    let devices = read_given(alloc, args.devices, DEVICES_LIMIT as u32, store)?;
+    Ok(TraceFiles { objects, devices })
+}
+
+// The items of objects, with the devices that a text names, or the first fault in them.
+fn make_traceable(
+    alloc: Global,
+    objects: Objects,
+    text: &Option<Vec<u8>>,
+    map: MemMap,
+) -> Result<Traceable, Outcome>
+    requires { gather_fault objects ≡ None }
+    ensures cut { IfOk result (λ program. (program.cut ≡ objects) × (first_fault objects ≡ None)) }
+    ensures devices { IfOk result (λ program. lines_given map (text_held text.now) ≡ Ok program.devices) }
+    ensures err { IfErr result (λ outcome. (outcome ≡ Outcome.OutOfMemory)
+        ⊎ (option_or (refused_for (first_fault objects)) (devices_refusal (lines_given map (text_held text.now)))
+        ≡ Some outcome)) }
+    ensures line { IfErr result NamesNothing }
+{
+    let cut = Cut::new(alloc, objects)?;
+    let devices = devices_given(alloc, text, map)?;
+    Ok(Traceable { cut, devices })
+}
+
+// Runs objects with their devices.
+fn execute<C: Console>(alloc: Global, program: &Traceable, steps: u64, console: &mut C) -> Outcome
+    ensures runs { (shelf : Shelf) → AnswersOrTakes program.now.devices steps (Traces program.now.cut steps) result
         (world shelf (C.shown console.old)) (world shelf (C.shown console.new)) }
     ensures line { NamesNothing result }
 {
-    let input = match take_all(alloc, console) {
+    let input = match take_unless(alloc, program.devices.has_answers(), console) {
         Ok(input) => input,
         Err(outcome) => return outcome,
     };
-    let Ok(mut machine) = Sym::start(alloc, cut, input.as_slice()) else {
+    let answers = program.devices.answers(steps, input.as_slice());
+    let Ok(mut machine) = Sym::start_with(alloc, &program.cut, answers) else {
         return Outcome::OutOfMemory;
     };
-    let end = run_machine(&mut machine, cut, steps, console);
+    let devices = DeviceMap::new(&program.devices);
+    let (end, _) = run_with(&mut machine, &program.cut, devices, steps, console);
     trace_outcome(end)
 }
 

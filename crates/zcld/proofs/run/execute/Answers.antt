@@ -1,34 +1,53 @@
 -- There is no machine with its input, or it came to an end.
-use Rattle.std.proofs.Common.{rules, refl, ap, inl, inr}
+use Rattle.std.proofs.Common.{rules, refl, ap, subst, inl, inr}
+use Rattle.devices.specs.Environment.{environment_of}
+use Rattle.devices.specs.Lines.{has_answers}
 use Rattle.rv_decode.specs.State.{ZcCore}
 use Rattle.zc_machine.specs.Load.{first_core, first_core_of}
-use Rattle.zcld.specs.Run.{Runs}
-use Rattle.zcld.proofs.MachineFacts.{not_ready}
+use Rattle.zc_machine.specs.Run.{interrupts_by}
+use Rattle.zc_machine.specs.declared.run.RunEnd.{RunEnd}
+use Rattle.zcld.specs.Input.{TakesUnless}
+use Rattle.zcld.specs.Machines.{IsUnready}
+use Rattle.zcld.specs.Run.{EndsRun, Runs}
+use Rattle.zcld.proofs.MachineFacts.{not_ready, ran_over}
 use Rattle.zcld.proofs.run.execute.Goals as goal
 
-pub run-end-requires-clause-running : goal.run-end-requires-clause-running
+pub run_machine-end-requires-clause-running : goal.run_machine-end-requires-clause-running
 unfolding first_core
-run-end-requires-clause-running g c = ap (λ (z : ZcCore). z.exit) c.in-Ok.ensures.loads
+run_machine-end-requires-clause-running g c = ap (λ (z : ZcCore). z.exit) c.in-Ok.ensures.loads
 
-pub run-end-requires-clause-start : goal.run-end-requires-clause-start
+pub run_machine-end-requires-clause-start : goal.run_machine-end-requires-clause-start
 unfolding first_core
-run-end-requires-clause-start g c = ap (λ (z : ZcCore). z.commits) c.in-Ok.ensures.loads
+run_machine-end-requires-clause-start g c = ap (λ (z : ZcCore). z.commits) c.in-Ok.ensures.loads
 
 pub returns-in-Err-clause-runs : goal.returns-in-Err-clause-runs
 returns-in-Err-clause-runs g c = λ shelf.
-    not_ready (Runs (first_core_of c.args.image.now.0 c.args.image.now.1) c.args.plan.now c.args.steps) (λ input w. inl (refl, refl)) c.in-Err.outcome shelf
-    (g.C.Console.shown c.args.console.now) (g.C.Console.shown c.make_ready.new.console) c.in-Err.ensures.err
+    let setting = c.args.setting.now in
+    let steps = c.args.steps in
+    let first = first_core_of c.args.image.now.0 c.args.image.now.1 in
+    let before = g.C.Console.shown c.args.console.now in
+    let after = g.C.Console.shown c.make_ready.new.console in
+    not_ready (λ input. Runs first setting.plan steps (environment_of setting.devices steps input)) (λ input w. inl (refl, refl)) (has_answers setting.devices) c.in-Err.outcome shelf before after
+    (subst (λ answered. IsUnready answered c.in-Err.outcome before after) c.has_answers-answered.ensures c.in-Err.ensures.err)
 
 pub returns-clause-runs : goal.returns-clause-runs
-returns-clause-runs g c = λ shelf. inr (record {
-  input = c.in-Ok.ready.input.items;
-  between = g.C.Console.shown c.make_ready.new.console;
-  takes = search rules;
-  runs = inr (record {
-    answer = (c.run-end.result, c.run-end.new.machine);
-    ended = search rules;
-    outcome_is = search rules;
-    only = search rules;
-    shelf = refl;
-  });
-})
+returns-clause-runs g c = λ shelf.
+    let setting = c.args.setting.now in
+    let steps = c.args.steps in
+    let first = first_core_of c.args.image.now.0 c.args.image.now.1 in
+    let input = c.in-Ok.ready.input.items in
+    let before = g.C.Console.shown c.args.console.now in
+    let between = g.C.Console.shown c.make_ready.new.console in
+    let after = g.C.Console.shown c.run_machine-end.new.console in
+    let answer : RunEnd × ZcCore = (c.run_machine-end.result, c.run_machine-end.new.machine) in
+    ran_over (λ input. Runs first setting.plan steps (environment_of setting.devices steps input)) (has_answers setting.devices) input _ shelf before between _
+    (subst (λ answered. TakesUnless answered input before between) c.has_answers-answered.ensures c.in-Ok.ensures.takes)
+    (inr (record {
+      answer = answer;
+      ended =
+          subst (λ z. EndsRun z (interrupts_by setting.plan) steps (environment_of setting.devices steps input) answer between after) c.in-Ok.ensures.loads
+          (subst (λ xs. EndsRun c.in-Ok.ready.machine (interrupts_by setting.plan) steps (environment_of setting.devices steps xs) answer between after) c.as_slice.ensures.value c.run_machine-end.ensures.ran);
+      outcome_is = search rules;
+      only = c.run_machine-end.ensures.writes;
+      shelf = refl;
+    }))

@@ -1,49 +1,41 @@
 -- The files can't be had, or one is refused, or the image ran that was read, in the map that the words gave. No line names anything,
 -- so it is the same for any files.
 use Rattle.std.proofs.Common.{◌≡◌, ℕ, List, Some, None, Ok, rules, refl, sym, ap, ◌∙◌, inl, inr, subst}
-use Rattle.std.specs.Option.{option_copied, option_map}
+use Rattle.std.specs.Option.{option_copied, option_map, option_or}
+use Rattle.devices.specs.Lines.{DevicesLine}
 use Rattle.elf32_read.specs.Image.{image_fault}
 use Rattle.interrupt_plan.specs.Plan.{Entry}
-use Rattle.interrupt_plan.specs.declared.fault.PlanFault.{PlanFault}
-use Rattle.interrupt_plan.specs.declared.fault.PlanFault.TheVariants as fault
 use Rattle.zc_base.specs.declared.mem_map.MemMap.{MemMap}
 use Rattle.zc_machine.specs.Load.{first_core_of}
 use Rattle.zc_outside.specs.World.{World, world}
 use Rattle.zcld.specs.declared.outcome.Outcome.{Outcome}
-use Rattle.zcld.specs.declared.outcome.Outcome.TheVariants.{BadFile, OutOfMemory}
-use Rattle.zcld.specs.ErrLine.{NamesNothing, err_line}
-use Rattle.zcld.specs.Machines.{TakesAndRuns}
-use Rattle.zcld.specs.Outcome.{plan_outcome}
+use Rattle.zcld.specs.declared.outcome.Outcome.TheVariants.{BadFile}
+use Rattle.zcld.specs.Given.{lines_given}
+use Rattle.zcld.specs.Machines.{AnswersOrTakes}
 use Rattle.zcld.specs.declared.outcome.FileFault.TheVariants.{Image}
-use Rattle.zcld.specs.Run.{Runs, image_refusal, run_files, plan_of, run_refusal, run_wanted}
-use Rattle.zcld.specs.Task.{UnreadCause, first_file}
+use Rattle.zcld.specs.Run.{RunTexts, RunWork, Runs, files_in_order, plan_given, run_refusal, run_wanted, texts_held, texts_refusal}
+use Rattle.zcld.specs.Task.{UnreadCause}
 use Rattle.zcld.proofs.Refusals.{names_in_none}
-use Rattle.zcld.proofs.RunFacts.{unplanned}
 use Rattle.zcld.proofs.run.run.Goals as goal
 
--- without a fault of the image, and with a plan that is spelled, nothing is refused
-none_refused : (map : MemMap) (files : List (List ℕ)) (plan : List Entry) → image_fault (first_file files) map ≡ None → plan_of files ≡ Ok plan → run_refusal map files ≡ None
-none_refused map files plan sound spelled = rw (sound, spelled) refl
+-- without a fault of the image, and with devices and a plan that are spelled, nothing is refused
+none_refused :
+    (map : MemMap) (texts : RunTexts) (lines : List DevicesLine) (plan : List Entry) → image_fault texts.image map ≡ None → lines_given map texts.devices ≡ Ok lines
+    → plan_given texts.plan ≡ Ok plan → run_refusal map texts ≡ None
+none_refused map texts lines plan sound named spelled = rw (sound, named, spelled) refl
 
 -- the image that ran is the file that was read, in the map that the words gave
 of_file :
-    (a b : List ℕ × MemMap) (plan : List Entry) (steps : ℕ) (outcome : Outcome) (before after : World) → a ≡ b →
-    TakesAndRuns (Runs (first_core_of a.0 a.1) plan steps) outcome before after →
-    TakesAndRuns (Runs (first_core_of b.0 b.1) plan steps) outcome before after
-of_file a b plan steps outcome before after same = subst (λ i. TakesAndRuns (Runs (first_core_of i.0 i.1) plan steps) outcome before after) same
-
--- no line about a plan names anything
-plan_names_nothing : (why : PlanFault) → NamesNothing (plan_outcome why)
-plan_names_nothing (fault.BadLine number) = λ files. refl
-plan_names_nothing (fault.OutOfOrder number) = λ files. refl
-plan_names_nothing fault.TooLarge = λ files. refl
-plan_names_nothing fault.OutOfMemory = λ files. refl
+    (a b : List ℕ × MemMap) (lines : List DevicesLine) (plan : List Entry) (steps : ℕ) (outcome : Outcome) (before after : World) → a ≡ b →
+    AnswersOrTakes lines steps (Runs (first_core_of a.0 a.1) plan steps) outcome before after →
+    AnswersOrTakes lines steps (Runs (first_core_of b.0 b.1) plan steps) outcome before after
+of_file a b lines plan steps outcome before after same = subst (λ i. AnswersOrTakes lines steps (Runs (first_core_of i.0 i.1) plan steps) outcome before after) same
 
 pub returns-in-Err : goal.returns-in-Err
 returns-in-Err g c = λ left. record {
   files = left;
   line = refl;
-  does = inl (record { only = record { shelf = c.read_both.ensures.reads; desk = refl }; cause = c.in-Err.ensures.err });
+  does = inl (record { only = record { shelf = c.read_files.ensures.reads; desk = refl }; cause = c.in-Err.ensures.err });
 }
 
 pub returns-in-Err-read : goal.returns-in-Err-read
@@ -52,58 +44,74 @@ returns-in-Err-read g c = λ left.
     let fault = c.in-Err-read.fault in
     let is : image_fault c.in-Ok.files.image.items map ≡ Some fault = subst (λ file. image_fault file map ≡ Some fault) c.as_slice.ensures.value c.in-Err-read.ensures in
     record {
-      files = run_files c.in-Ok.files;
+      files = files_in_order (texts_held c.in-Ok.files);
       line = refl;
-      does = inr (inl (record { only = record { shelf = c.read_both.ensures.reads; desk = refl }; read = c.in-Ok.ensures.ok; refused = rw is refl }));
+      does = inr (inl (record {
+        only = record { shelf = c.read_files.ensures.reads; desk = refl };
+        read = c.in-Ok.ensures.ok;
+        refused = ap (run_refusal map) c.in-Ok.ensures.texts ∙ rw is refl;
+      }));
     }
 
-pub returns-in-Ok-plan_of : goal.returns-in-Ok-plan_of
-returns-in-Ok-plan_of g c = λ left.
-    let files = run_files c.in-Ok.files in
+pub returns-in-Ok-setting_of : goal.returns-in-Ok-setting_of
+returns-in-Ok-setting_of g c = λ left.
+    let texts = texts_held c.in-Ok.files in
+    let files = files_in_order texts in
     let map = c.args.args.map in
-    let first : c.as_slice.result.now ≡ first_file files = c.as_slice.ensures.value in
-    let sound : image_fault (first_file files) map ≡ None = subst (λ file. image_fault file map ≡ None) first (search rules) in
+    let setting = c.in-Ok-setting_of.setting in
+    let first : c.as_slice.result.now ≡ texts.image = c.as_slice.ensures.value in
+    let sound : image_fault texts.image map ≡ None = subst (λ file. image_fault file map ≡ None) first (search rules) in
+    let between = world (g.S.Store.shown c.read_files.new.store) (g.C.Console.shown c.args.console.now) in
+    let after = world (g.S.Store.shown c.read_files.new.store) (g.C.Console.shown c.execute.new.console) in
+    let work : RunWork map c.args.args.steps texts c.execute.result between after = record {
+      lines = setting.devices;
+      named = c.in-Ok-setting_of.ensures.devices;
+      plan = setting.plan;
+      spelled = c.in-Ok-setting_of.ensures.plan;
+      run = of_file c.in-Ok-read.image (texts.image, map) setting.devices setting.plan c.args.args.steps c.execute.result between after (c.in-Ok-read.ensures.0 ∙ ap (λ file. (file, map)) first) (c.execute.ensures.runs (g.S.Store.shown c.read_files.new.store));
+    } in
     record {
       files = files;
       line = names_in_none c.execute.result left files c.execute.ensures.line;
       does = inr (inr (record {
-        between = world (g.S.Store.shown c.read_both.new.store) (g.C.Console.shown c.args.console.now);
-        only = record { shelf = c.read_both.ensures.reads; desk = refl };
+        between = between;
+        only = record { shelf = c.read_files.ensures.reads; desk = refl };
         read = c.in-Ok.ensures.ok;
-        accepted = none_refused map files c.in-Ok-plan_of.plan sound c.in-Ok-plan_of.ensures.ok;
-        work = record {
-          plan = c.in-Ok-plan_of.plan;
-          spelled = c.in-Ok-plan_of.ensures.ok;
-          run = of_file c.in-Ok-read.image _ _ _ _ _ _ (c.in-Ok-read.ensures.0 ∙ ap (λ file. (file, map)) first) (c.execute.ensures.runs (g.S.Store.shown c.read_both.new.store));
-        };
+        accepted =
+            ap (run_refusal map) c.in-Ok.ensures.texts
+            ∙ none_refused map texts setting.devices setting.plan sound c.in-Ok-setting_of.ensures.devices c.in-Ok-setting_of.ensures.plan;
+        work = subst (λ t. RunWork map c.args.args.steps t c.execute.result between after) (sym c.in-Ok.ensures.texts) work;
       }));
     }
 
 pub returns : goal.returns
 returns g c = λ left.
-    let files = run_files c.in-Ok.files in
+    let texts = texts_held c.in-Ok.files in
+    let files = files_in_order texts in
     let map = c.args.args.map in
-    let why = c.in-Err-plan_of.fault in
+    let outcome = c.in-Err-setting_of.outcome in
     let before = g.S.Store.shown c.args.store.now in
-    let after = g.S.Store.shown c.read_both.new.store in
-    let wanted = run_wanted (option_copied c.args.args.plan) c.args.args.image.now in
-    let sound : image_fault (first_file files) map ≡ None = subst (λ file. image_fault file map ≡ None) c.as_slice.ensures.value (search rules) in
-    elim (unplanned (image_refusal map (first_file files)) (plan_of files) why (ap (λ found. option_map (λ fault. BadFile (Image fault)) found) sound) c.in-Err-plan_of.ensures.err) [
+    let after = g.S.Store.shown c.read_files.new.store in
+    let wanted = run_wanted (option_copied c.args.args.devices) (option_copied c.args.args.plan) c.args.args.image.now in
+    let sound : image_fault texts.image map ≡ None = subst (λ file. image_fault file map ≡ None) c.as_slice.ensures.value (search rules) in
+    elim c.in-Err-setting_of.ensures.err [
       | inl memory ↦ record {
         files = left;
         line = refl;
         does = inl (record {
-          only = record { shelf = c.read_both.ensures.reads; desk = refl };
-          cause = subst (λ outcome. UnreadCause wanted before after outcome) (sym (c.from.ensures ∙ memory)) tt;
+          only = record { shelf = c.read_files.ensures.reads; desk = refl };
+          cause = subst (λ o. UnreadCause wanted before after o) (sym memory) tt;
         });
       }
       | inr is ↦ record {
         files = files;
-        line = subst (λ outcome. err_line left outcome ≡ err_line files outcome) (sym c.from.ensures) (names_in_none (plan_outcome why) left files (plan_names_nothing why));
+        line = names_in_none outcome left files c.in-Err-setting_of.ensures.line;
         does = inr (inl (record {
-          only = record { shelf = c.read_both.ensures.reads; desk = refl };
+          only = record { shelf = c.read_files.ensures.reads; desk = refl };
           read = c.in-Ok.ensures.ok;
-          refused = is ∙ ap Some (sym c.from.ensures);
+          refused =
+              ap (run_refusal map) c.in-Ok.ensures.texts
+              ∙ ap (λ found. option_or (option_map (λ fault. BadFile (Image fault)) found) (texts_refusal map texts)) sound ∙ is;
         }));
       }
     ]

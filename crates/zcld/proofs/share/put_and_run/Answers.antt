@@ -1,5 +1,6 @@
 -- The image was put, and the machine came to an end.
 use Rattle.std.proofs.Common.{rules, ◌≡◌, ℕ, List, refl, ap, ap₂, subst, ◌∙◌, inr}
+use Rattle.devices.specs.Environment.{only_input}
 use Rattle.rv_decode.specs.State.{ZcCore}
 use Rattle.shared_cells.specs.SharedRun.{shared_by}
 use Rattle.zc_machine.specs.Load.{first_core, first_core_of}
@@ -21,11 +22,11 @@ run_shared-end-requires-clause-start g c = ap (λ (z : ZcCore). z.commits) c.in-
 -- a run of the same machine, with the same happening between its commits, over the same input
 same_run :
     (z z' : ZcCore) (h h' : ℕ → ZcCore → ZcCore) (input input' : List ℕ) (steps : ℕ) (answer : RunEnd × ZcCore) (before after : Desk) → z ≡ z' → h ≡ h' → input ≡ input' →
-    Ran h (course_of z input h steps) answer.0 answer.1 before after → EndsRun z' h' steps input' answer before after
+    Ran h (course_of z (only_input input) h steps) answer.0 answer.1 before after → EndsRun z' h' steps (only_input input') answer before after
 same_run z z' h h' input input' steps answer before after machine happens given ran =
-    subst (λ x. Ran h' (course_of x input' h' steps) answer.0 answer.1 before after) machine
-    (subst (λ x. Ran h' (course_of z x h' steps) answer.0 answer.1 before after) given
-    (subst (λ x. Ran x (course_of z input x steps) answer.0 answer.1 before after) happens ran))
+    subst (λ x. Ran h' (course_of x (only_input input') h' steps) answer.0 answer.1 before after) machine
+    (subst (λ x. Ran h' (course_of z (only_input x) h' steps) answer.0 answer.1 before after) given
+    (subst (λ x. Ran x (course_of z (only_input input) x steps) answer.0 answer.1 before after) happens ran))
 
 pub returns-clause-runs : goal.returns-clause-runs
 returns-clause-runs g c =

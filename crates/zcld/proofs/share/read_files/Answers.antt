@@ -1,11 +1,15 @@
 -- The objects were read, and then the plan; or reading stopped before.
-use Rattle.std.proofs.Common.{subst}
+use Rattle.std.proofs.Common.{◌∷◌, [], Some, refl, subst}
 use Rattle.std.proofs.lemmas.Result.{err_from_is_err_and}
 use Rattle.command_words.specs.Command.{texts}
+use Rattle.zc_outside.proofs.Wanted.{ReadsAll-append, ReadsAll-front}
 use Rattle.zc_outside.specs.Wanted.{AreRead, ReadsAll}
 use Rattle.zcld.specs.Objects.{objects_wanted}
+use Rattle.zcld.specs.Outcome.{read_outcome}
+use Rattle.zcld.specs.Run.{plan_wanted}
 use Rattle.zcld.specs.Task.{UnreadCause}
-use Rattle.zcld.proofs.ShareFiles.{both_read, both_reads, objects_alone, objects_unread, plan_unread}
+use Rattle.zcld.proofs.GivenFacts.{front_unread, rest_read, rest_unread}
+use Rattle.zcld.proofs.Refusals.{unread}
 use Rattle.zcld.proofs.share.read_files.Goals as goal
 
 pub returns-in_err-objects-clause-err : goal.returns-in_err-objects-clause-err
@@ -16,32 +20,36 @@ returns-in_err-objects-clause-err g c =
     let after = g.S.Store.shown c.read_all.new.store in
     let o = c.in_err-objects.field-0.0 in
     let cause = subst (λ objects. UnreadCause (objects_wanted (texts objects)) before after o) c.as_slice.ensures.value c.in_err-objects.ensures.err in
-    rw (p.1, p.2) (objects_unread args.plan.now (texts args.objects.items) before after o cause)
+    rw (p.1, p.2) (front_unread (objects_wanted (texts args.objects.items)) (plan_wanted (Some args.plan.now)) before after o cause)
 
 pub returns-in_err-objects-clause-reads : goal.returns-in_err-objects-clause-reads
 returns-in_err-objects-clause-reads g c =
     let args = c.args.args.now in
     let before = g.S.Store.shown c.args.store.now in
     let after = g.S.Store.shown c.read_all.new.store in
-    objects_alone args.plan.now (texts args.objects.items)
+    ReadsAll-front (plan_wanted (Some args.plan.now))
     (subst (λ objects. ReadsAll (objects_wanted (texts objects)) before after) c.as_slice.ensures.value c.read_all.ensures.reads)
 
 pub returns-in_err-plan-clause-err : goal.returns-in_err-plan-clause-err
 returns-in_err-plan-clause-err g c =
     let args = c.args.args.now in
     let p = err_from_is_err_and c.from_residual-in_err-plan.result c.from_residual-in_err-plan.ensures.1 in
+    let plan = plan_wanted (Some args.plan.now) in
     let before = g.S.Store.shown c.args.store.now in
     let between = g.S.Store.shown c.read_all.new.store in
+    let after = g.S.Store.shown c.read_file.new.store in
     let first = subst (λ objects. ReadsAll (objects_wanted (texts objects)) before between) c.as_slice.ensures.value c.read_all.ensures.reads in
-    rw (p.1, p.2) (plan_unread args.plan.now (texts args.objects.items) before between (g.S.Store.shown c.read_file.new.store) first c.in_err-plan.field-0.0 c.in_err-plan.ensures.cause)
+    let fault = c.in_err-plan.field-0.0 in
+    rw (p.1, p.2)
+    (rest_unread (objects_wanted (texts args.objects.items)) plan before between after first (read_outcome fault)
+    (unread plan between after fault (read_outcome fault) refl c.in_err-plan.ensures.cause))
 
 pub returns-in_err-plan-clause-reads : goal.returns-in_err-plan-clause-reads
 returns-in_err-plan-clause-reads g c =
-    let args = c.args.args.now in
     let before = g.S.Store.shown c.args.store.now in
     let between = g.S.Store.shown c.read_all.new.store in
     let first = subst (λ objects. ReadsAll (objects_wanted (texts objects)) before between) c.as_slice.ensures.value c.read_all.ensures.reads in
-    both_reads args.plan.now (texts args.objects.items) before between (g.S.Store.shown c.read_file.new.store) first c.read_file.ensures.reads
+    ReadsAll-append first c.read_file.ensures.reads
 
 pub returns-clause-ok : goal.returns-clause-ok
 returns-clause-ok g c =
@@ -53,13 +61,13 @@ returns-clause-ok g c =
     let read = subst (λ objects. AreRead before.files (objects_wanted (texts objects)) kept.files) c.as_slice.ensures.value kept.read in (
       kept.files,
       kept.kept,
-      both_read args.plan.now (texts args.objects.items) before between (g.S.Store.shown c.read_file.new.store) first kept.files c.in_ok-plan.plan.items read (c.in_ok-plan.ensures.ok, tt),
+      rest_read (objects_wanted (texts args.objects.items)) (plan_wanted (Some args.plan.now)) before between between first kept.files
+          (c.in_ok-plan.plan.items ∷ []) read (c.in_ok-plan.ensures.ok, tt),
     )
 
 pub returns-clause-reads : goal.returns-clause-reads
 returns-clause-reads g c =
-    let args = c.args.args.now in
     let before = g.S.Store.shown c.args.store.now in
     let between = g.S.Store.shown c.read_all.new.store in
     let first = subst (λ objects. ReadsAll (objects_wanted (texts objects)) before between) c.as_slice.ensures.value c.read_all.ensures.reads in
-    both_reads args.plan.now (texts args.objects.items) before between (g.S.Store.shown c.read_file.new.store) first c.read_file.ensures.reads
+    ReadsAll-append first c.read_file.ensures.reads
