@@ -3,13 +3,14 @@
 
     bench/machine.py [--repeats R] [--commits N] [PROGRAM]        PROGRAM is build/zcld if none is given
 
-Three programs are made by rule, each a loop: of arithmetic, of loads and stores (in data and on the stack, of each width), and
-of calls and returns. Each makes about N commits, and is run R times as an image by `run`, R times as an object by `trace`, and
-as often by each with `--steps 0`. A rate comes from the difference of the least processor times, so start-up isn't in it.
-Instructions of the processor for a commit or step come from `perf stat` if the system allows it, and else from `valgrind
---tool=callgrind` of a short run; callgrind also says which functions they go into. The images run on `qemu-riscv32` and `spike`
-too, if these are installed; their start-up is in their figures. Beside each rate stands which part it is of that of
-`qemu-riscv32` on the image of the same loop.
+Programs are made by rule, each a loop: of arithmetic, of loads and stores (in data and on the stack, of each width), and of
+calls and returns; of polls of a device, of copies of a word in it, and of stores that appear. The loop of loads and stores is run
+beside a device too, and the polls among many devices. Each makes about N commits, and is run R times as an image by `run`, R
+times as an object by `trace`, and as often by each with `--steps 0`. A rate comes from the difference of the least processor
+times, so start-up isn't in it. Instructions of the processor for a commit or step come from `perf stat` if the system allows it,
+and else from `valgrind --tool=callgrind` of a short run; callgrind also says which functions they go into. The images without
+devices run on `qemu-riscv32` and `spike` too, if these are installed; their start-up is in their figures. Beside each rate stands
+which part it is of that of `qemu-riscv32` on the image of the same loop.
 
 Then loops that move sp by the stack's 1 MiB down and up in each turn, as objects by `trace`: the time of a turn comes from the
 difference of two numbers of turns.
@@ -20,6 +21,7 @@ import shutil
 import subprocess
 import sys
 import tempfile
+from typing import NamedTuple
 
 sys.path.insert(0, os.path.join(os.path.dirname(os.path.abspath(__file__)), os.pardir, 'scripts'))
 
@@ -72,13 +74,49 @@ COUNTS = [addi(A0, A0, 1), RET]
 CALLED = [addi(SP, SP, -16), store(2, RA, SP, 12), jal(RA, -16), load(2, RA, SP, 12), addi(SP, SP, 16), RET]
 
 
-def looped(body, each, commits, before=()):
-    """A program that makes the body so often that there are about this many commits, then exits with 0; and its entry."""
-    start = [addi(6, ZERO, 1), addi(7, ZERO, 2), addi(A0, ZERO), lui(BASE, DATA_AT >> 12),
-             *constant(COUNT, commits // (each + 2))]
+# A device of a page, and one of many of 4 bytes each behind it. `then` answers all polls.
+DEVICE_AT, MANY = 0x20000000, 300_000
+TITLE, DEVICE, SHOWN = b'zcld devices 1\n', b'device 20000000 00001000\n', b'output 20000000\n'
+ANSWERS = b'then 00\n'
+
+POLLS = [
+    load(4, 6, BASE, 4),            # lbu x6,4(x8)
+    immediate(7, 6, 6, 1),          # andi x6,x6,1
+]
+COPIES = [
+    load(2, 6, BASE, 0),            # lw x6,0(x8)
+    store(2, 6, BASE, 8),           # sw x6,8(x8)
+]
+SHOWS = [
+    store(0, ZERO, BASE, 0),        # sb x0,0(x8)
+    addi(6, 6, 1),
+]
+
+
+class Loop(NamedTuple):
+    """A program that is a loop: its code, its entry, and the text of its devices, or none."""
+
+    text: bytes
+    entry: int
+    devices: bytes = None
+
+
+def looped(body, each, commits, before=(), base=DATA_AT, devices=None):
+    """A program that makes the body so often that there are about this many commits, then exits with 0."""
+    start = [addi(6, ZERO, 1), addi(7, ZERO, 2), addi(A0, ZERO), lui(BASE, base >> 12), *constant(COUNT, commits // (each + 2))]
     loop = [*body(4 * (len(before) + len(start))), addi(COUNT, COUNT, -1)]
     loop.append(branch(BNE, COUNT, ZERO, -4 * len(loop)))
-    return words_of(*before, *start, *loop, addi(A0, ZERO), *EXIT_WORDS), TEXT_AT + 4 * len(before)
+    return Loop(words_of(*before, *start, *loop, addi(A0, ZERO), *EXIT_WORDS), TEXT_AT + 4 * len(before), devices)
+
+
+def with_device(words, commits, text):
+    """A loop of these words, whose base register has the address of a device."""
+    return looped(lambda at: words, len(words), commits, base=DEVICE_AT, devices=TITLE + text)
+
+
+def many_devices():
+    """The lines of as many devices, behind the first one."""
+    return b''.join(b'device %08x 00000004\n' % (DEVICE_AT + 0x1000 + 16 * k) for k in range(MANY))
 
 
 def object_of(text, entry):
@@ -92,10 +130,16 @@ def object_of(text, entry):
 
 def programs(commits):
     called = [*COUNTS, *CALLED]
+    accesses = looped(lambda at: ACCESSES, len(ACCESSES), commits)
     return {
         'arithmetic': looped(lambda at: ARITHMETIC, len(ARITHMETIC), commits),
-        'loads and stores': looped(lambda at: ACCESSES, len(ACCESSES), commits),
+        'loads and stores': accesses,
         'calls and returns': looped(lambda at: [jal(RA, 4 * len(COUNTS) - at)], 1 + len(called), commits, called),
+        'loads and stores, beside a device': accesses._replace(devices=TITLE + DEVICE + ANSWERS),
+        'polls of a device': with_device(POLLS, commits, DEVICE + ANSWERS),
+        f'polls of a device among {MANY:,}': with_device(POLLS, commits, many_devices() + DEVICE + ANSWERS),
+        'copies of words in a device': with_device(COPIES, commits, DEVICE + ANSWERS),
+        'bytes that appear': with_device(SHOWS, commits, DEVICE + SHOWN),
     }
 
 
@@ -155,10 +199,10 @@ def followed(words, folder):
     return number(total.group(1)), {name: number(count) for count, name in rows}
 
 
-def per_commit(program, command, file, commits, folder):
+def per_commit(call_with, commits, folder):
     """Instructions a commit beyond start-up, how they were counted, and the functions that take a part of them."""
-    counted = [instructions([program, command, '--steps', str(steps), file]) for steps in (commits * 2, 0)]
-    both = [followed([program, command, '--steps', str(steps), file], folder) for steps in (FOLLOWED, 0)]
+    counted = [instructions(call_with(steps)) for steps in (commits * 2, 0)]
+    both = [followed(call_with(steps), folder) for steps in (FOLLOWED, 0)]
     parts = []
     if None not in both:
         (more, by_name), (less, at_start) = both
@@ -198,17 +242,23 @@ def main():
     print(f'Processor: {processor_name()}, load {os.getloadavg()[0]:.1f}.')
     rows, parts = [], {}
     with tempfile.TemporaryDirectory() as folder:
-        for name, (text, entry) in programs(given.commits).items():
-            for command, data in (('run', image_in_pages(text, PAGE, entry)), ('trace', object_of(text, entry))):
-                file = os.path.join(folder, f'{name.replace(" ", "-")}.{command}')
+        for name, loop in programs(given.commits).items():
+            options = []
+            if loop.devices:
+                options = ['--devices', os.path.join(folder, 'devices')]
+                write(options[1], loop.devices)
+            files = image_in_pages(loop.text, PAGE, loop.entry), object_of(loop.text, loop.entry)
+            for command, data in zip(('run', 'trace'), files):
+                file = os.path.join(folder, f'{re.sub("[ ,]+", "-", name)}.{command}')
                 write(file, data)
                 os.chmod(file, 0o755)
                 if command == 'run':
-                    other = others(file)
-                start_up = least([program, command, '--steps', '0', file], SPENT, given.repeats)
-                took = least([program, command, '--steps', str(given.commits * 2), file], 0, given.repeats) - start_up
+                    other = {} if loop.devices else others(file)
+                call_with = lambda steps: [program, command, *options, '--steps', str(steps), file]
+                start_up = least(call_with(0), SPENT, given.repeats)
+                took = least(call_with(given.commits * 2), 0, given.repeats) - start_up
                 what = f'{name}, {command}'
-                each, way, parts[what] = per_commit(program, command, file, given.commits, folder)
+                each, way, parts[what] = per_commit(call_with, given.commits, folder)
                 rows.append((what, f'{given.commits / took / 1e6:.1f}', part_of(took, other), each, way,
                              ', '.join(f'{it} {given.commits / time / 1e6:.0f}' for it, time in other.items()) or '-'))
         moved = list(sp_rows(program, folder, given.repeats))

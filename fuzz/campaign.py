@@ -1,21 +1,21 @@
 #!/usr/bin/env python3
-"""Calls all commands but `gc` and `merge` with mutated objects, lists, images, plans, certificates and words.
+"""Calls all commands but `gc` and `merge` with mutated objects, lists, images, devices, plans, certificates and words.
 
     fuzz/campaign.py [--seed S] [--compare N] [--look N] [--seconds T] [--jobs N] [--only CASE] [--limit T] [--keep FOLDER]
                      [PROGRAM]
 
 PROGRAM is build/zcld if none is given. A case is fixed by the seed, by whether it is compared or looked at, and by its number.
 It takes files of the corpus, or makes some, and mutates them or not: the objects in examples/, those that the other scripts
-here make, compressed ones among them, the images of both links, texts of plans and certificates, and lists of words that
-scripts/checks has.
+here make, compressed ones among them, the images of both links, texts of devices, plans and certificates, and lists of words
+that scripts/checks has.
 
 N cases are compared with the models: `plain` and `zc` with plain_link.py, zc_link.py and size_report.py, their refusals and
 those of `trace` and `share` with object_items.py, all in the memory map that the words give (memory_maps.py), `trace` with
-symbolic_machine.py, `run` of an image that wasn't mutated with zc_machine.py, `share` and faults of plans with shared_cells.py,
-`list` of such an image with listing.py, `check` with certificates.py, words with `is_command` below, and `make` with
-made_load.py; a file that is too long is a read fault. Of N more cases only this is looked at: the call ends by itself within
-the limit of seconds of elapsed time, and its status has its line at the end of standard error (docs/FORMATS.md, "Messages on
-standard error, and the status").
+symbolic_machine.py, `run` of an image that wasn't mutated with zc_machine.py, both with devices by devices.py, `share` and
+faults of plans with shared_cells.py, `list` of such an image with listing.py, `check` with certificates.py, words with
+`is_command` below, and `make` with made_load.py; a file that is too long is a read fault. Of N more cases only this is looked
+at: the call ends by itself within the limit of seconds of elapsed time, and its status has its line at the end of standard
+error (docs/FORMATS.md, "Messages on standard error, and the status").
 
 Half of T seconds at most goes to cases that are compared, if both are asked for. N processes share the cases, one if none is
 given; files of calls are in the system's folder for these ($TMPDIR), and calls end sooner if that is in memory. It prints how
@@ -23,6 +23,7 @@ many calls came to what. The status is 1 if a case failed. FOLDER then has its f
 """
 import argparse
 import collections
+import functools
 import glob
 import multiprocessing
 import os
@@ -38,15 +39,18 @@ sys.path[:0] = (os.path.join(os.path.dirname(os.path.abspath(__file__)), os.pard
 import made_load
 import zc_machine
 from certificates import answer, made_text
+from checks import driven
 from checks.plans import BAD_LINES, BAD_TEXTS, PLANS
 from checks.words import COMMANDS, NO_COMMANDS
+from device_programs import Driver, made_lines
+from devices import NO_DEVICES, devices_fault, devices_text, read_devices
 from far_lists import far_list
 from frame_plans import made_object as object_of_frames
 from fuzz import IMAGE_LIMIT, MUTATIONS, OBJECT_LIMIT, made_object
 from groups import LISTS
 from made_frames import ENDINGS, sizes
 from listing import listed
-from made_objects import made_list
+from made_objects import made_list, made_program
 from memory_maps import USUAL, lies_in, made_map, map_in, words_of_map
 from object_faults import told
 from object_items import first_fault
@@ -70,7 +74,7 @@ LINES = ((0, r'', ('plain', 'zc', 'check', 'make', 'list')), (120, r'usage\n', N
          (121, r'refused \d+ \d+ [A-Z]\w+(?s:.*)\n', BY_OBJECTS),
          (122, r'read fault\n', (*BY_OBJECTS, 'run', 'check', 'list')), (123, r'write fault\n', None),
          (124, r'out of memory\n', None), (125, r'bad image [1-4]\n', ('run', 'list')),
-         (125, r'bad plan (line|order) \d+\n', ('run', 'share')),
+         (125, r'bad devices line \d+\n', ('run', 'trace')), (125, r'bad plan (line|order) \d+\n', ('run', 'share')),
          (125, r'(bad certificate line \d+|rejected)\n', ('check',)),
          (126, r'stopped [1-5] [A-Z]\w+ [0-9a-f]{8}\n', ('run', 'share')),
          (126, r'stuck \d+ \d+ \d+ [1-9] [A-Z]\w+\n', ('trace', 'make')), (127, r'spent\n', (*RUNS, 'make')))
@@ -81,7 +85,8 @@ LINES = ((0, r'', ('plain', 'zc', 'check', 'make', 'list')), (120, r'usage\n', N
 
 # Each command: its options, those that it must have, and how many other words it takes, at least and at most.
 GIVEN = {'plain': ((*USUAL, '--out'), ('--out',), 1, None), 'zc': ((*USUAL, '--out', '--cert'), ('--out', '--cert'), 1, None),
-         'run': ((*USUAL, '--plan', '--steps'), (), 1, 1), 'trace': ((*USUAL, '--steps'), (), 1, None), 'check': ((), (), 1, 1),
+         'run': ((*USUAL, '--devices', '--plan', '--steps'), (), 1, 1), 'trace': ((*USUAL, '--devices', '--steps'), (), 1, None),
+         'check': ((), (), 1, 1),
          'share': (('--out', '--plan', '--steps'), ('--out', '--plan'), 1, None), 'list': ((), (), 1, 1),
          'make': (('--out',), (), 2, 2)}
 
@@ -212,6 +217,21 @@ def shared_plan(rng):
     return b'\n'.join((title.replace(PLAN_TITLE, SHARED_TITLE), *lines))
 
 
+def devices(rng, memory):
+    """The text of devices, or of none, and where they lie."""
+    which = rng.randrange(8)
+    lines = made_lines(rng, memory)
+    ranges = [value for word, value in lines if word == 'device'] or [(memory.stack_high, memory.stack_high + 8)]
+    if which == 0:
+        return driven.text_of(rng.choice(driven.TEXTS)), ranges
+    if which == 1:
+        return driven.text_of(rng.choice(driven.BAD_LINES)), ranges
+    if which == 2:
+        return rng.choice(driven.BAD_TEXTS)[0], ranges
+    text = devices_text(lines)
+    return text if rng.random() < 0.8 else with_slip(rng, text), ranges
+
+
 def with_slip(rng, text):
     """A text with a byte or some that are changed, added, left out, or doubled."""
     at, size = rng.randrange(len(text) + 1), rng.choice((1, 1, 2, 9))
@@ -224,7 +244,8 @@ def words_by_chance(rng):
     lines = [line.split(' ') for line in NO_COMMANDS] + [line.split(' ') for line, _ in COMMANDS]
     words = list(rng.choice(lines))
     several = sorted({word for line in lines for word in line} | {'0', '007', '1000000000', '18446744073709551615', '--steps=3',
-                                                                  '--plan', '--plan=p', '--cert=c', '\n', 'é', 'a' * 300,
+                                                                  '--plan', '--plan=p', '--devices', '--devices=v',
+                                                                  '--cert=c', '\n', 'é', 'a' * 300,
                                                                   *addresses_by_chance(rng)})
     for _ in range(rng.choice((0, 1, 1, 2, 3))):
         at = rng.randrange(len(words) + 1)
@@ -272,7 +293,20 @@ class Case:
             self.files['plan'] = shared_plan(rng)
             return
         options = {'plain': ('--out', 'out'), 'zc': ('--out', 'out', '--cert', 'cert'), 'trace': ('--steps', self.steps)}
+        if self.command == 'trace' and rng.random() < 0.3:
+            text, ranges = devices(rng, self.memory)
+            if rng.random() < 0.7:
+                self.take_driver(rng, ranges)
+            options['trace'] += '--devices', 'devices'
         self.words = [self.command, *self.map_words(rng), *options[self.command], *self.files]
+        if 'devices' in self.words:
+            self.files['devices'] = text
+
+    def take_driver(self, rng, ranges):
+        """Takes objects that access devices."""
+        made = made_program(rng, rng.random() < 0.1, functools.partial(Driver, ranges))
+        self.objects = [read.bytes() for read in made.objects]
+        self.files = {f'{k}.o': data for k, data in enumerate(self.objects)}
 
     def map_words(self, rng):
         """The words of the map, of which those of the standard one may be left out."""
@@ -288,8 +322,19 @@ class Case:
         self.files = {'image': image if self.is_whole else mutated(rng, image)}
         if rng.random() < 0.5:
             self.files['plan'] = plan(rng, self.memory.stack_high)
-        self.words = ['run', *self.map_words(rng), *(('--plan', 'plan') if 'plan' in self.files else ()), '--steps', self.steps,
-                      'image']
+        if rng.random() < 0.3:
+            self.files['devices'], ranges = devices(rng, self.memory)
+            if rng.random() < 0.7 and self.is_whole:
+                self.take_image_of_driver(rng, ranges)
+        texts = [word for name in ('plan', 'devices') if name in self.files for word in (f'--{name}', name)]
+        self.words = ['run', *self.map_words(rng), *texts, '--steps', self.steps, 'image']
+
+    def take_image_of_driver(self, rng, ranges):
+        """Takes the image of objects that access devices, if it can be linked."""
+        files = [read.bytes() for read in made_program(rng, False, functools.partial(Driver, ranges)).objects]
+        if first_fault(files, self.memory) is None:
+            is_plain = rng.random() < 0.5
+            self.files['image'] = plain_of(files, self.memory)[0] if is_plain else left_by_zc(files, self.memory).image
 
     def take_list(self, rng, corpus):
         image, self.is_whole = corpus.image(rng, self.memory), rng.random() < (0.7 if self.is_compared else 0.2)
@@ -305,8 +350,8 @@ class Case:
 
     def take_words(self, rng, corpus):
         self.words = words_by_chance(rng)
-        self.files = dict(zip(('x.o', 'y.o', 'i', 'c', 'p'), (*corpus.lists[-1] * 2, corpus.images[-1], programs.CERTIFICATE,
-                                                              TITLE)))
+        self.files = dict(zip(('x.o', 'y.o', 'i', 'c', 'p', 'v'), (*corpus.lists[-1] * 2, corpus.images[-1], programs.CERTIFICATE,
+                                                                   TITLE, devices_text(()))))
 
     def call(self, program, folder, limit):
         programs.TIME_OUT = limit
@@ -333,7 +378,7 @@ class Case:
     # what is compared
 
     def compare(self, ended, folder):
-        if any(len(data) > (OBJECT_LIMIT if self.command in BY_OBJECTS and name != 'plan' else IMAGE_LIMIT)
+        if any(len(data) > (OBJECT_LIMIT if self.command in BY_OBJECTS and name not in ('plan', 'devices') else IMAGE_LIMIT)
                for name, data in self.files.items()):
             self.wanted(ended, 122, b'', b'read fault\n')
         else:
@@ -369,9 +414,19 @@ class Case:
                 raise Failed(f'the file {name} is another')
 
     def compare_trace(self, ended, left):
-        if not self.is_refused(ended, left):
-            out, err, line = trace_of(self.objects, self.given, int(STEPS), self.memory)
+        if not self.is_refused(ended, left) and not self.has_bad_devices(ended):
+            out, err, line = trace_of(self.objects, self.given, int(STEPS), self.memory, self.devices())
             self.wanted(ended, status_of(line), out, err + line + b'\n')
+
+    def devices(self):
+        return read_devices(self.files['devices'], self.memory) if 'devices' in self.files else NO_DEVICES
+
+    def has_bad_devices(self, ended):
+        """The text of devices has a fault, which is named."""
+        fault = devices_fault(self.files.get('devices', devices_text(())), self.memory)
+        if fault:
+            self.wanted(ended, 125, b'', f'bad devices {fault}\n'.encode())
+        return fault is not None
 
     def compare_run(self, ended, _):
         fault = plan_fault(self.files.get('plan', TITLE), PLAN_TITLE)
@@ -380,10 +435,12 @@ class Case:
         if not lies_in(self.files['image'], self.memory):
             self.wanted(ended, 125, b'', b'bad image 3\n')
             return
+        if self.has_bad_devices(ended):
+            return
         if fault:
             self.wanted(ended, 125, b'', f'bad plan {fault}\n'.encode())
             return
-        machine = zc_machine.Machine(self.files['image'], self.given, self.memory)
+        machine = zc_machine.Machine(self.files['image'], self.given, self.memory, self.devices())
         line = zc_machine.run(machine, zc_machine.plan_in(self.files.get('plan', TITLE)), int(STEPS)).encode()
         self.wanted(ended, status_of(line), machine.written[1], machine.written[2] + line + b'\n')
 

@@ -11,6 +11,7 @@ the one before, end with 0 or 124, but for those that are too small to start the
 """
 import argparse
 import collections
+import itertools
 import os
 import random
 import resource
@@ -26,7 +27,7 @@ from zcld_tools import programs
 from zcld_tools.elf import (ALIGN, DATA_FLAGS, EXECUTABLE, EXECUTE, HEADER, LOCAL, NOBITS, PCREL_HI20, PCREL_LO12_I, PROGRAM_HEADER,
                             READABLE, RELAX, RVC, RVC_BRANCH, RVC_JUMP, R_32, WRITABLE, Part, file_header)
 from zcld_tools.files import read, write
-from zcld_tools.images import DATA_AT, TEXT_AT, image_bytes, load_header
+from zcld_tools.images import DATA_AT, STACK_HIGH, TEXT_AT, image_bytes, load_header
 from zcld_tools.instructions import A0, EXIT_WORDS, NOP, RET, SHORT_NOP, ZERO, addi, auipc, halves_of, jalr, words_of
 from zcld_tools.objects import Reloc, Written, object_with
 from zcld_tools.programs import Failed
@@ -207,6 +208,49 @@ def object_of_shared():
     return made.bytes()
 
 
+# ---- devices
+
+
+def devices_of(lines):
+    """A text of these lines, or of as many as there may be."""
+    text = bytearray(b'zcld devices 1\n')
+    for line in lines:
+        if len(text) + len(line) > PLAN_LIMIT:
+            break
+        text += line
+    return bytes(text)
+
+
+def device_lines(order=lambda lines: None):
+    """Lines of devices of 8 bytes with gaps of 8, in an order."""
+    lines = [b'device %08x 00000008\n' % (STACK_HIGH + 16 * k) for k in range(PLAN_LIMIT // 25)]
+    order(lines)
+    return lines
+
+
+def output_lines():
+    """A device, and lines of its addresses."""
+    yield b'device 10000000 f0000000\n'
+    for k in range(PLAN_LIMIT // 16):
+        yield b'output %08x\n' % (STACK_HIGH + 7607 * k)
+
+
+def one_line(word):
+    """A line of as many bytes as there may be."""
+    return [word + b' a5' * ((PLAN_LIMIT - 40) // 3) + b'\n']
+
+
+DEVICES = {
+    '335,000 devices upwards': lambda: devices_of(device_lines()),
+    '335,000 devices downwards': lambda: devices_of(device_lines(list.reverse)),
+    '335,000 devices in random order': lambda: devices_of(device_lines(random.Random(1).shuffle)),
+    '335,000 devices, the last twice': lambda: devices_of(device_lines(lambda lines: lines.insert(335_000, lines[334_999]))),
+    '524,000 outputs': lambda: devices_of(output_lines()),
+    '2.8 million answers in a line': lambda: devices_of(one_line(b'answer')),
+    '2.8 million answers again and again': lambda: devices_of(one_line(b'then')),
+    '838,000 lines of an answer': lambda: devices_of(itertools.repeat(b'answer 00\n')),
+    '1.2 million empty answers': lambda: devices_of(itertools.repeat(b'answer\n'))}
+
 OBJECTS = WITHIN | {
     '65,000 low parts': low_parts, '21,000 paddings': alignments, '1,000 sections aligned to 256': aligned_sections,
     '65,000 hints of 2 bytes': short_hints, '32,000 paddings of 2 bytes': short_alignments,
@@ -307,7 +351,8 @@ def odd_files(calls):
     os.symlink('loop', path['other'])
     for name in ('/dev/null', '/dev/zero', '/dev/full', '/dev', '.', 'loop', 'three.o/x', 'n' * 300):
         for words in (['plain', '--out', 'out', name], ['zc', '--out', 'out', '--cert', 'cert', 'three.o', name], ['run', name],
-                      ['run', '--plan', name, 'three'], ['trace', name], ['check', name]):
+                      ['run', '--plan', name, 'three'], ['run', '--devices', name, 'three'], ['trace', name],
+                      ['trace', '--devices', name, 'three.o'], ['check', name]):
             calls.say(f'{name[:20]} is read', words)
     for name in ('/dev/full', '/dev', '.', 'loop', 'three.o/x', 'n' * 300):
         calls.say(f'{name[:20]} is written', ['plain', '--out', name, 'three.o'])
@@ -372,6 +417,10 @@ def main():
             for cells, made in CELLS.items():
                 write(os.path.join(folder, 'plan'), made())
                 calls.say(f'{name}, {cells}', ['share', '--out', 'out', '--plan', 'plan', *names])
+        for name in filter(is_asked, DEVICES):
+            write(os.path.join(folder, 'devices'), DEVICES[name]())
+            calls.say(name, ['run', '--devices', 'devices', 'three'])
+            calls.say(name, ['trace', '--devices', 'devices', 'three.o'])
         for name in filter(is_asked, IMAGES):
             write(os.path.join(folder, 'image'), IMAGES[name]())
             calls.say(name, ['run', 'image'])

@@ -36,8 +36,8 @@ WORDS = 8
 class Program:
     """A list of objects that is being made: its functions, and the names of its numbers, tables and of nothing."""
 
-    def __init__(self, rng, is_odd):
-        self.rng, self.is_odd = rng, is_odd
+    def __init__(self, rng, is_odd, function_with):
+        self.rng, self.is_odd, self.function_with = rng, is_odd, function_with
         self.objects = [Written() for _ in range(rng.choice((1, 2, 2, 3, 5)))]
         self.functions = [b'f%d' % i for i in range(rng.choice((1, 2, 4, 8)))]
         self.homes = [rng.randrange(len(self.objects)) for _ in self.functions]
@@ -464,11 +464,15 @@ class Function:
             (branch(1, T1, T0, 8), NOP), (branch(4, T1, T0, 8), NOP), (addi(A7, T1), ECALL),
             (immediate(3, T1, T1, 1), add(SUM, SUM, T1)))))
 
-    def body(self, count):
-        ways = (self.work, self.load_number, self.store_number, self.take_address, self.write_number, self.read_input,
+    def ways(self):
+        """What may be added; each stands there as often as it weighs."""
+        return (self.work, self.load_number, self.store_number, self.take_address, self.write_number, self.read_input,
                 self.skip, self.jump_over, self.align, self.loop, self.call, self.call, self.call_nothing,
                 self.compare, self.test_address, self.keep_address, self.keep, self.keep, self.inner_function,
                 self.inner_function, self.move, self.move, self.move)
+
+    def body(self, count):
+        ways = self.ways()
         for _ in range(count):
             self.rng.choice(ways)()
         if self.rng.random() < 0.03:
@@ -487,7 +491,7 @@ def add_start(program):
     if rng.random() < 0.3:
         section.words(NOP, NOP)
     read.symbol(b'_start', home=section, value=len(section.content), bind=rng.choice((GLOBAL, GLOBAL, WEAK)))
-    made = Function(program, read, section, -1)
+    made = program.function_with(program, read, section, -1)
     section.words(*(addi(register, ZERO, rng.randrange(2048)) for register in (SUM, A0, *KEPT)))
     made.body(rng.choice((2, 5)))
     made.call()
@@ -504,7 +508,7 @@ def add_functions(program):
         if program.rng.random() < 0.5:
             shared[home] = section
         start = len(section.content)
-        Function(program, read, section, index).make()
+        program.function_with(program, read, section, index).make()
         symbol = program.named(read, name)
         symbol.home, symbol.value, symbol.size, symbol.kind = section, start, len(section.content) - start, FUNCTION_TYPE
 
@@ -668,9 +672,9 @@ def make_odd(program):
             ways[which % 8](program)
 
 
-def made_program(rng, is_odd):
-    """The objects of a list that is made, and what they have."""
-    program = Program(rng, is_odd)
+def made_program(rng, is_odd, function_with=Function):
+    """The objects of a list that is made, and what they have; by what makes a function."""
+    program = Program(rng, is_odd, function_with)
     program.named(program.objects[-1], b'absolute', home=ABS, value=rng.getrandbits(32))
     program.add_shared()
     for _ in range(rng.choice((1, 3, 6))):

@@ -1,95 +1,137 @@
-"""Texts of devices, and what devices answer over a run: a model apart from the linker's definitions."""
+"""Texts of devices, where devices lie, and what they answer, as docs/FORMATS.md has them ("Devices").
 
+It is independent of the program, so that both can be compared.
+"""
 import re
+from typing import NamedTuple
 
-LIMIT = 8_388_608
-TITLE = b"zcld devices 1"
-DEVICE = re.compile(rb"device ([0-9a-f]{8}) ([0-9a-f]{8})\Z")
-OUTPUT = re.compile(rb"output ([0-9a-f]{8})\Z")
-BYTES = re.compile(rb"(answer|then)((?: [0-9a-f]{2})*)\Z")
+from zcld_tools.images import STANDARD
 
-
-class BadLine(Exception):
-    """The first line that isn't allowed where it is; the number counts from 1."""
-
-    def __init__(self, number):
-        super().__init__(f"bad devices line {number}")
-        self.number = number
+LIMIT = 8 << 20
+TITLE = b'zcld devices 1'
+DEVICE = re.compile(rb'device ([0-9a-f]{8}) ([0-9a-f]{8})')
+OUTPUT = re.compile(rb'output ([0-9a-f]{8})')
+BYTES = re.compile(rb'(answer|then)((?: [0-9a-f]{2})*)')
 
 
-class BadSize(Exception):
-    """The text is too long."""
+class BadDevices(Exception):
+    """The first fault of a text, in the words of its line."""
 
 
-class Devices:
-    """The lines of a text, as it names them: each is a tuple whose first part is its word."""
+# ---- what is answered
 
-    def __init__(self):
-        self.lines = []
-        self.taken = []
 
-    def add(self, line, text_low, stack_high):
-        """Adds a line, or raises ValueError."""
-        if any(kind == "then" for kind, *_ in self.lines):
-            raise ValueError
-        kind = line[0]
-        if kind == "device":
-            begin, end = line[1], line[1] + line[2]
-            if begin == end or end > 1 << 32 or not (end <= text_low or stack_high <= begin):
-                raise ValueError
-            if any(begin < high and low < end for low, high in self.taken):
-                raise ValueError
-            self.taken.append((begin, end))
-        if kind == "output" and not any(low <= line[1] < high for low, high in self.taken):
-            raise ValueError
-        if kind == "then" and not line[1]:
-            raise ValueError
-        self.lines.append(line)
+class Answers:
+    """Bytes that are taken from the front: first these, and then some again and again. `taken` says how many were taken."""
 
-    def outputs(self):
-        return [line[1] for line in self.lines if line[0] == "output"]
+    def __init__(self, first, again=b''):
+        self.first, self.again, self.taken = bytes(first), bytes(again), 0
 
-    def stream(self, standard_input, most):
-        """At most so many of the bytes that are answered and read, from the first on."""
-        own = [line for line in self.lines if line[0] in ("answer", "then")]
-        if not own:
-            return list(standard_input)[:most]
-        first = [b for kind, data in own if kind == "answer" for b in data]
-        again = [b for kind, data in own if kind == "then" for b in data]
-        while again and len(first) < most:
-            first += again
-        return first[:most]
+    def take(self, count):
+        """The next bytes, or all that are left."""
+        part = self.first[self.taken:self.taken + count]
+        if self.again and len(part) < count:
+            start = max(0, self.taken - len(self.first)) % len(self.again)
+            copies = self.again * (2 + (count - len(part)) // len(self.again))
+            part += copies[start:start + count - len(part)]
+        self.taken += len(part)
+        return part
+
+
+class Devices(NamedTuple):
+    """Where devices lie, as first addresses and ends; the addresses whose stored bytes appear on standard output; and, unless
+    standard input is read and answered, the bytes that are in its place, and those that follow them again and again."""
+
+    ranges: list = ()
+    outputs: frozenset = frozenset()
+    own: tuple = None
+
+    def have(self, at, size):
+        """Whether an access lies in one of them as a whole."""
+        return any(low <= at and at + size <= end for low, end in self.ranges)
+
+    def shown(self, at, stored):
+        """Those of the bytes that are stored from an address on which appear on standard output."""
+        return bytes(byte for k, byte in enumerate(stored) if at + k in self.outputs)
+
+    def input(self, stream):
+        """What a run takes of standard input: all of it, or nothing."""
+        return stream.read() if self.own is None else b''
+
+    def answers(self, given):
+        """What is read and answered in a run that took these bytes of standard input."""
+        return Answers(given) if self.own is None else Answers(*self.own)
+
+
+NO_DEVICES = Devices()
+
+# ---- texts
 
 
 def spelled(line):
-    """What a line spells, or None."""
-    if match := DEVICE.match(line):
-        return ("device", int(match[1], 16), int(match[2], 16))
-    if match := OUTPUT.match(line):
-        return ("output", int(match[1], 16))
-    if match := BYTES.match(line):
-        return (match[1].decode(), bytes.fromhex(match[2].decode()))
+    """What a line spells: its word, and a range, an address or bytes; or none."""
+    if found := DEVICE.fullmatch(line):
+        return 'device', (int(found[1], 16), int(found[1], 16) + int(found[2], 16))
+    if found := OUTPUT.fullmatch(line):
+        return 'output', int(found[1], 16)
+    if found := BYTES.fullmatch(line):
+        return found[1].decode(), bytes.fromhex(found[2].decode())
     return None
 
 
-def read(text, text_low=0x1_0000, stack_high=0x1000_0000):
-    """The devices that a text names."""
+def may_follow(lines, word, value, memory):
+    """Whether a line may stand behind these."""
+    if lines and lines[-1][0] == 'then':
+        return False
+    if word in ('answer', 'then'):
+        return word == 'answer' or value != b''
+    ranges = [other for kind, other in lines if kind == 'device']
+    if word == 'output':
+        return any(low <= value < end for low, end in ranges)
+    low, end = value
+    return (low < end <= 1 << 32 and (end <= memory.text or memory.stack_high <= low)
+            and not any(low < other_end and other_low < end for other_low, other_end in ranges))
+
+
+def lines_in(text, memory=STANDARD):
+    """The lines of a text behind its first one."""
     if len(text) > LIMIT:
-        raise BadSize
-    lines = text.split(b"\n")
-    if len(lines) < 2 or lines[0] != TITLE:
-        raise BadLine(1)
-    devices = Devices()
-    for number, line in enumerate(lines[1:], 2):
-        if number == len(lines):
-            if line:
-                raise BadLine(number)
-            break
-        what = spelled(line)
-        if what is None:
-            raise BadLine(number)
-        try:
-            devices.add(what, text_low, stack_high)
-        except ValueError:
-            raise BadLine(number) from None
-    return devices
+        raise BadDevices('size')
+    *lines, rest = text.split(b'\n')
+    made = []
+    for number, line in enumerate(lines, 1):
+        found = spelled(line) if number > 1 else None
+        if line != TITLE if number == 1 else found is None or not may_follow(made, *found, memory):
+            raise BadDevices(f'line {number}')
+        made += [found] if found else []
+    if rest or not lines:
+        raise BadDevices(f'line {len(lines) + 1}')
+    return made
+
+
+def read_devices(text, memory=STANDARD):
+    """The devices that a text names."""
+    lines = lines_in(text, memory)
+
+    def of(word):
+        return [value for kind, value in lines if kind == word]
+
+    own = (b''.join(of('answer')), b''.join(of('then'))) if of('answer') or of('then') else None
+    return Devices(of('device'), frozenset(of('output')), own)
+
+
+def devices_fault(text, memory=STANDARD):
+    """The first fault of a text, or none."""
+    try:
+        lines_in(text, memory)
+    except BadDevices as why:
+        return str(why)
+    return None
+
+
+def devices_text(lines):
+    """The text of lines."""
+    words = {'device': lambda value: f' {value[0]:08x} {value[1] - value[0]:08x}', 'output': lambda value: f' {value:08x}',
+             'answer': lambda value: ''.join(f' {byte:02x}' for byte in value)}
+    words['then'] = words['answer']
+    return '\n'.join((TITLE.decode(), *(word + words[word](value) for word, value in lines), '')).encode()

@@ -273,7 +273,7 @@ def state_differs(link, program, machine):
 
 
 def events_of(machine):
-    return machine.written, machine.given, machine.status
+    return machine.events, machine.status
 
 
 def compared(objects, link, given, cuts, steps, each=1):

@@ -1,6 +1,6 @@
-"""Runs a list of objects without a fault before their code has addresses, as `trace` does.
+"""Runs a list of objects without a fault before their code has addresses, with devices, as `trace` does.
 
-    models/symbolic_machine.py [--steps N] FILE...
+    models/symbolic_machine.py [--devices DEVICES] [--steps N] FILE...
 
 takes standard input, writes what the program writes, and ends like `trace`. It is independent of the program, so that both can
 be compared. A byte is a number, a part of an address of code, or undefined; a word is a number, an address of code (or an upper
@@ -12,11 +12,12 @@ import sys
 
 sys.path.insert(0, os.path.join(os.path.dirname(os.path.abspath(__file__)), os.pardir, 'scripts'))
 
+from devices import NO_DEVICES, read_devices
 from expansions import expansion
 from object_data import CODE
 from object_faults import Object, told
 from object_items import Code, Item, first_fault
-from zcld_tools.files import read_all
+from zcld_tools.files import read, read_all
 from zcld_tools.images import STANDARD
 from zcld_tools.instructions import (A0, A1, A2, A7, EBREAK, ECALL, EXIT_CALL, OPCODE_AUIPC, OPCODE_FENCE, OPCODE_IMMEDIATE,
                                      OPCODE_LOAD, OPCODE_LUI, OPCODE_STORE, READ_CALL, SP, WRITE_CALL, is_jalr, low_part,
@@ -97,11 +98,12 @@ def holds(f3, a, b):
 
 
 class Machine:
-    """The state of a run: the place, the registers, data and stack, the input, what was written to each stream, and the steps so
-    far."""
+    """The state of a run: the place, the registers, data and stack, what is read and answered, what was written to each stream,
+    the events and the steps so far."""
 
-    def __init__(self, objects, given, memory=STANDARD):
-        self.code, self.given, self.steps, self.memory = Code(objects, memory), given, 0, memory
+    def __init__(self, objects, given, memory=STANDARD, devices=NO_DEVICES):
+        self.code, self.given, self.steps, self.memory = Code(objects, memory), devices.answers(given), 0, memory
+        self.devices, self.events = devices, []
         self.place = self.code.entry()
         self.registers = [NOTHING] * 32
         self.registers[0], self.registers[SP] = 0, memory.stack_high
@@ -277,7 +279,7 @@ class Machine:
         if word == EBREAK:
             raise Stuck(NO_INSTRUCTION)
         if opcode == OPCODE_LOAD:
-            self.set(to, self.loaded(self.address(self.sum(item), 1 << f3 % 4), f3), after)
+            self.fetch(item, f3, after)
         elif opcode == OPCODE_STORE:
             self.keep(item, 1 << f3, after)
         elif is_jalr(word):
@@ -287,18 +289,37 @@ class Machine:
             self.set(0 if opcode == OPCODE_FENCE else to, result, after)
         return None
 
-    def loaded(self, at, f3):
-        size = 1 << f3 % 4
-        parts = self.load(at, size)
+    @staticmethod
+    def loaded(parts, f3):
+        """The word that a load makes of the bytes that it gets."""
         if f3 >= 4:
             fill = 0
         else:
             fill = (255 if parts[-1] & 128 else 0) if isinstance(parts[-1], int) else UNDEFINED
-        return word_of(parts + [fill] * (4 - size))
+        return word_of(parts + [fill] * (4 - len(parts)))
+
+    def is_device(self, item, at, size):
+        """Whether an access goes to a device: memory is asked first, and what goes by sp reaches memory alone."""
+        return (isinstance(at, int) and at % size == 0 and not self.is_memory(at, size) and item.words[0] >> 15 & 31 != SP
+                and self.devices.have(at, size))
+
+    def fetch(self, item, f3, after):
+        at, size, to = self.sum(item), 1 << f3 % 4, item.words[0] >> 7 & 31
+        if not self.is_device(item, at, size):
+            self.set(to, self.loaded(self.load(self.address(at, size), size), f3), after)
+            return
+        taken = self.given.take(size)
+        self.set(to, self.loaded(list(taken.ljust(size, b'\0')), f3), after)
+        self.events.append(('Load', at, size, taken))
 
     def keep(self, item, size, after):
-        at = self.address(self.sum(item), size)
-        self.store(at, bytes_of(self.registers[item.words[0] >> 20 & 31])[:size])
+        at, parts = self.sum(item), bytes_of(self.registers[item.words[0] >> 20 & 31])[:size]
+        if self.is_device(item, at, size) and all(isinstance(part, int) for part in parts):
+            self.set(0, 0, after)
+            self.events.append(('Store', at, bytes(parts)))
+            self.written[1] += self.devices.shown(at, parts)
+            return
+        self.store(self.address(at, size), parts)
         self.set(0, 0, after)
 
     def jump_by_register(self, item, to, after):
@@ -343,6 +364,7 @@ class Machine:
         if which == EXIT_CALL:
             if not isinstance(first, int):
                 raise Stuck(ARGUMENT)
+            self.events.append(('Exit', first & 255))
             return first & 255
         if which not in (READ_CALL, WRITE_CALL):
             raise Stuck(UNKNOWN_CALL)
@@ -357,7 +379,8 @@ class Machine:
         return None
 
     def read(self, at, size):
-        taken, self.given = self.given[:size], self.given[size:]
+        taken = self.given.take(size)
+        self.events.append(('Read', taken))
         if taken:
             self.store(at, list(taken))
         return len(taken)
@@ -366,6 +389,7 @@ class Machine:
         parts = self.load(at, size) if size else []
         if not all(isinstance(part, int) for part in parts):
             raise Stuck(ARGUMENT)
+        self.events.append(('Write', stream, bytes(parts)))
         self.written[stream] += bytes(parts)
         return size
 
@@ -384,21 +408,23 @@ def run(machine, steps):
     return 'spent'
 
 
-def trace(files, given, steps, memory=STANDARD):
+def trace(files, given, steps, memory=STANDARD, devices=NO_DEVICES):
     """What `trace` writes to each stream, without its line, and its line."""
-    machine = Machine([Object(data) for data in files], given, memory)
+    machine = Machine([Object(data) for data in files], given, memory, devices)
     line = run(machine, steps)
     return machine.written[1], machine.written[2], line.encode()
 
 
 def main():
-    arguments = argparse.ArgumentParser(description='Runs objects before their code has addresses.')
+    arguments = argparse.ArgumentParser(description='Runs objects with devices before their code has addresses.')
     arguments.add_argument('files', nargs='+')
+    arguments.add_argument('--devices')
     arguments.add_argument('--steps', type=int, default=10_000_000)
     given = arguments.parse_args()
-    files = read_all(given.files)
+    files, devices = read_all(given.files), read_devices(read(given.devices)) if given.devices else NO_DEVICES
     found = first_fault(files)
-    out, err, line = (b'', b'', told(found)) if found else trace(files, sys.stdin.buffer.read(), given.steps)
+    out, err, line = (b'', b'', told(found)) if found else trace(files, devices.input(sys.stdin.buffer), given.steps,
+                                                                 devices=devices)
     sys.stdout.buffer.write(out)
     sys.stdout.flush()
     sys.stderr.buffer.write(err + line + b'\n')

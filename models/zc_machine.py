@@ -1,10 +1,10 @@
-"""Runs an image under a plan of interrupts, as `run` does.
+"""Runs an image with devices and under a plan of interrupts, as `run` does.
 
-    models/zc_machine.py [--plan PLAN] [--steps N] IMAGE
+    models/zc_machine.py [--devices DEVICES] [--plan PLAN] [--steps N] IMAGE
 
 takes standard input, writes what the program writes, and ends like `run`. It is independent of the program, so that both can be
 compared: it follows the RISC-V unprivileged manual ("RV32I", "M", "RVC Instruction Set Listings") and the RISC-V Zc specification
-1.0 ("Zcb", "Zcmp", "Zcmt"). It looks at an image and at a plan only as far as they have no fault.
+1.0 ("Zcb", "Zcmp", "Zcmt"). It looks at an image, at devices and at a plan only as far as they have no fault.
 """
 import argparse
 import os
@@ -12,6 +12,7 @@ import sys
 
 sys.path.insert(0, os.path.join(os.path.dirname(os.path.abspath(__file__)), os.pardir, 'scripts'))
 
+from devices import NO_DEVICES, read_devices
 from expansions import bits, expanded
 from symbolic_machine import MASK, computed, holds
 from zcld_tools.files import read
@@ -70,10 +71,12 @@ def moved_registers(half):
 
 
 class Machine:
-    """The state of a run: registers, jvt, pc, memory, the input that is left, what was written, and the commits so far."""
+    """The state of a run: registers, jvt, pc, memory, what is read and answered, what was written, the events and the commits so
+    far."""
 
-    def __init__(self, image, given, memory=STANDARD):
-        self.given, self.written, self.commits, self.memory = given, {1: b'', 2: b''}, 0, memory
+    def __init__(self, image, given, memory=STANDARD, devices=NO_DEVICES):
+        self.given, self.written, self.commits, self.memory = devices.answers(given), {1: b'', 2: b''}, 0, memory
+        self.devices, self.events = devices, []
         self.regions = [[segment.address, bytearray(segment.content.ljust(segment.size, b'\0')), bool(segment.flags & EXECUTE)]
                         for segment in segments(image)]
         self.regions.append([memory.stack_low, bytearray(memory.stack_high - memory.stack_low), False])
@@ -105,13 +108,26 @@ class Machine:
         cells, index = found
         return int.from_bytes(cells[index:index + size], 'little')
 
+    def is_device(self, at, size):
+        """Whether an access goes to a device: memory is asked first."""
+        return at % size == 0 and self.place(at, size) is None and self.devices.have(at, size)
+
     def load(self, at, size):
+        if self.is_device(at, size):
+            taken = self.given.take(size)
+            self.events.append(('Load', at, size, taken))
+            return int.from_bytes(taken, 'little')
         cells, index = self.reach(at, size)
         return int.from_bytes(cells[index:index + size], 'little')
 
     def store(self, at, size, word):
+        stored = (word & (1 << 8 * size) - 1).to_bytes(size, 'little')
+        if self.is_device(at, size):
+            self.events.append(('Store', at, stored))
+            self.written[1] += self.devices.shown(at, stored)
+            return
         cells, index = self.reach(at, size)
-        cells[index:index + size] = (word & (1 << 8 * size) - 1).to_bytes(size, 'little')
+        cells[index:index + size] = stored
 
     def set(self, register, word):
         if register:
@@ -249,6 +265,7 @@ class Machine:
     def environment(self, after):
         which, first, at, size = (self.registers[register] for register in (A7, A0, A1, A2))
         if which == EXIT_CALL:
+            self.events.append(('Exit', first & 255))
             return first & 255
         if which not in (READ_CALL, WRITE_CALL) or first not in ((0,) if which == READ_CALL else (1, 2)):
             raise Stopped(UNKNOWN_CALL)
@@ -256,12 +273,15 @@ class Machine:
         if cells is None:
             raise Stopped(BAD_ACCESS)
         if which == READ_CALL:
-            taken, self.given = self.given[:size], self.given[size:]
+            taken = self.given.take(size)
+            self.events.append(('Read', taken))
             if taken:
                 cells[index:index + len(taken)] = taken
             self.set(A0, len(taken))
         else:
-            self.written[first] += bytes(cells[index:index + size])
+            written = bytes(cells[index:index + size])
+            self.events.append(('Write', first, written))
+            self.written[first] += written
             self.set(A0, size)
         self.pc = after
         return None
@@ -305,12 +325,14 @@ def run(machine, interrupts, steps):
 
 
 def main():
-    arguments = argparse.ArgumentParser(description='Runs an image under a plan of interrupts.')
+    arguments = argparse.ArgumentParser(description='Runs an image with devices and under a plan of interrupts.')
     arguments.add_argument('image')
+    arguments.add_argument('--devices')
     arguments.add_argument('--plan')
     arguments.add_argument('--steps', type=int, default=10_000_000)
     given = arguments.parse_args()
-    machine = Machine(read(given.image), sys.stdin.buffer.read())
+    devices = read_devices(read(given.devices)) if given.devices else NO_DEVICES
+    machine = Machine(read(given.image), devices.input(sys.stdin.buffer), devices=devices)
     line = run(machine, plan_in(read(given.plan)) if given.plan else [], given.steps)
     sys.stdout.buffer.write(machine.written[1])
     sys.stdout.flush()
