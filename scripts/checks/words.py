@@ -6,13 +6,14 @@ from checks.made_files import OTHER, THREE, THREE_IMAGE
 
 # The files under the names in the lists. Objects whose list has two have two names, so that they can be linked.
 FILES = {'x.o': THREE, 'y.o': OTHER, 'zc': THREE, 'help': THREE, '-': THREE, '-x.o': THREE, '--out': THREE, 'b': OTHER,
-         '--': OTHER, 'i': THREE_IMAGE, 'j': THREE_IMAGE, 'p': b'zcld plan 1\n', 'c': CERTIFICATE, 'd': CERTIFICATE}
+         '--': OTHER, 'i': THREE_IMAGE, 'j': THREE_IMAGE, 'p': b'zcld plan 1\n', 'c': CERTIFICATE, 'd': CERTIFICATE,
+         'v': b'zcld devices 1\n'}
 
 # Lists that spell no command. A line has a space between words, so two spaces are an empty word. In this order: no command, or
 # none of this name, and words that ask for help or a version; options before the command; an option or a file is missing; a value
 # that begins with `-`; an option twice, or not of this name; help after a command's name; the two files that are written are one;
 # no number, or one too large or too long; positional words too many or too few; and addresses of no form, or that give no map,
-# and a command that takes none.
+# and a command that takes none, or no devices.
 NO_COMMANDS = '''\
 frob
 help
@@ -56,6 +57,12 @@ run --steps 000000000000000000005 i
 run --steps +5 i
 run --steps -5 i
 run --steps 5 i j
+run --devices i
+run --devices -- i
+run --devices v --devices v i
+run --device v i
+trace --devices v
+trace --devices v x.o --devices=v
 trace --steps 5
 check
 check c d
@@ -71,7 +78,12 @@ run --stack 1 i
 run --stack=00001000 i
 trace --text 08000000 --data 080e0000 x.o
 make --text 00010000 5 0
-check --stack 10000000 c'''.split('\n')
+check --stack 10000000 c
+plain --devices v --out a x.o
+zc --devices v --out a --cert c x.o
+share --devices v --out a --plan p x.o
+list --devices v i
+make --devices v 5 0'''.split('\n')
 
 
 def plain(out, *names):
@@ -103,6 +115,9 @@ COMMANDS = (
     ('plain --out help help', plain('help', 'help')), ('plain --out a zc', plain('a', 'zc')),
     ('run i', EXITED), ('run --steps 5 i', EXITED), ('run --steps 00000000000000000005 i', EXITED),
     ('run --steps=5 --plan=p i', EXITED), ('run --text 00010000 i --stack=10000000 --data 00100000', EXITED),
+    ('run --devices v --plan p i', EXITED), ('run --plan=p --steps 5 i --devices=v', EXITED),
+    ('trace x.o --devices v', EXITED), ('run --devices= i', NO_OBJECT), ('trace --devices v -- -x.o', EXITED),
+    ('trace --steps 3 - --devices v', EXITED),
     ('plain --text=00010000 --out a x.o', plain('a', 'x.o')), ('zc --out a x.o --stack 10000000 --cert c', LINKED),
     ('run --text 00001000 i', EXITED), ('run --text=00020000 --data 00110000 i', (125, 'bad image 3', b'', {})),
     ('run --steps=2 i', (127, 'spent', b'', {})), ('make 5 0', (0, '', None, {})),
