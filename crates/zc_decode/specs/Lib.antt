@@ -6,3 +6,4 @@ pub mod Halfwords
 pub mod Accesses
 pub mod Effect
 pub mod Operands
+pub mod Extensions

@@ -2,6 +2,7 @@
 #![tactic(auto)]
 
 pub mod decode16;
+pub mod extensions;
 mod fields;
 pub mod form;
 pub mod lists;
