@@ -1,6 +1,6 @@
 // A store over the system's files.
 
-ghost use Rattle.std.specs.Prelude.{◌≡◌, false, ◌≤◌, ◌<◌, ◌+◌, ◌^◌, ◌++◌, [], ℕ, List, None, IfOk, IfSome, OnOk, MatchOption, length, vec_len, vec_capacity};
+ghost use Rattle.std.specs.Prelude.{◌≡◌, false, ◌≤◌, ◌<◌, ◌+◌, ◌^◌, ◌++◌, ℕ, List, None, IfOk, IfSome, OnOk, MatchOption, length, vec_len, vec_capacity};
 ghost use Rattle.std.specs.Io.KnownBytes.{Consumes, IsAtEnd};
 
 use crate::file_write::put_file;
@@ -14,7 +14,7 @@ use std::io::Read;
 use std::rt::{Files, Process};
 use std::{fs, process};
 
-// The most bytes that one read of a file asks for.
+// The most bytes that one read asks for, after the first.
 const PIECE: usize = 8192;
 
 /// The files of the system, by path. Their content is outside this program, so the store doesn't tell it.
@@ -67,8 +67,8 @@ impl<R: Files + AllocGlobal> Store for DiskStore<R> {
       sure = false;
     } };
 
-    /// Reads at most `limit + 1` bytes of the file, in small pieces. A regular file's length only
-    /// decides how much room is reserved at first, so pipes and devices are read in the same way.
+    /// Reads at most `limit + 1` bytes of the file. The first read asks for as many as a regular file's
+    /// length says. What comes after it, and what has no length, such as a pipe, is read in pieces.
     fn get(&mut self, alloc: Global, name: &str, limit: u32) -> Result<Vec<u8>, StoreFault> {
         let most = limit as usize + 1;
         let read = match fs::open(&self.rt, name) {
@@ -89,9 +89,9 @@ impl<R: Files + AllocGlobal> Store for DiskStore<R> {
     }
 
     /// A regular file is written to a new file in the same folder, which gets the old file's
-    /// permissions, is synced, and is then renamed over it. So a refusal leaves the old file as it
-    /// was, except when only the folder can't be synced. A symbolic link stays, and the file that it
-    /// names is replaced. A file that was put here under another name is refused. What is no regular
+    /// permissions, is synced, and is then renamed over it. So a refusal leaves the old file as it was.
+    /// The system may still have to bring the new name to a disk. A symbolic link stays, and the file that
+    /// it names is replaced. A file that was put here under another name is refused. What is no regular
     /// file, such as a device or a pipe, is written in place, and may be refused halfway.
     fn put(&mut self, name: &str, bytes: &[u8]) -> Result<(), StoreFault> {
         match put_file(&self.rt, self.id, &mut self.placed, name, bytes) {
@@ -103,38 +103,55 @@ impl<R: Files + AllocGlobal> Store for DiskStore<R> {
     }
 }
 
-// An empty list, with room for the bytes of a regular file, but for no more than `most`.
+// As many zeros as a regular file's length says, but at most `most`, and none for another file.
 fn room_for<F: OpenFile>(alloc: Global, file: &F, most: usize) -> Result<Vec<u8>, Trouble>
-    ensures { IfOk result (λ bytes. bytes.items ≡ []) }
+    ensures { IfOk result (λ room. vec_len room ≤ most) }
 {
     let known = file.metadata()?;
+    let mut room = Vec::new(alloc);
     if known.is_file() {
-        return Ok(Vec::with_capacity(alloc, known.len().min(most as u64) as usize)?);
+        let len = known.len().min(most as u64) as usize;
+        room.reserve_exact(len)?;
+        room.resize(len, 0)?;
     }
-    Ok(Vec::new(alloc))
+    Ok(room)
 }
 
-// All bytes that a reader has left, or `None` if there are `most` or more. They go through a buffer into `bytes`, which
-// is empty.
+// All bytes that a reader has left, or `None` if there are `most` or more. One read fills `bytes` as far as it can, and
+// what comes after that goes through a buffer.
 fn read_below<F: Read>(
     mut bytes: Vec<u8>,
     file: &mut F,
     buf: &mut [u8; PIECE],
     most: usize,
 ) -> Result<Option<Vec<u8>>, Trouble>
-    requires empty { bytes.items ≡ [] }
+    requires room { vec_len bytes ≤ most }
     requires some { 0 < most }
     requires fits { most < 2 ^ 33 }
     ensures within { IfOk result (λ read. IfSome read (λ v. vec_len v < most)) }
     ensures bytes { IfSome (F.remaining file.old) (λ left. IfOk result (λ read.
         MatchOption read (most ≤ length left) (λ v. v.items ≡ left))) }
 {
+    read_first(file, &mut bytes)?;
     while bytes.len() < most {
         if read_piece(file, buf, &mut bytes, most)? == 0 {
             return Ok(Some(bytes));
         }
     }
     Ok(None)
+}
+
+// Reads once, as much as there are bytes to be replaced, and keeps those that came. Without any nothing is read.
+fn read_first<F: Read>(file: &mut F, bytes: &mut Vec<u8>) -> Result<(), Trouble>
+    ensures within { vec_len bytes.new ≤ vec_len bytes.old }
+    ensures first { OnOk result (Consumes (F.remaining file.old) (F.remaining file.new) bytes.new.items) }
+{
+    let mut count = 0;
+    if !bytes.is_empty() {
+        count = read_some(file, bytes.as_mut_slice())?;
+    }
+    bytes.truncate(count);
+    Ok(())
 }
 
 // Reads a piece, appends it to the bytes so far, which become at most `most`, and returns its length.

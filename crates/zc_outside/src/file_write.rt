@@ -16,8 +16,8 @@ const RIGHTS: u32 = 0o777;
 
 /// Writes a file under a name, and remembers it in `placed`. `id` is the number of this process.
 ///
-/// If this is refused, a regular file keeps its bytes, unless only the folder couldn't be synced. A
-/// file of `placed` is refused under any other name than its own.
+/// If this is refused, a regular file keeps its bytes. A file of `placed` is refused under any other
+/// name than its own.
 pub fn put_file<R: Files + AllocGlobal>(
     rt: &R,
     id: u32,

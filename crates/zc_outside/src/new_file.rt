@@ -25,18 +25,13 @@ pub fn replace<R: Files + AllocGlobal>(
     bytes: &[u8],
     rights: Option<u32>,
 ) -> Result<FileId, Trouble> {
-    let folder = open_folder(rt, name)?;
     let (beside, mut file) = create_beside(rt, id, name, rights)?;
     let filled = fill(&mut file, bytes, rights);
     let renamed = rename_filled(rt, filled, beside.as_str(), name);
     if renamed.is_err() {
         let _ = fs::remove_file(rt, beside.as_str());
     }
-    let placed = renamed?;
-    if let Some(folder) = folder {
-        sync(&folder)?;
-    }
-    Ok(placed)
+    renamed
 }
 
 // Gives a new file these permissions and fills it, and returns which file it is.
@@ -65,7 +60,8 @@ fn rename_filled<R: Files>(
     Ok(placed)
 }
 
-/// Waits until an open file's data are on disk. What has no disk can't be synced, and needn't be.
+/// Waits until an open file's data are on disk: some file systems tell only then that they couldn't store them. What has
+/// no disk can't be synced, and needn't be.
 pub fn sync<F: OpenFile>(file: &F) -> Result<(), Trouble> {
     match file.sync_all() {
         Err(fault) if !has_no_sync(fault.kind()) => Err(Trouble::from(fault)),
@@ -76,20 +72,6 @@ pub fn sync<F: OpenFile>(file: &F) -> Result<(), Trouble> {
 // Whether a sync was refused because such a file can't be synced.
 fn has_no_sync(kind: ErrorKind) -> bool {
     kind == ErrorKind::InvalidInput || kind == ErrorKind::Unsupported
-}
-
-// The folder of a name, to be synced after the renaming; `None` if it is writable but not readable.
-fn open_folder<R: Files>(rt: &R, name: &str) -> Result<Option<R::File>, Trouble> {
-    let folder = match name.rsplit_once('/') {
-        Some(("", _)) => "/",
-        Some((folder, _)) => folder,
-        None => ".",
-    };
-    match fs::open(rt, folder) {
-        Ok(folder) => Ok(Some(folder)),
-        Err(fault) if fault.kind() == ErrorKind::PermissionDenied => Ok(None),
-        Err(fault) => Err(Trouble::from(fault)),
-    }
 }
 
 // Creates a new file in the folder of a name, with no more permissions than these, and returns it with its
