@@ -1,6 +1,7 @@
 -- The segments of an image (System V gABI, "Program Header").
 use Rattle.std.specs.Prelude.{ℕ, ◌+◌, Bool, ◌&&◌, ◌==◌, nat_lt, nat_le, min, max, if◌then◌else◌, List, take, drop, map, filter, bit_and}
 use Rattle.std.specs.List.{range_with_len}
+use Rattle.zc_base.specs.MemMap.{data_limit}
 use Rattle.zc_base.specs.declared.mem_map.MemMap.{MemMap}
 use Rattle.elf32_read.specs.Header.{program_count, program_header_of}
 use Rattle.elf32_read.specs.declared.header.ProgramHeader.{ProgramHeader}
@@ -17,12 +18,13 @@ is_code header = bit_and header.flags 1 == 1
 abbrev pub memory_end : ProgramHeader → ℕ
 memory_end header = header.address + header.memory_size
 
--- a segment lies in the region for its kind: code from text to below data_low, all else in the 4 MiB from data_low on
+-- a segment lies in the region for its kind: code from text to below data_low, all else in the room for data, from
+-- data_low on
 abbrev pub is_in_place : MemMap → ProgramHeader → Bool
 is_in_place memory header =
     if is_code header
     then (nat_le memory.text header.address && nat_le (memory_end header) memory.data_low)
-    else (nat_le memory.data_low header.address && nat_le (memory_end header) (memory.data_low + 0x40_0000))
+    else (nat_le memory.data_low header.address && nat_le (memory_end header) (memory.data_low + data_limit memory))
 
 -- two segments share a byte of memory
 abbrev pub overlap_in_memory : ProgramHeader → ProgramHeader → Bool

@@ -12,8 +12,6 @@ const EXECUTE: u32 = 1;
 
 const WRITE: u32 = 2;
 
-const DATA_SIZE: u64 = 0x40_0000;
-
 /// Whether a segment holds code.
 pub fn is_code(header: &ProgramHeader) -> bool
     ensures { result ≡ is_code header.now }
@@ -27,8 +25,8 @@ fn memory_end(header: &ProgramHeader) -> u64
     u64::from(header.address) + u64::from(header.memory_size)
 }
 
-// Whether a segment lies in the region for its kind: code from text to below data_low, all else in the 4 MiB from
-// data_low on.
+// Whether a segment lies in the region for its kind: code from text to below data_low, all else in the room for data,
+// from data_low on.
 fn is_in_place(map: &MemMap, header: &ProgramHeader) -> bool
     ensures { result ≡ is_in_place map.now header.now }
 {
@@ -36,7 +34,7 @@ fn is_in_place(map: &MemMap, header: &ProgramHeader) -> bool
     let (low, high) = if is_code(header) {
         (u64::from(map.text), data)
     } else {
-        (data, data + DATA_SIZE)
+        (data, data + u64::from(map.data_limit()))
     };
     low <= u64::from(header.address) && memory_end(header) <= high
 }

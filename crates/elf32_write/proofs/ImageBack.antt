@@ -6,6 +6,7 @@ use Rattle.std.specs.List.{flat_map, range_with_len, list_any}
 use Rattle.std.proofs.lemmas.List.{length-replicate, append-nil}
 use Rattle.std.proofs.lemmas.Bool.{cases_lt, le-ltb, le-leb, lt-leb, ne_eqb, or_from, or_left, and_from, and_right}
 use Rattle.std.proofs.lemmas.List.Elements.{All-from_recursion}
+use Rattle.zc_base.specs.MemMap.{data_limit}
 use Rattle.zc_base.specs.Fields.{half_in, word_in}
 use Rattle.zc_base.specs.declared.mem_map.MemMap.{MemMap}
 use Rattle.zc_base.specs.declared.place.Place.{Place}
@@ -295,7 +296,7 @@ has_good_segments parts memory w loadable =
     let text : is_bad_load memory (text_segment parts) ≡ false = or_from _ _ (or_from _ _ text_size refl) (ap not (and_from _ _ text_low text_high)) in
     let data_size : nat_lt (length parts.data_bytes + parts.zero) (length parts.data_bytes) ≡ false = le-ltb (length parts.data_bytes + parts.zero) (length parts.data_bytes) (omega arith) in
     let data_start : nat_le memory.data_low parts.data_at ≡ true = le-leb memory.data_low parts.data_at (omega (arith, loadable.data_at)) in
-    let data_high : nat_le (parts.data_at + (length parts.data_bytes + parts.zero)) (memory.data_low + 0x40_0000) ≡ true = le-leb (parts.data_at + (length parts.data_bytes + parts.zero)) (memory.data_low + 0x40_0000) (omega (arith, loadable.data_memory, loadable.data_at)) in
+    let data_high : nat_le (parts.data_at + (length parts.data_bytes + parts.zero)) (memory.data_low + data_limit memory) ≡ true = le-leb (parts.data_at + (length parts.data_bytes + parts.zero)) (memory.data_low + data_limit memory) (omega (arith, loadable.data_memory, loadable.data_at)) in
     let data_part : is_bad_load memory (data_segment parts) ≡ false = or_from _ _ (or_from _ _ data_size refl) (ap not (and_from _ _ data_start data_high)) in
     let good : list_any (is_bad_load memory) (loads_of bytes) ≡ false = ap (list_any (is_bad_load memory)) (loads_back parts w) ∙ or_from _ _ text (or_from _ _ data_part refl) in
     let apart : overlap_in_memory (text_segment parts) (data_segment parts) ≡ false =

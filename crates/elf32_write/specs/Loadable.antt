@@ -1,6 +1,7 @@
 -- Parts whose file a loader takes as it was meant.
 use Rattle.std.specs.Prelude.{◌≡◌, ℕ, ◌+◌, ◌%◌, ◌^◌, ◌<◌, ◌≤◌, true, false, List, [], ◌∷◌, length, All, None}
 use Rattle.std.specs.List.{list_any}
+use Rattle.zc_base.specs.MemMap.{data_limit}
 use Rattle.zc_base.specs.declared.mem_map.MemMap.{MemMap}
 use Rattle.zc_base.specs.declared.place.Place.{Place}
 use Rattle.elf32_read.specs.Header.{are_known_flags, entry_address, file_flags}
@@ -26,7 +27,7 @@ pub record IsLoadable (parts : Parts) (memory : MemMap) : Type 0 where
   pub file : sections_offset parts + 240 ≤ 0x80_0000
   pub flags : are_known_flags parts.flags ≡ true
   pub text : parts.text_at + length parts.text ≤ parts.data_at
-  pub data_memory : length parts.data_bytes + parts.zero ≤ 0x40_0000
+  pub data_memory : length parts.data_bytes + parts.zero ≤ data_limit memory
   pub entry_even : parts.entry % 2 ≡ 0
   pub entry_low : parts.text_at ≤ parts.entry
   pub entry_high : parts.entry ≤ parts.text_at + length parts.text
