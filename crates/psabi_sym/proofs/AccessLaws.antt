@@ -37,10 +37,10 @@ pub some_none : IsSome {T = ℕ} None → ⊥
 some_none h = false≢true h
 
 -- the row of the section with a number, and the section's file
-pub record IsNumberedRow (files : List (List ℕ)) (k : ℕ) (row : SectionRow) : Type 0 where
+pub record IsNumberedRow (names files : List (List ℕ)) (k : ℕ) (row : SectionRow) : Type 0 where
   pub listed : IndexedSection
   pub at : slice_get (all_sections (map object_parts files)) k ≡ Some listed
-  pub row_is : row ≡ section_row listed
+  pub row_is : row ≡ section_row names listed
   pub of : IsOfFile files listed
 
 -- what a look-up past the end would give
@@ -67,9 +67,9 @@ module _ {inputs : Inputs} {sections : SectionRows} {symbols : Symbols} {definit
     row_inside =
         omega (arith, found.place, place_within (parsed inputs) o i found.object found.section found.at found.is, ap length gathered.indexed.sections_are)
 
-    pub row_is : (d : SectionRow) → get_or sections.rows.items k d ≡ section_row (record { object = o; index = i; section = found.section })
+    pub row_is : (d : SectionRow) → get_or sections.rows.items k d ≡ section_row inputs.fixed (record { object = o; index = i; section = found.section })
     row_is d =
-        ap (λ l. get_or l k d) gathered.indexed.sections_are ∙ ap (λ n. get_or (map section_row (all_sections (parsed inputs).objects)) n d) found.place
+        ap (λ l. get_or l k d) gathered.indexed.sections_are ∙ ap (λ n. get_or (map (section_row inputs.fixed) (all_sections (parsed inputs).objects)) n d) found.place
         ∙ row_there (parsed inputs) o i found.object found.section found.at found.is d
 
     pub address_inside : k < length definitions.addresses.items
@@ -92,7 +92,7 @@ module _ {inputs : Inputs} {sections : SectionRows} {symbols : Symbols} {definit
 
   -- the row with a number is that of the section with it, which is one of a file
   pub numbered_row : (there : Inputs) (k : ℕ) (row : SectionRow) → inputs ≡ there → k < length (all_sections (parsed there).objects) → row ≡ get_or sections.rows.items k row
-      → IsNumberedRow inputs.files k row
+      → IsNumberedRow inputs.fixed inputs.files k row
   numbered_row there k row same inside is =
       let all = all_sections (parsed inputs).objects in
       let within : k < length all = omega (arith, inside, ap (λ v. length (all_sections (parsed v).objects)) same) in
@@ -100,7 +100,7 @@ module _ {inputs : Inputs} {sections : SectionRows} {symbols : Symbols} {definit
       record {
         listed = get_or all k no_listed;
         at = at;
-        row_is = is ∙ ap (λ rows. get_or rows k row) gathered.indexed.sections_are ∙ get_or-map section_row all k no_listed row within;
+        row_is = is ∙ ap (λ rows. get_or rows k row) gathered.indexed.sections_are ∙ get_or-map (section_row inputs.fixed) all k no_listed row within;
         of = of_file inputs.files k (get_or all k no_listed) at;
       }
 

@@ -44,15 +44,15 @@ map-same f g (x ∷ xs) same = λ j. All-head (λ y. f y ≡ g y) x xs same j �
 
 -- ---- sections
 
-pub row_blocks_are : (class : DataClass) (sections : List IndexedSection) → row_blocks class (map section_row sections) ≡ blocks_in class sections
-row_blocks_are class [] = refl
-row_blocks_are class (s ∷ ss) = by (has_class class (role_of s.section)) (row_blocks_are class ss)
+pub row_blocks_are : (fixed : List (List ℕ)) (class : DataClass) (sections : List IndexedSection) → row_blocks class (map (section_row fixed) sections) ≡ blocks_in class sections
+row_blocks_are fixed class [] = refl
+row_blocks_are fixed class (s ∷ ss) = by (has_class class (role_of s.section)) (row_blocks_are fixed class ss)
   where
-    by : (b : Bool) → row_blocks class (map section_row ss) ≡ blocks_in class ss
-        → map row_block (cond b (section_row s ∷ filter (λ r. has_class class r.role) (map section_row ss)) (filter (λ r. has_class class r.role) (map section_row ss)))
+    by : (b : Bool) → row_blocks class (map (section_row fixed) ss) ≡ blocks_in class ss
+        → map row_block (cond b (section_row fixed s ∷ filter (λ r. has_class class r.role) (map (section_row fixed) ss)) (filter (λ r. has_class class r.role) (map (section_row fixed) ss)))
         ≡ map (λ l. record { align = l.section.align; size = l.section.size })
         (cond b (s ∷ filter (λ l. has_class class (role_of l.section)) ss) (filter (λ l. has_class class (role_of l.section)) ss))
-    by true rest = ap (λ t. row_block (section_row s) ∷ t) rest
+    by true rest = ap (λ t. row_block (section_row fixed s) ∷ t) rest
     by false rest = rest
 
 -- ---- symbols

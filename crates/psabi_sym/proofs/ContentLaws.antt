@@ -1,29 +1,19 @@
 -- Where data lies is bounded by the map, and the contents of data have room from its start to the end of small data.
-use Rattle.std.proofs.Common.{◌≡◌, ℕ, ◌+◌, ◌-◌, ◌≤◌, List, [], ◌∷◌, ◌++◌, Bool, true, false, cond, eqb, length, take, drop, map, max, replicate, refl, ap, ◌∙◌, arith, Option, Some, None}
-use Rattle.std.specs.List.{fold, sum_by}
+use Rattle.std.proofs.Common.{◌≡◌, ℕ, ◌+◌, ◌-◌, ◌≤◌, List, [], ◌∷◌, ◌++◌, Bool, true, false, cond, eqb, length, take, drop, replicate, refl, ap, ◌∙◌, arith, Option, Some, None}
+use Rattle.std.specs.List.{fold}
 use Rattle.std.specs.Option.{option_and_then, option_map_or}
-use Rattle.std.proofs.lemmas.List.{length-append, length-drop, length-replicate, length-take, take_all}
+use Rattle.std.proofs.lemmas.List.{length-append, length-drop, length-replicate, length-take}
 use Rattle.elf32_read.specs.Parts.{ObjectParts, SectionParts}
-use Rattle.psabi_sym.specs.declared.block.Block.{Block}
 use Rattle.psabi_sym.specs.declared.data_class.DataClass.{DataClass}
 use Rattle.psabi_sym.specs.declared.data_class.DataClass.TheVariants.{ReadOnly, Data, SmallData, SmallZero, Zero, Common}
-use Rattle.psabi_sym.specs.declared.definitions.Definitions.{Definitions}
 use Rattle.psabi_sym.specs.declared.section_row.SectionRole.TheVariants.{Code, InClass, Dropped}
-use Rattle.psabi_sym.specs.declared.sections.SectionRows.{SectionRows}
-use Rattle.psabi_sym.specs.declared.symbols.Symbols.{Symbols}
 use Rattle.psabi_sym.specs.Blocks.{aligned_up, end_from}
 use Rattle.psabi_sym.specs.Classes.{classes_before}
 use Rattle.psabi_sym.specs.Contents.{data_contents, overlaid, with_content}
 use Rattle.psabi_sym.specs.Data.{address_in, blocks_in, blocks_of, class_end, class_start, data_address, data_end, data_file_end, role_address, role_of}
-use Rattle.psabi_sym.specs.Invariants.Gathered.{IsGathered}
-use Rattle.psabi_sym.specs.Inputs.{Inputs, ParsedInputs, parsed}
-use Rattle.psabi_sym.specs.Indexed.{IndexedSection, all_sections, all_symbols, section_at, sections_before}
-use Rattle.psabi_sym.specs.Invariants.Rows.{placed_rows, row_end, row_room, section_row, symbol_row}
-use Rattle.psabi_sym.proofs.BlockLaws.{aligned_up-ge, aligned_up-lt, end_from-ge, end_from_fits}
-use Rattle.psabi_sym.proofs.CommonLaws.{placed_room}
-use Rattle.psabi_sym.proofs.DefinedLaws.{class_end_common, common_start_is, rooms_fit}
-use Rattle.psabi_sym.proofs.Gathered.{all_none}
-use Rattle.psabi_sym.proofs.RowLaws.{class_rooms, row_end-le}
+use Rattle.psabi_sym.specs.Inputs.{ParsedInputs}
+use Rattle.psabi_sym.specs.Indexed.{IndexedSection, all_sections, section_at, sections_before}
+use Rattle.psabi_sym.proofs.BlockLaws.{aligned_up-ge, end_from-ge}
 
 -- ---- nothing lies below the map's start of data
 
@@ -62,40 +52,6 @@ module _ (inputs : ParsedInputs) where
       let before = fold (end_after inputs.objects) inputs.map.data_low (ReadOnly ∷ Data ∷ SmallData ∷ []) in
       let rest = fold (end_after inputs.objects) before (SmallZero ∷ Zero ∷ []) in
       omega (arith, ends-ge inputs.objects before (SmallZero ∷ Zero ∷ []), aligned_up-ge 16 rest, end_from-ge (aligned_up 16 rest) (blocks_of inputs.objects Common))
-
--- ---- nor far above it
-
--- data have 4 MiB at most
-pub data_end-most : (inputs : Inputs) (sections : SectionRows) (symbols : Symbols) (definitions : Definitions) → IsGathered inputs sections symbols definitions
-    → data_end (parsed inputs) ≤ inputs.map.data_low + 0x40_0000
-data_end-most inputs sections symbols definitions gathered =
-    let objects = (parsed inputs).objects in
-    let low = inputs.map.data_low in
-    let named = gathered.defined.named in
-    let rows = map section_row (all_sections objects) in
-    let names = map (symbol_row named.names) (all_symbols objects) in
-    let e1 = row_end rows low ReadOnly in
-    let e2 = row_end rows e1 Data in
-    let e3 = row_end rows e2 SmallData in
-    let e4 = row_end rows e3 SmallZero in
-    let placed = placed_rows names names in
-    let all : take (length names) names ≡ names = take_all (length names) names (omega arith) in
-    omega (
-      arith,
-      rooms_fit inputs.files named.names (all_none inputs gathered.faultless).sums,
-      class_rooms rows,
-      row_end-le rows low ReadOnly,
-      row_end-le rows e1 Data,
-      row_end-le rows e2 SmallData,
-      row_end-le rows e3 SmallZero,
-      row_end-le rows e4 Zero,
-      aligned_up-lt 16 (row_end rows e4 Zero),
-      common_start_is (parsed inputs),
-      end_from_fits (class_start (parsed inputs) Common) (map (row_room names) placed),
-      placed_room names (length names) (omega arith),
-      ap (λ l. sum_by (λ (b : Block). b.size + max 1 b.align) (map (row_room names) (placed_rows names l))) all,
-      class_end_common named.names (parsed inputs) named.numbered.numbered,
-    )
 
 -- ---- contents
 

@@ -38,23 +38,23 @@ module _ (inputs : ParsedInputs) where
   low : ℕ
   low = inputs.map.data_low
 
-  pub small_data_is : row_start (map section_row (all_sections inputs.objects)) inputs.map.data_low SmallData ≡ class_start inputs SmallData
+  pub small_data_is : row_start (map (section_row inputs.fixed) (all_sections inputs.objects)) inputs.map.data_low SmallData ≡ class_start inputs SmallData
   unfolding class_start
-  small_data_is = λ j. aligned_up 16 (end_from (aligned_up 16 (end_from (aligned_up 16 inputs.map.data_low) (row_blocks_are ReadOnly (all_sections inputs.objects) j))) (row_blocks_are Data (all_sections inputs.objects) j))
+  small_data_is = λ j. aligned_up 16 (end_from (aligned_up 16 (end_from (aligned_up 16 inputs.map.data_low) (row_blocks_are inputs.fixed ReadOnly (all_sections inputs.objects) j))) (row_blocks_are inputs.fixed Data (all_sections inputs.objects) j))
 
-  pub small_zero_is : row_start (map section_row (all_sections inputs.objects)) inputs.map.data_low SmallZero ≡ class_start inputs SmallZero
+  pub small_zero_is : row_start (map (section_row inputs.fixed) (all_sections inputs.objects)) inputs.map.data_low SmallZero ≡ class_start inputs SmallZero
   unfolding class_start
   small_zero_is =
-      λ j. aligned_up 16 (end_from (aligned_up 16 (end_from (aligned_up 16 (end_from (aligned_up 16 inputs.map.data_low) (row_blocks_are ReadOnly (all_sections inputs.objects) j))) (row_blocks_are Data (all_sections inputs.objects) j))) (row_blocks_are SmallData (all_sections inputs.objects) j))
+      λ j. aligned_up 16 (end_from (aligned_up 16 (end_from (aligned_up 16 (end_from (aligned_up 16 inputs.map.data_low) (row_blocks_are inputs.fixed ReadOnly (all_sections inputs.objects) j))) (row_blocks_are inputs.fixed Data (all_sections inputs.objects) j))) (row_blocks_are inputs.fixed SmallData (all_sections inputs.objects) j))
 
-  pub file_end_is : end_from (row_start (map section_row (all_sections inputs.objects)) inputs.map.data_low SmallData) (row_blocks SmallData (map section_row (all_sections inputs.objects))) ≡ class_end inputs SmallData
+  pub file_end_is : end_from (row_start (map (section_row inputs.fixed) (all_sections inputs.objects)) inputs.map.data_low SmallData) (row_blocks SmallData (map (section_row inputs.fixed) (all_sections inputs.objects))) ≡ class_end inputs SmallData
   unfolding class_end
-  file_end_is = λ j. end_from (small_data_is j) (row_blocks_are SmallData (all_sections inputs.objects) j)
+  file_end_is = λ j. end_from (small_data_is j) (row_blocks_are inputs.fixed SmallData (all_sections inputs.objects) j)
 
-  pub common_start_is : aligned_up 16 (end_from (row_start (map section_row (all_sections inputs.objects)) inputs.map.data_low Zero) (row_blocks Zero (map section_row (all_sections inputs.objects)))) ≡ class_start inputs Common
+  pub common_start_is : aligned_up 16 (end_from (row_start (map (section_row inputs.fixed) (all_sections inputs.objects)) inputs.map.data_low Zero) (row_blocks Zero (map (section_row inputs.fixed) (all_sections inputs.objects)))) ≡ class_start inputs Common
   unfolding class_start
   common_start_is =
-      λ j. aligned_up 16 (end_from (aligned_up 16 (end_from (aligned_up 16 (end_from (aligned_up 16 (end_from (aligned_up 16 (end_from (aligned_up 16 inputs.map.data_low) (row_blocks_are ReadOnly (all_sections inputs.objects) j))) (row_blocks_are Data (all_sections inputs.objects) j))) (row_blocks_are SmallData (all_sections inputs.objects) j))) (row_blocks_are SmallZero (all_sections inputs.objects) j))) (row_blocks_are Zero (all_sections inputs.objects) j))
+      λ j. aligned_up 16 (end_from (aligned_up 16 (end_from (aligned_up 16 (end_from (aligned_up 16 (end_from (aligned_up 16 (end_from (aligned_up 16 inputs.map.data_low) (row_blocks_are inputs.fixed ReadOnly (all_sections inputs.objects) j))) (row_blocks_are inputs.fixed Data (all_sections inputs.objects) j))) (row_blocks_are inputs.fixed SmallData (all_sections inputs.objects) j))) (row_blocks_are inputs.fixed SmallZero (all_sections inputs.objects) j))) (row_blocks_are inputs.fixed Zero (all_sections inputs.objects) j))
 
 -- ---- names
 
@@ -170,18 +170,19 @@ sum_objects n (o ∷ os) =
       sum_objects (n + 1) os,
     )
 
-row_sums : (objects : List ObjectParts) (names : List (List ℕ))
-    → sum_by row_data_room (map section_row (all_sections objects)) + sum_by row_common_room (map (symbol_row names) (all_symbols objects)) ≡ sum_by object_data objects
+-- the rooms of rows are those of the objects
+pub row_sums : (objects : List ObjectParts) (fixed names : List (List ℕ))
+    → sum_by row_data_room (map (section_row fixed) (all_sections objects)) + sum_by row_common_room (map (symbol_row names) (all_symbols objects)) ≡ sum_by object_data objects
 unfolding all_sections all_symbols
-row_sums objects names =
-    (λ j. (fold-map (λ a r. a + row_data_room r) section_row 0 (flat_map sections_in (enumerate_from 0 objects)) ∙ rooms (flat_map sections_in (enumerate_from 0 objects))) j
+row_sums objects fixed names =
+    (λ j. (fold-map (λ a r. a + row_data_room r) (section_row fixed) 0 (flat_map sections_in (enumerate_from 0 objects)) ∙ rooms (flat_map sections_in (enumerate_from 0 objects))) j
     + fold-map (λ a r. a + row_common_room r) (symbol_row names) 0 (flat_map symbols_in (enumerate_from 0 objects)) j)
     ∙ sum_objects 0 objects
   where
-    rooms : (ls : List IndexedSection) → sum_by (λ l. row_data_room (section_row l)) ls ≡ sum_by (λ l. data_room l.section) ls
+    rooms : (ls : List IndexedSection) → sum_by (λ l. row_data_room (section_row fixed l)) ls ≡ sum_by (λ l. data_room l.section) ls
     rooms [] = refl
     rooms (l ∷ ls) =
-        omega (arith, sum_by-cons (λ m. row_data_room (section_row m)) l ls, sum_by-cons (λ m. data_room m.section) l ls, section_room_is l.section (role_of l.section), rooms ls)
+        omega (arith, sum_by-cons (λ m. row_data_room (section_row fixed m)) l ls, sum_by-cons (λ m. data_room m.section) l ls, section_room_is l.section (role_of l.section), rooms ls)
 
 -- the room of data is bounded
 pub data_fits : (files : List (List ℕ)) → sum_fault files ≡ None → sum_by (λ f. object_data (object_parts f)) files + 96 ≤ 0x40_0000
@@ -201,10 +202,10 @@ data_fits (f ∷ fs) none =
     mapped (Some i) h = absurd cc
 
 -- what the layout asks for
-pub rooms_fit : (files : List (List ℕ)) (names : List (List ℕ)) → sum_fault files ≡ None
-    → sum_by row_data_room (map section_row (all_sections (map object_parts files))) + sum_by row_common_room (map (symbol_row names) (all_symbols (map object_parts files))) + 96 ≤ 0x40_0000
-rooms_fit files names none =
-    omega (arith, data_fits files none, row_sums (map object_parts files) names, fold-map (λ a o. a + object_data o) object_parts 0 files)
+pub rooms_fit : (files : List (List ℕ)) (fixed names : List (List ℕ)) → sum_fault files ≡ None
+    → sum_by row_data_room (map (section_row fixed) (all_sections (map object_parts files))) + sum_by row_common_room (map (symbol_row names) (all_symbols (map object_parts files))) + 96 ≤ 0x40_0000
+rooms_fit files fixed names none =
+    omega (arith, data_fits files none, row_sums (map object_parts files) fixed names, fold-map (λ a o. a + object_data o) object_parts 0 files)
 
 -- where all data ends
 pub class_end_common : (names : List (List ℕ)) (inputs : ParsedInputs) (numbered : HaveNumbers names (all_symbols inputs.objects))

@@ -11,12 +11,14 @@ pub mod FoundLaws
 pub mod Gathered
 pub mod NumberLaws
 pub mod KeyLaws
+pub mod KinLaws
 pub mod LongLaws
 pub mod LongNames
 pub mod NumberedLaws
 pub mod PartLaws
 pub mod PlaceLaws
 pub mod RangeLaws
+pub mod RoomLaws
 pub mod RowLaws
 pub mod SectionNumbers
 pub mod SharedLaws

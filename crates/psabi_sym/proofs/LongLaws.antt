@@ -9,7 +9,7 @@ use Rattle.elf32_read.specs.declared.fault.Fault.TheVariants.{Alignment, BadName
 use Rattle.elf32_read.specs.Fault.{fault_symbol}
 use Rattle.elf32_read.specs.Object.{has_bad_alignment, has_bad_name, has_bad_symbol, has_cut_code, has_other_flags, has_too_many_sections, has_unlinked_sections, is_too_long, not_elf, object_fault, truncated}
 use Rattle.elf32_read.specs.Rows.{first_of}
-use Rattle.psabi_sym.specs.Faults.{are_too_large, fault_from, first_some, gather_fault, most_objects, name_fault, sum_fault, sums_of}
+use Rattle.psabi_sym.specs.Faults.{are_too_large, fault_from, first_some, gather_fault, most_objects, name_fault, room_fault, sum_fault, sums_of}
 use Rattle.psabi_sym.specs.Inputs.{Inputs, parsed}
 use Rattle.psabi_sym.proofs.RangeLaws.{none_found_in_range}
 
@@ -112,5 +112,5 @@ long_files (file ∷ files) long none =
 pub sums_third : (inputs : Inputs) (index : ℕ) (fault : Fault) → length inputs.files ≤ 256 → fault_from 0 inputs.files ≡ None → sum_fault inputs.files ≡ Some (index, fault) → gather_fault inputs ≡ Some (index, fault)
 unfolding gather_fault
 sums_third inputs index fault few readable is =
-    let names = first_some (name_fault (parsed inputs) ∷ []) in
-    (λ j. option_or (cond (le-ltb most_objects (length inputs.files) few j) (Some (most_objects, TooLarge)) None) (option_or (readable j) (option_or (is j) names)))
+    let rest = first_some (name_fault (parsed inputs) ∷ room_fault (parsed inputs) ∷ []) in
+    (λ j. option_or (cond (le-ltb most_objects (length inputs.files) few j) (Some (most_objects, TooLarge)) None) (option_or (readable j) (option_or (is j) rest)))

@@ -157,41 +157,41 @@ module _ (objects : List ObjectParts) (o i : ℕ) (object : ObjectParts) (s : Se
 module _ (inputs : ParsedInputs) where
   -- where a class begins, by rows
   pub row_start_is : (class : DataClass) → same_class class Common ≡ false
-      → row_start (map section_row (all_sections inputs.objects)) inputs.map.data_low class ≡ class_start inputs class
+      → row_start (map (section_row inputs.fixed) (all_sections inputs.objects)) inputs.map.data_low class ≡ class_start inputs class
   unfolding class_start
   row_start_is ReadOnly other = refl
-  row_start_is Data other = λ j. aligned_up 16 (end_from (aligned_up 16 inputs.map.data_low) (row_blocks_are ReadOnly (all_sections inputs.objects) j))
+  row_start_is Data other = λ j. aligned_up 16 (end_from (aligned_up 16 inputs.map.data_low) (row_blocks_are inputs.fixed ReadOnly (all_sections inputs.objects) j))
   row_start_is SmallData other =
-      λ j. aligned_up 16 (end_from (aligned_up 16 (end_from (aligned_up 16 inputs.map.data_low) (row_blocks_are ReadOnly (all_sections inputs.objects) j))) (row_blocks_are Data (all_sections inputs.objects) j))
+      λ j. aligned_up 16 (end_from (aligned_up 16 (end_from (aligned_up 16 inputs.map.data_low) (row_blocks_are inputs.fixed ReadOnly (all_sections inputs.objects) j))) (row_blocks_are inputs.fixed Data (all_sections inputs.objects) j))
   row_start_is SmallZero other =
-      λ j. aligned_up 16 (end_from (aligned_up 16 (end_from (aligned_up 16 (end_from (aligned_up 16 inputs.map.data_low) (row_blocks_are ReadOnly (all_sections inputs.objects) j))) (row_blocks_are Data (all_sections inputs.objects) j))) (row_blocks_are SmallData (all_sections inputs.objects) j))
+      λ j. aligned_up 16 (end_from (aligned_up 16 (end_from (aligned_up 16 (end_from (aligned_up 16 inputs.map.data_low) (row_blocks_are inputs.fixed ReadOnly (all_sections inputs.objects) j))) (row_blocks_are inputs.fixed Data (all_sections inputs.objects) j))) (row_blocks_are inputs.fixed SmallData (all_sections inputs.objects) j))
   row_start_is Zero other =
-      λ j. aligned_up 16 (end_from (aligned_up 16 (end_from (aligned_up 16 (end_from (aligned_up 16 (end_from (aligned_up 16 inputs.map.data_low) (row_blocks_are ReadOnly (all_sections inputs.objects) j))) (row_blocks_are Data (all_sections inputs.objects) j))) (row_blocks_are SmallData (all_sections inputs.objects) j))) (row_blocks_are SmallZero (all_sections inputs.objects) j))
+      λ j. aligned_up 16 (end_from (aligned_up 16 (end_from (aligned_up 16 (end_from (aligned_up 16 (end_from (aligned_up 16 inputs.map.data_low) (row_blocks_are inputs.fixed ReadOnly (all_sections inputs.objects) j))) (row_blocks_are inputs.fixed Data (all_sections inputs.objects) j))) (row_blocks_are inputs.fixed SmallData (all_sections inputs.objects) j))) (row_blocks_are inputs.fixed SmallZero (all_sections inputs.objects) j))
   row_start_is Common other = absurd cc
 
   module _ (o i : ℕ) (object : ObjectParts) (s : SectionParts) (at : slice_get inputs.objects o ≡ Some object) (is : slice_get object.sections i ≡ Some s) where
     -- the section's place is among the rows
-    pub place_within : section_starts inputs.objects o + i < length (map section_row (all_sections inputs.objects))
-    place_within = omega (arith, length-map (all_sections inputs.objects) section_row, place_listed inputs.objects o i object s at is)
+    pub place_within : section_starts inputs.objects o + i < length (map (section_row inputs.fixed) (all_sections inputs.objects))
+    place_within = omega (arith, length-map (all_sections inputs.objects) (section_row inputs.fixed), place_listed inputs.objects o i object s at is)
 
     -- the row at its place
-    pub row_there : (d : SectionRow) → get_or (map section_row (all_sections inputs.objects)) (section_starts inputs.objects o + i) d ≡ section_row (record { object = o; index = i; section = s })
+    pub row_there : (d : SectionRow) → get_or (map (section_row inputs.fixed) (all_sections inputs.objects)) (section_starts inputs.objects o + i) d ≡ section_row inputs.fixed (record { object = o; index = i; section = s })
     row_there d =
         let e : IndexedSection = record { object = o; index = i; section = s } in
         let k = section_starts inputs.objects o + i in
-        get_or-map section_row (all_sections inputs.objects) k e d (place_listed inputs.objects o i object s at is)
-        ∙ ap section_row (get_or_from_slice_get (all_sections inputs.objects) k e e (listed_there inputs.objects o i object s at is))
+        get_or-map (section_row inputs.fixed) (all_sections inputs.objects) k e d (place_listed inputs.objects o i object s at is)
+        ∙ ap (section_row inputs.fixed) (get_or_from_slice_get (all_sections inputs.objects) k e e (listed_there inputs.objects o i object s at is))
 
     -- the address at its place, if it is data
-    pub address_there : (addresses : List ℕ) (class : DataClass) → AreAddressed (map section_row (all_sections inputs.objects)) inputs.map.data_low addresses → role_of s ≡ InClass class
+    pub address_there : (addresses : List ℕ) (class : DataClass) → AreAddressed (map (section_row inputs.fixed) (all_sections inputs.objects)) inputs.map.data_low addresses → role_of s ≡ InClass class
         → get_or addresses (section_starts inputs.objects o + i) 0 ≡ address_in inputs o i s class
     address_there addresses class placed role =
-        let rows = map section_row (all_sections inputs.objects) in
+        let rows = map (section_row inputs.fixed) (all_sections inputs.objects) in
         let k = section_starts inputs.objects o + i in
-        let row = section_row (record { object = o; index = i; section = s }) in
+        let row = section_row inputs.fixed (record { object = o; index = i; section = s }) in
         let other = not_common s class role in
         let before : row_blocks class (take k rows) ≡ blocks_in class (sections_before inputs.objects o i) =
-        ap (row_blocks class) (take-map section_row k (all_sections inputs.objects)) ∙ row_blocks_are class (take k (all_sections inputs.objects)) ∙ ap (blocks_in class) (before_there inputs.objects o i object s at is) in
+        ap (row_blocks class) (take-map (section_row inputs.fixed) k (all_sections inputs.objects)) ∙ row_blocks_are inputs.fixed class (take k (all_sections inputs.objects)) ∙ ap (blocks_in class) (before_there inputs.objects o i object s at is) in
         placed k row class (slice_get-get_or rows k row place_within ∙ ap Some (row_there row)) role other
         ∙ (λ j. aligned_up s.align (end_from (row_start_is class other j) (before j)))
 

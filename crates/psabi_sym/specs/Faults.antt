@@ -1,5 +1,5 @@
 -- Faults of objects, in the order in which they are looked for: too many objects, one that can't be read, sums that are too
--- large, and names that are defined twice or not at all.
+-- large, names that are defined twice or not at all, and data that reach into the stack.
 use Rattle.std.specs.Prelude.{ℕ, zero, suc, ◌+◌, ◌*◌, ◌≤◌, ℤ, pos, negsuc, Bool, false, not, ◌&&◌, ◌||◌, ◌==◌, nat_lt, max, if◌then◌else◌, is_none, List, [], ◌∷◌, length, drop, take, Option, Some, None, slice_get}
 use Rattle.std.specs.List.{find, list_any, range_with_len, sum_by}
 use Rattle.std.specs.Option.{option_map, option_map_or, option_or}
@@ -8,7 +8,7 @@ use Rattle.elf32_read.specs.declared.fault.Fault.TheVariants.{TooLarge, Duplicat
 use Rattle.elf32_read.specs.declared.reloc.Reloc.{Reloc}
 use Rattle.elf32_read.specs.Object.{object_fault}
 use Rattle.elf32_read.specs.Parts.{ObjectParts, SectionParts, SymbolParts, object_parts}
-use Rattle.psabi_sym.specs.Data.{role_of}
+use Rattle.psabi_sym.specs.Data.{data_end, role_of}
 use Rattle.psabi_sym.specs.Inputs.{Inputs, ParsedInputs, parsed}
 use Rattle.psabi_sym.specs.Indexed.{IndexedSymbol, all_symbols}
 use Rattle.psabi_sym.specs.Names.{is_common, is_strong, strong_definition}
@@ -154,6 +154,12 @@ is_missing inputs l =
 unfoldable pub undefined_fault : ParsedInputs → Option (ℕ × Fault)
 undefined_fault inputs = option_map (λ l. (l.object, Undefined l.index)) (find (is_missing inputs) (all_symbols inputs.objects))
 
+-- ---- room
+
+-- data that end above the stack's low end are too large, whichever object they are of
+unfoldable pub room_fault : ParsedInputs → Option (ℕ × Fault)
+room_fault inputs = if nat_lt inputs.map.stack_low (data_end inputs) then Some (0, TooLarge) else None
+
 -- ---- the first fault
 
 -- the first `Some` of a list
@@ -168,4 +174,5 @@ name_fault inputs = first_some (duplicate_fault inputs.objects ∷ undefined_fau
 -- the first fault of inputs, with its object's index, or none
 unfoldable pub gather_fault : Inputs → Option (ℕ × Fault)
 gather_fault inputs = first_some (
-    count_fault inputs.files ∷ fault_from 0 inputs.files ∷ sum_fault inputs.files ∷ name_fault (parsed inputs) ∷ [])
+    count_fault inputs.files ∷ fault_from 0 inputs.files ∷ sum_fault inputs.files ∷ name_fault (parsed inputs)
+    ∷ room_fault (parsed inputs) ∷ [])

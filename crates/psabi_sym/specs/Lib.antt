@@ -3,6 +3,7 @@ pub mod Classes
 pub mod Contents
 pub mod Data
 pub mod Faults
+pub mod Fixed
 pub mod Invariants
 pub mod Inputs
 pub mod LinkFault

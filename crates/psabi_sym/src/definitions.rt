@@ -21,7 +21,7 @@ use crate::section_row::SectionRow;
 use crate::start::start_meaning;
 use crate::symbol_row::SymbolRow;
 use std::alloc::{AllocError, Global};
-use zc_base::mem_map::MemMap;
+use zc_base::link_options::LinkOptions;
 
 // How far after the start of small data the global pointer stands.
 const GLOBAL_POINTER: u32 = 0x800;
@@ -51,19 +51,19 @@ pub struct KeptRows<'a> {
 pub fn define(
     alloc: Global,
     objects: &[Loaded],
-    memory: &MemMap,
+    options: &LinkOptions,
     kept: &KeptRows<'_>,
 ) -> Result<Definitions, AllocError>
-    requires is_map { IsMap memory.now }
+    requires is_map { IsMap options.now.map }
     requires sums { sum_fault objects.now ≡ None }
-    requires sections { kept.now.sections.now ≡ map section_row (all_sections (map object_parts objects.now)) }
+    requires sections { kept.now.sections.now ≡ map (section_row options.now.fixed) (all_sections (map object_parts objects.now)) }
     requires symbols { IsNumbered (map (λ name. name.now) kept.now.names.now)
         (all_symbols (map object_parts objects.now)) kept.now.symbols.now }
     requires strong { kept.now.strong.now
         ≡ map (first_row 1 kept.now.symbols.now) (range_with_len 0 (length kept.now.names.now)) }
-    ensures { IfOk result (λ definitions. AreDefined (read_from objects.now memory.now) kept.now.sections.now
+    ensures { IfOk result (λ definitions. AreDefined (read_from objects.now options.now) kept.now.sections.now
         definitions.addresses.items kept.now.symbols.now definitions.meanings.items definitions.file_end definitions.end
-        × IsStart (read_from objects.now memory.now) definitions.start) }
+        × IsStart (read_from objects.now options.now) definitions.start) }
 {
     let KeptRows {
         sections,
@@ -71,6 +71,7 @@ pub fn define(
         names,
         strong,
     } = *kept;
+    let memory = options.map();
     let weak = weak_meanings(alloc, symbols, names.len())?;
     let layout = lay_out(alloc, sections, memory.data_low)?;
     let commons = place_commons(alloc, symbols, strong, layout.ends.end)?;

@@ -2,8 +2,9 @@
 
 ghost use Rattle.std.specs.Prelude.{◌≡◌, ◌+◌, ◌++◌, ◌<◌, ◌≤◌, List, ℕ, length};
 ghost use Rattle.std.specs.List.{sum_by};
-ghost use Rattle.zc_base.specs.declared.mem_map.MemMap.{MemMap};
+ghost use Rattle.zc_base.specs.Options.{Options};
 ghost use Rattle.psabi_sym.specs.Faults.{fault_from, gather_fault};
+ghost use Rattle.psabi_sym.specs.Inputs.{inputs_in};
 ghost use Rattle.psabi_sym.specs.LinkFault.{IsNameless, IsRefusal};
 ghost use Rattle.psabi_sym.specs.Objects.{contents_of};
 
@@ -18,9 +19,9 @@ use std::alloc::Global;
 pub fn long_files_refusal(alloc: Global, kept: &[Vec<u8>], later: Option<(u32, Fault)>) -> LinkFault
     requires few { length kept.now ≤ 256 }
     requires long { 0x200_0000 < sum_by length (contents_of kept.now) }
-    ensures { (others : List (List ℕ)) (map : MemMap) → length kept.now + length others ≤ 256
+    ensures { (others : List (List ℕ)) (options : Options) → length kept.now + length others ≤ 256
         → later ≡ fault_from (length kept.now) others
-        → IsRefusal (gather_fault (record { files = contents_of kept.now ++ others; map = map })) result × IsNameless result }
+        → IsRefusal (gather_fault (inputs_in options (contents_of kept.now ++ others))) result × IsNameless result }
 {
     if let Some((index, fault)) = first_unreadable(kept) {
         return LinkFault::Object { index, fault };

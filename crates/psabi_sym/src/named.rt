@@ -4,7 +4,7 @@ ghost use Rattle.std.specs.Prelude.{◌≡◌, ◌<◌, ◌≤◌, ℕ, true, Al
 ghost use Rattle.std.specs.List.{range_with_len};
 ghost use Rattle.std.specs.Option.{option_map};
 ghost use Rattle.zc_base.specs.MemMap.{IsMap};
-ghost use Rattle.zc_base.specs.declared.mem_map.MemMap.{MemMap};
+ghost use Rattle.zc_base.specs.Options.{Options};
 ghost use Rattle.elf32_read.specs.declared.fault.Fault.TheVariants.{Undefined};
 ghost use Rattle.elf32_read.specs.Parts.{ObjectParts, object_parts};
 ghost use Rattle.psabi_sym.specs.Faults.{duplicate_fault, name_fault, sum_fault, undefined_fault};
@@ -30,7 +30,7 @@ use crate::used::used_symbols;
 use elf32_read::fault::Fault;
 use elf32_read::symbol::GLOBAL;
 use std::alloc::{AllocError, Global};
-use zc_base::mem_map::MemMap;
+use zc_base::link_options::LinkOptions;
 
 /// The symbols of objects, and what sections and names are.
 #[derive(Drop)]
@@ -78,9 +78,9 @@ fn undefined_symbol(
     rows: &[SymbolRow],
     meanings: &[Meaning],
 ) -> Result<Option<(u32, u32)>, AllocError>
-    requires { (memory : MemMap) × AreNamed (read_from objects.now memory) rows.now meanings.now }
-    ensures { (memory : MemMap) → AreNamed (read_from objects.now memory) rows.now meanings.now
-        → IfOk result (λ found. undefined_fault (read_from objects.now memory)
+    requires { (options : Options) × AreNamed (read_from objects.now options) rows.now meanings.now }
+    ensures { (options : Options) → AreNamed (read_from objects.now options) rows.now meanings.now
+        → IfOk result (λ found. undefined_fault (read_from objects.now options)
         ≡ option_map (λ p. (p.0, Undefined p.1)) found) }
 {
     let used = used_symbols(alloc, objects)?;
@@ -91,19 +91,19 @@ fn undefined_symbol(
 fn define_names(
     alloc: Global,
     objects: &[Loaded],
-    memory: &MemMap,
+    options: &LinkOptions,
     rows: &NumberedRows<'_>,
 ) -> Result<Definitions, LinkFault>
-    requires is_map { IsMap memory.now }
+    requires is_map { IsMap options.now.map }
     requires sums { sum_fault objects.now ≡ None }
-    requires sections { rows.now.sections.now ≡ map section_row (all_sections (map object_parts objects.now)) }
+    requires sections { rows.now.sections.now ≡ map (section_row options.now.fixed) (all_sections (map object_parts objects.now)) }
     requires symbols { IsNumbered (map (λ name. name.now) rows.now.names.now)
         (all_symbols (map object_parts objects.now)) rows.now.symbols.now }
-    ensures defined { IfOk result (λ definitions. AreDefined (read_from objects.now memory.now) rows.now.sections.now
+    ensures defined { IfOk result (λ definitions. AreDefined (read_from objects.now options.now) rows.now.sections.now
         definitions.addresses.items rows.now.symbols.now definitions.meanings.items definitions.file_end definitions.end
-        × IsStart (read_from objects.now memory.now) definitions.start
-        × (name_fault (read_from objects.now memory.now) ≡ None)) }
-    ensures err { IfErr result (IsRefusal (name_fault (read_from objects.now memory.now))) }
+        × IsStart (read_from objects.now options.now) definitions.start
+        × (name_fault (read_from objects.now options.now) ≡ None)) }
+    ensures err { IfErr result (IsRefusal (name_fault (read_from objects.now options.now))) }
 {
     let NumberedRows {
         sections,
@@ -117,7 +117,7 @@ fn define_names(
         names,
         strong: &strong,
     };
-    let definitions = define(alloc, objects, memory, &kept)?;
+    let definitions = define(alloc, objects, options, &kept)?;
     if let Some((index, symbol)) = undefined_symbol(
         alloc,
         objects,
@@ -137,15 +137,15 @@ fn define_names(
 pub fn name_objects(
     alloc: Global,
     objects: &[Loaded],
-    memory: &MemMap,
+    options: &LinkOptions,
     sections: &[SectionRow],
 ) -> Result<Named, LinkFault>
     requires few { length objects.now ≤ 256 }
-    requires is_map { IsMap memory.now }
+    requires is_map { IsMap options.now.map }
     requires sums { sum_fault objects.now ≡ None }
-    requires sections { sections.now ≡ map section_row (all_sections (map object_parts objects.now)) }
-    ensures named { IfOk result (HasNameNumber (read_from objects.now memory.now) sections.now) }
-    ensures err { IfErr result (IsRefusal (name_fault (read_from objects.now memory.now))) }
+    requires sections { sections.now ≡ map (section_row options.now.fixed) (all_sections (map object_parts objects.now)) }
+    ensures named { IfOk result (HasNameNumber (read_from objects.now options.now) sections.now) }
+    ensures err { IfErr result (IsRefusal (name_fault (read_from objects.now options.now))) }
 {
     let mut names = Names::new(alloc);
     let symbols = Symbols::new(alloc, objects, &mut names)?;
@@ -155,7 +155,7 @@ pub fn name_objects(
         symbols: &symbols.rows,
         names: &texts,
     };
-    match define_names(alloc, objects, memory, &rows) {
+    match define_names(alloc, objects, options, &rows) {
         Err(fault) => Err(fault),
         Ok(definitions) => Ok(Named {
             symbols,

@@ -1,7 +1,7 @@
 // The objects of a link.
 
 ghost use Rattle.std.specs.Prelude.{◌≡◌, ◌+◌, ◌≤◌, ◌<◌, List, ℕ, length, map, None, Some, IfOk, IfErr, IsSome, Option, [], slice_get, slice_index_or};
-ghost use Rattle.zc_base.specs.MemMap.{IsMap};
+ghost use Rattle.zc_base.specs.MemMap.{IsMap, data_limit};
 ghost use Rattle.psabi_sym.specs.Data.{data_address, data_end, data_file_end, is_code_at};
 ghost use Rattle.psabi_sym.specs.Resolve.{Definition, definition_target, home_target, name_target, resolved, undefined_target};
 ghost use Rattle.psabi_sym.specs.Invariants.Meanings.{meaning_row};
@@ -11,7 +11,8 @@ ghost use Rattle.elf32_read.specs.Header.{file_flags, section_count};
 ghost use Rattle.elf32_read.specs.Parts.{SymbolParts};
 ghost use Rattle.elf32_read.specs.Relas.{IsRelaOf};
 ghost use Rattle.psabi_sym.specs.Faults.{fault_from, gather_fault};
-ghost use Rattle.psabi_sym.specs.Inputs.{Inputs, parsed};
+ghost use Rattle.psabi_sym.specs.Fixed.{is_fixed_at};
+ghost use Rattle.psabi_sym.specs.Inputs.{Inputs, inputs_in, parsed};
 ghost use Rattle.psabi_sym.specs.LinkFault.{IsRefusal};
 ghost use Rattle.psabi_sym.specs.Indexed.{IndexedSection, IsSectionNumber, all_sections};
 ghost use Rattle.psabi_sym.specs.Invariants.Rows.{section_row};
@@ -36,17 +37,17 @@ use elf32_read::object::Object;
 use elf32_read::symbol::{ABS, LOCAL};
 use std::alloc::{AllocError, Global};
 use std::marker::Model;
+use zc_base::link_options::LinkOptions;
 use zc_base::mem_map::MemMap;
 
 /// The most objects of a link.
 pub const MOST_OBJECTS: usize = 256;
 
-/// The objects of a link, in their order, and the memory map. They have no fault of their own, and
-/// none between them.
+/// The objects of a link, in their order, and its options. They have no fault of their own, and none between them.
 #[derive(Drop)]
 pub struct Objects {
     objects: Vec<Loaded>,
-    map: MemMap,
+    options: LinkOptions,
     sections: SectionRows,
     symbols: Symbols,
     definitions: Definitions,
@@ -54,24 +55,28 @@ pub struct Objects {
 
 impl Model for Objects {
     ghost use Rattle.psabi_sym.specs.Invariants.Gathered.{IsGathered};
-    ghost use Rattle.psabi_sym.specs.Inputs.{Inputs};
+    ghost use Rattle.psabi_sym.specs.Inputs.{Inputs, inputs_in};
 
     ghost Value = { Inputs };
 
-    ghost view = { λ objects. record { files = objects.objects.items; map = objects.map } };
+    ghost view = { λ objects. inputs_in objects.options objects.objects.items };
 
     ghost invariant = { λ objects.
-        IsGathered (record { files = objects.objects.items; map = objects.map }) objects.sections objects.symbols objects.definitions };
+        IsGathered (inputs_in objects.options objects.objects.items) objects.sections objects.symbols objects.definitions };
 }
 
 impl Objects {
-    /// The objects with these bytes, which are copied, and a memory map, or why they aren't linked.
-    pub fn gather(alloc: Global, bytes: &[Vec<u8>], map: MemMap) -> Result<Objects, LinkFault>
-        requires { IsMap map }
+    /// The objects with these bytes, which are copied, as are the options, or why they aren't linked.
+    pub fn gather(
+        alloc: Global,
+        bytes: &[Vec<u8>],
+        options: &LinkOptions,
+    ) -> Result<Objects, LinkFault>
+        requires { IsMap options.now.map }
         ensures ok { IfOk result (λ objects.
-            (objects ≡ record { files = contents_of bytes.now; map = map }) × (gather_fault objects ≡ None)) }
+            (objects ≡ inputs_in options.now (contents_of bytes.now)) × (gather_fault objects ≡ None)) }
         ensures err { IfErr result (λ fault.
-            IsRefusal (gather_fault (record { files = contents_of bytes.now; map = map })) fault) }
+            IsRefusal (gather_fault (inputs_in options.now (contents_of bytes.now))) fault) }
     {
         if MOST_OBJECTS < bytes.len() {
             return Err(LinkFault::Object {
@@ -82,17 +87,21 @@ impl Objects {
         if let Some((index, fault)) = first_unreadable(bytes) {
             return Err(LinkFault::Object { index, fault });
         }
-        Objects::index(alloc, load(alloc, bytes)?, map)
+        Objects::index(alloc, load(alloc, bytes)?, options.try_clone(alloc)?)
     }
 
     // Objects that can be read, with their tables, or the first fault between them.
-    #[tactic(auto, unfolding(crate::specs::Faults::gather_fault, crate::specs::Faults::sum_fault))]
-    fn index(alloc: Global, objects: Vec<Loaded>, map: MemMap) -> Result<Objects, LinkFault>
+    #[tactic(auto, unfolding(crate::specs::Faults::gather_fault, crate::specs::Faults::room_fault, crate::specs::Faults::sum_fault))]
+    fn index(
+        alloc: Global,
+        objects: Vec<Loaded>,
+        options: LinkOptions,
+    ) -> Result<Objects, LinkFault>
         requires few { length objects.items ≤ 256 }
         requires readable { fault_from 0 objects.items ≡ None }
-        requires is_map { IsMap map }
-        ensures ok { IfOk result (λ gathered. gathered ≡ record { files = objects.items; map = map }) }
-        ensures err { IfErr result (IsRefusal (gather_fault (record { files = objects.items; map = map }))) }
+        requires is_map { IsMap options.map }
+        ensures ok { IfOk result (λ gathered. gathered ≡ inputs_in options objects.items) }
+        ensures err { IfErr result (IsRefusal (gather_fault (inputs_in options objects.items))) }
     {
         if let Some(index) = first_too_large(&objects) {
             return Err(LinkFault::Object {
@@ -100,16 +109,24 @@ impl Objects {
                 fault: Fault::TooLarge,
             });
         }
-        let sections = SectionRows::new(alloc, &objects)?;
-        match name_objects(alloc, &objects, &map, &sections.rows) {
+        let sections = SectionRows::new(alloc, &objects, options.fixed())?;
+        match name_objects(alloc, &objects, &options, &sections.rows) {
             Err(fault) => Err(fault),
-            Ok(named) => Ok(Objects {
-                objects,
-                map,
-                sections,
-                symbols: named.symbols,
-                definitions: named.definitions,
-            }),
+            Ok(named) => {
+                if options.map().stack_low < named.definitions.end {
+                    return Err(LinkFault::Object {
+                        index: 0,
+                        fault: Fault::TooLarge,
+                    });
+                }
+                Ok(Objects {
+                    objects,
+                    options,
+                    sections,
+                    symbols: named.symbols,
+                    definitions: named.definitions,
+                })
+            }
         }
     }
 
@@ -119,7 +136,7 @@ impl Objects {
     pub fn recall_invariant(&self)
         ensures faultless { gather_fault self.now ≡ None }
         ensures is_map { IsMap self.now.map }
-        ensures data { data_end (parsed self.now) ≤ self.now.map.data_low + 0x40_0000 }
+        ensures data { data_end (parsed self.now) ≤ self.now.map.data_low + data_limit self.now.map }
     {
         let _definitions = &self.definitions;
     }
@@ -174,7 +191,7 @@ impl Objects {
     pub fn section_row(&self, k: u32) -> SectionRow
         requires { k < length (all_sections (parsed self.now).objects) }
         ensures { (l : IndexedSection) × (slice_get (all_sections (parsed self.now).objects) k ≡ Some l)
-            × (result ≡ section_row l) }
+            × (result ≡ section_row self.now.fixed l) }
     {
         self.sections.rows[k as usize]
     }
@@ -195,7 +212,14 @@ impl Objects {
         ensures value { result ≡ self.now.map }
         ensures is_map { IsMap result }
     {
-        self.map
+        self.options.map()
+    }
+
+    /// The names of sections of code that stay as they were compiled.
+    pub fn fixed_names(&self) -> &[Vec<u8>]
+        ensures { contents_of result.now ≡ self.now.fixed }
+    {
+        self.options.fixed()
     }
 
     /// Where the data ends whose bytes a file holds.
@@ -208,7 +232,7 @@ impl Objects {
     /// Where all data ends in memory.
     pub fn data_end(&self) -> u32
         ensures value { result ≡ data_end (parsed self.now) }
-        ensures most { result ≤ self.now.map.data_low + 0x40_0000 }
+        ensures most { result ≤ self.now.map.data_low + data_limit self.now.map }
     {
         self.definitions.end
     }
@@ -222,6 +246,17 @@ impl Objects {
         match place(&self.sections.starts, object, u32::from(section)) {
             None => false,
             Some(k) => self.sections.rows[k].is_code(),
+        }
+    }
+
+    /// Whether a section is code that stays as it was compiled, by its object's index and its own. It takes constant
+    /// time.
+    pub fn is_fixed(&self, object: u16, section: u16) -> bool
+        ensures { result ≡ is_fixed_at (parsed self.now) object section }
+    {
+        match place(&self.sections.starts, object, u32::from(section)) {
+            None => false,
+            Some(k) => self.sections.rows[k].fixed,
         }
     }
 

@@ -1,12 +1,15 @@
 // What a link keeps of sections.
 
 ghost use Rattle.std.specs.Prelude.{◌≡◌, ◌++◌, ◌^◌, ◌<◌, map, codes, vec_len, ◌+◌, ◌≤◌, OnOk};
+ghost use Rattle.std.specs.List.{list_any};
 ghost use Rattle.elf32_read.specs.Header.{section_count};
 ghost use Rattle.elf32_read.specs.Parts.{object_parts, section_parts, SectionParts, is_kept_section};
 ghost use Rattle.elf32_read.specs.Lent.{IsSectionEntry};
 ghost use Rattle.psabi_sym.specs.Data.{class_of, is_of_kin, role_of};
+ghost use Rattle.psabi_sym.specs.Fixed.{is_fixed};
 ghost use Rattle.psabi_sym.specs.Indexed.{sections_in};
 ghost use Rattle.psabi_sym.specs.Invariants.Rows.{section_row};
+ghost use Rattle.psabi_sym.specs.Objects.{contents_of};
 
 use crate::data_class::DataClass;
 use crate::loaded::IndexedObject;
@@ -73,10 +76,49 @@ pub fn role_of(section: &SectionEntry) -> SectionRole
     SectionRole::InClass(class_of(section))
 }
 
-/// Adds the sections of an object to rows. It looks at few bytes of their names.
-pub fn add_sections(object: IndexedObject<'_>, rows: &mut Vec<SectionRow>) -> Result<(), AllocError>
+// The section's name is this one, or begins with it and a dot. It looks at one byte more than the given name has.
+fn is_of_kin(section: &SectionEntry, base: &[u8]) -> bool
+    ensures { (parts : SectionParts) → IsSectionEntry section.now parts → result ≡ is_of_kin base.now parts.name }
+{
+    if !section.name_starts_with(base) || base.contains(&0) {
+        return false;
+    }
+    match section.names.get(base.len()) {
+        None => false,
+        Some(next) => *next == 0 || *next == b'.',
+    }
+}
+
+// The section's name is one of these, or begins with one of them and a dot.
+fn has_name_of(section: &SectionEntry, names: &[Vec<u8>]) -> bool
+    ensures { (parts : SectionParts) → IsSectionEntry section.now parts
+        → result ≡ list_any (λ name. is_of_kin name parts.name) (contents_of names.now) }
+{
+    for name in names {
+        if is_of_kin(section, name) {
+            return true;
+        }
+    }
+    false
+}
+
+// Whether the names make a section fixed, by what it is to a link.
+fn is_fixed(section: &SectionEntry, role: SectionRole, names: &[Vec<u8>]) -> bool
+    ensures { (parts : SectionParts) → IsSectionEntry section.now parts → role ≡ role_of parts
+        → result ≡ is_fixed (contents_of names.now) parts }
+{
+    role.is_code() && has_name_of(section, names)
+}
+
+/// Adds the sections of an object to rows, of which the names make some fixed. It looks at few bytes of the sections'
+/// names.
+pub fn add_sections(
+    object: IndexedObject<'_>,
+    names: &[Vec<u8>],
+    rows: &mut Vec<SectionRow>,
+) -> Result<(), AllocError>
     ensures added { OnOk result (rows.new.items
-        ≡ rows.old.items ++ map section_row (sections_in (object.entry.index, object_parts object.entry.loaded.now))) }
+        ≡ rows.old.items ++ map (section_row (contents_of names.now)) (sections_in (object.entry.index, object_parts object.entry.loaded.now))) }
     ensures few { OnOk result (vec_len rows.new ≤ vec_len rows.old + 4096) }
 {
     let IndexedObject { index, loaded } = object;
@@ -90,6 +132,7 @@ pub fn add_sections(object: IndexedObject<'_>, rows: &mut Vec<SectionRow>) -> Re
             role,
             align: section.align,
             size: section.size,
+            fixed: is_fixed(&section, role, names),
         })?;
     }
     Ok(())

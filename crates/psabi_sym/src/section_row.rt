@@ -22,7 +22,8 @@ impl SectionRole {
     }
 }
 
-/// What a link keeps of a section: its object's index and its own, and what it is.
+/// What a link keeps of a section: its object's index and its own, what it is, and whether it is code that stays as it was
+/// compiled.
 #[derive(Clone, Copy)]
 pub struct SectionRow {
     pub object: u16,
@@ -30,6 +31,7 @@ pub struct SectionRow {
     pub role: SectionRole,
     pub align: u32,
     pub size: u32,
+    pub fixed: bool,
 }
 
 impl SectionRow {

@@ -5,6 +5,7 @@ ghost use Rattle.std.specs.List.{range_with_len};
 ghost use Rattle.elf32_read.specs.Parts.{object_parts};
 ghost use Rattle.psabi_sym.specs.Indexed.{all_sections};
 ghost use Rattle.psabi_sym.specs.Invariants.Rows.{section_row, section_starts};
+ghost use Rattle.psabi_sym.specs.Objects.{contents_of};
 
 use crate::loaded::{IndexedObject, Loaded};
 use crate::read_sections::add_sections;
@@ -20,11 +21,15 @@ pub struct SectionRows {
 }
 
 impl SectionRows {
-    /// The sections of these objects.
-    pub fn new(alloc: Global, objects: &[Loaded]) -> Result<SectionRows, AllocError>
+    /// The sections of these objects, of which the names make some fixed.
+    pub fn new(
+        alloc: Global,
+        objects: &[Loaded],
+        names: &[Vec<u8>],
+    ) -> Result<SectionRows, AllocError>
         requires { length objects.now ≤ 256 }
         ensures rows { IfOk result (λ sections. sections.rows.items
-            ≡ map section_row (all_sections (map object_parts objects.now))) }
+            ≡ map (section_row (contents_of names.now)) (all_sections (map object_parts objects.now))) }
         ensures starts { IfOk result (λ sections. sections.starts.items
             ≡ map (section_starts (map object_parts objects.now)) (range_with_len 0 (length objects.now + 1))) }
     {
@@ -36,7 +41,7 @@ impl SectionRows {
                 index: i as u16,
                 loaded,
             };
-            add_sections(object, &mut rows)?;
+            add_sections(object, names, &mut rows)?;
         }
         starts.push(rows.len() as u32)?;
         Ok(SectionRows { rows, starts })

@@ -6,6 +6,7 @@ use Rattle.elf32_read.specs.Parts.{ObjectParts, SymbolParts}
 use Rattle.psabi_sym.specs.Blocks.{aligned_up, end_from, room_of}
 use Rattle.psabi_sym.specs.Classes.{classes_before, same_class}
 use Rattle.psabi_sym.specs.Data.{has_class, role_of}
+use Rattle.psabi_sym.specs.Fixed.{is_fixed}
 use Rattle.psabi_sym.specs.Indexed.{IndexedSection, IndexedSymbol, all_sections, all_symbols}
 use Rattle.psabi_sym.specs.Names.{goes_by_name, same_name}
 use Rattle.psabi_sym.specs.declared.block.Block.{Block}
@@ -19,14 +20,15 @@ use Rattle.psabi_sym.specs.declared.symbol_row.SymbolRow.{SymbolRow}
 
 -- ---- sections
 
--- the row of a section
-abbrev pub section_row : IndexedSection → SectionRow
-section_row l = record {
+-- the row of a section; a section of code may be fixed by these names
+abbrev pub section_row : List (List ℕ) → IndexedSection → SectionRow
+section_row names l = record {
   object = l.object;
   index = l.index;
   role = role_of l.section;
   align = l.section.align;
   size = l.section.size;
+  fixed = is_fixed names l.section;
 }
 
 -- where the sections of an object begin among all

@@ -43,6 +43,6 @@ pub record HasNameNumber (inputs : ParsedInputs) (sections : List SectionRow) (n
 
 -- the rows of all sections and symbols, with where each object's begin
 pub record AreIndexed (inputs : ParsedInputs) (sections : List SectionRow) (section_places symbol_places : List ℕ) : Type 0 where
-  pub sections_are : sections ≡ map section_row (all_sections inputs.objects)
+  pub sections_are : sections ≡ map (section_row inputs.fixed) (all_sections inputs.objects)
   pub sections_begin : section_places ≡ map (section_starts inputs.objects) (range_with_len 0 (length inputs.objects + 1))
   pub symbols_begin : symbol_places ≡ map (symbol_starts inputs.objects) (range_with_len 0 (length inputs.objects + 1))

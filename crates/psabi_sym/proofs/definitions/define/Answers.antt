@@ -1,21 +1,25 @@
-use Rattle.std.proofs.Common.{◌≡◌, ◌+◌, ◌<◌, ◌^◌, ℕ, List, Bor, Option, length, get_or, map, ap, sym, ◌∙◌, arith, refl, inl, inr}
+use Rattle.std.proofs.Common.{◌≡◌, ◌+◌, ◌<◌, ◌^◌, ℕ, List, Bor, Option, length, get_or, map, ap, subst, sym, ◌∙◌, arith, refl, inl, inr}
 use Rattle.std.specs.List.{range_with_len, sum_by}
 use Rattle.std.proofs.lemmas.Bool.{cases_lt}
 use Rattle.std.proofs.lemmas.List.{get_or_past, length-map}
 use Rattle.std.proofs.lemmas.List.FromFn.{length-map-range_with_len}
+use Rattle.zc_base.specs.MemMap.{IsMap}
 use Rattle.elf32_read.specs.Parts.{object_parts}
 use Rattle.psabi_sym.specs.declared.data_class.DataClass.TheVariants.{SmallData, SmallZero, Zero, Common}
 use Rattle.psabi_sym.specs.declared.meaning.LinkerNumbers.{LinkerNumbers}
+use Rattle.psabi_sym.specs.declared.meaning.Meaning.{Meaning}
 use Rattle.psabi_sym.specs.declared.meaning.Meaning.TheVariants.{Nothing}
+use Rattle.psabi_sym.specs.declared.section_row.SectionRow.{SectionRow}
 use Rattle.psabi_sym.specs.declared.symbol_row.SymbolRow.{SymbolRow}
 use Rattle.psabi_sym.specs.Blocks.{aligned_up, end_from, placed_from}
 use Rattle.psabi_sym.specs.Data.{class_end, class_start}
-use Rattle.psabi_sym.specs.Inputs.{ParsedInputs}
+use Rattle.psabi_sym.specs.Inputs.{ParsedInputs, read_from}
 use Rattle.psabi_sym.specs.Indexed.{all_symbols}
 use Rattle.psabi_sym.specs.Invariants.Meanings.{meaning_at, meaning_row, row_meaning}
 use Rattle.psabi_sym.specs.Resolve.{linker_numbers, name_definition}
 use Rattle.psabi_sym.specs.Invariants.Rows.{first_row, name_number, placed_rows, row_address_of, row_blocks, row_common_room, row_data_room, row_defines, row_is_common, row_room, row_start, symbol_row}
-use Rattle.psabi_sym.specs.Start.{start_name}
+use Rattle.psabi_sym.specs.Invariants.Tables.{AreDefined}
+use Rattle.psabi_sym.specs.Start.{IsStart, start_name}
 use Rattle.psabi_sym.proofs.DefinedLaws.{class_end_common, common_start_is, file_end_is, meaning_at_is, rooms_fit, small_data_is, small_zero_is}
 use Rattle.psabi_sym.proofs.NumberLaws.{common_row_goes, definition_row_goes}
 use Rattle.psabi_sym.proofs.NumberedLaws.{named_rows}
@@ -29,21 +33,20 @@ names_count : (names : List (Bor (List ℕ))) → length (map (λ name. name.now
 names_count names = length-map names (λ (name : Bor (List ℕ)). name.now)
 
 -- addresses have room for all data, and for the numbers of the linker's names
-room : (c : In_ok-weak) → c.args.memory.now.data_low + 0x1000 + sum_by row_data_room c.args.kept.now.sections.now + sum_by row_common_room c.args.kept.now.symbols.now < 2 ^ 32
+room : (c : In_ok-weak) → c.map-memory.result.data_low + 0x1000 + sum_by row_data_room c.args.kept.now.sections.now + sum_by row_common_room c.args.kept.now.symbols.now < 2 ^ 32
 room c =
     omega (
       arith,
-      rooms_fit c.args.objects.now (map (λ (name : Bor (List ℕ)). name.now) c.args.kept.now.names.now) c.requires.sums,
+      rooms_fit c.args.objects.now c.args.options.now.fixed (map (λ (name : Bor (List ℕ)). name.now) c.args.kept.now.names.now) c.requires.sums,
       ap (sum_by row_data_room) c.requires.sections,
       ap (sum_by row_common_room) c.requires.symbols.rows_are,
-      c.requires.is_map.data_room,
-      c.requires.is_map.top,
+      (subst IsMap (sym c.map-memory.ensures) c.requires.is_map).room,
     )
 
 -- what stands in the tables once all of them are made
 module _ (c : After-start_meaning-start) where
   abbrev inputs : ParsedInputs
-  inputs = record { objects = map object_parts c.args.objects.now; map = c.args.memory.now }
+  inputs = record { objects = map object_parts c.args.objects.now; map = c.map-memory.result; fixed = c.args.options.now.fixed }
 
   abbrev names : List (List ℕ)
   names = map (λ (name : Bor (List ℕ)). name.now) c.args.kept.now.names.now
@@ -52,19 +55,19 @@ module _ (c : After-start_meaning-start) where
   rows = map (symbol_row names) (all_symbols inputs.objects)
 
   small_data : c.in_ok-layout.layout.ends.small_data ≡ class_start inputs SmallData
-  small_data = c.in_ok-layout.ensures.ends.small_data ∙ ap (λ r. row_start r c.args.memory.now.data_low SmallData) c.requires.sections ∙ small_data_is inputs
+  small_data = c.in_ok-layout.ensures.ends.small_data ∙ ap (λ r. row_start r c.map-memory.result.data_low SmallData) c.requires.sections ∙ small_data_is inputs
 
   small_zero : c.in_ok-layout.layout.ends.small_zero ≡ class_start inputs SmallZero
-  small_zero = c.in_ok-layout.ensures.ends.small_zero ∙ ap (λ r. row_start r c.args.memory.now.data_low SmallZero) c.requires.sections ∙ small_zero_is inputs
+  small_zero = c.in_ok-layout.ensures.ends.small_zero ∙ ap (λ r. row_start r c.map-memory.result.data_low SmallZero) c.requires.sections ∙ small_zero_is inputs
 
   file_end : c.in_ok-layout.layout.ends.file_end ≡ class_end inputs SmallData
   file_end =
-      c.in_ok-layout.ensures.ends.file_end ∙ ap (λ r. end_from (row_start r c.args.memory.now.data_low SmallData) (row_blocks SmallData r)) c.requires.sections
+      c.in_ok-layout.ensures.ends.file_end ∙ ap (λ r. end_from (row_start r c.map-memory.result.data_low SmallData) (row_blocks SmallData r)) c.requires.sections
       ∙ file_end_is inputs
 
   commons_start : aligned_up 16 c.in_ok-layout.layout.ends.end ≡ class_start inputs Common
   commons_start =
-      ap (aligned_up 16) (c.in_ok-layout.ensures.ends.end ∙ ap (λ r. end_from (row_start r c.args.memory.now.data_low Zero) (row_blocks Zero r)) c.requires.sections)
+      ap (aligned_up 16) (c.in_ok-layout.ensures.ends.end ∙ ap (λ r. end_from (row_start r c.map-memory.result.data_low Zero) (row_blocks Zero r)) c.requires.sections)
       ∙ common_start_is inputs
 
   end : c.in_ok-commons.commons.end ≡ class_end inputs Common
@@ -79,11 +82,11 @@ module _ (c : After-start_meaning-start) where
         global_pointer = c.in_ok-layout.layout.ends.small_data + 2048;
         bss_start = c.in_ok-layout.layout.ends.small_zero;
         end = c.in_ok-commons.commons.end;
-        stack_top = c.args.memory.now.stack_high;
+        stack_top = c.map-memory.result.stack_high;
       }
 
   numbers_are : numbers ≡ linker_numbers inputs
-  numbers_are = λ j. record { global_pointer = small_data j + 2048; bss_start = small_zero j; end = end j; stack_top = c.args.memory.now.stack_high }
+  numbers_are = λ j. record { global_pointer = small_data j + 2048; bss_start = small_zero j; end = end j; stack_top = c.map-memory.result.stack_high }
 
   strong_are : c.args.kept.now.strong.now ≡ map (first_row 1 rows) (range_with_len 0 (length names))
   strong_are = c.requires.strong ∙ (λ j. map (first_row 1 (c.requires.symbols.rows_are j)) (range_with_len 0 (sym (names_count c.args.kept.now.names.now) j)))
@@ -163,9 +166,18 @@ start_meaning-start-requires c =
     ap length c.deref-2.ensures.value
     ∙ table_count _ (c.meanings-meanings.ensures (map (first_row 2 c.args.kept.now.symbols.now) (range_with_len 0 (length c.args.kept.now.names.now))) c.in_ok-weak.ensures)
 
+-- the same definitions, of inputs that are the same
+moved : {sections : List SectionRow} {addresses : List ℕ} {symbols : List SymbolRow} {meanings : List Meaning} {file_end end : ℕ} {start : Meaning} {here there : ParsedInputs} → here ≡ there
+    → AreDefined here sections addresses symbols meanings file_end end × IsStart here start → AreDefined there sections addresses symbols meanings file_end end × IsStart there start
+moved {sections} {addresses} {symbols} {meanings} {file_end} {end} {start} same =
+    subst (λ (v : ParsedInputs). AreDefined v sections addresses symbols meanings file_end end × IsStart v start) same
+
 pub returns : goal.returns
 returns c =
-    let a = (goal.at.returns c).After-start_meaning-start in (
+    let a = (goal.at.returns c).After-start_meaning-start in
+    let same : inputs a ≡ read_from c.args.objects.now c.args.options.now =
+    λ j. record { objects = map object_parts c.args.objects.now; map = c.map-memory.ensures j; fixed = c.args.options.now.fixed } in
+    moved same (
       record {
         placed = c.in_ok-layout.ensures.addresses;
         count = c.in_ok-layout.ensures.count;

@@ -1,4 +1,4 @@
-use Rattle.std.proofs.Common.{◌≡◌, ◌+◌, ℕ, slice_get, slice_index, get_or, cond, sym, ap, ◌∙◌, arith, get_or-set_same, get_or-set_other, ◌≢◌, inl, inr, set}
+use Rattle.std.proofs.Common.{◌≡◌, ◌+◌, ℕ, slice_get, slice_index, get_or, cond, sym, ap, ◌∙◌, arith, get_or-set_same, get_or-set_other, ◌≢◌, false, inl, inr, set}
 use Rattle.std.proofs.lemmas.Bool.{cases_eq}
 use Rattle.std.proofs.lemmas.Option.{get_or_from_slice_get, slice_get_within}
 use Rattle.psabi_sym.specs.Blocks.{aligned_up}
@@ -12,7 +12,7 @@ use Rattle.psabi_sym.proofs.layout.place_class.Goals.{then-is_of, else-is_of}
 
 -- what a read past the end would give
 abbrev row0 : SectionRow
-row0 = record { object = 0; index = 0; role = Code; align = 0; size = 0 }
+row0 = record { object = 0; index = 0; role = Code; align = 0; size = 0; fixed = false }
 
 pub aligned_up-at-requires-then-is_of : goal.aligned_up-at-requires-then-is_of
 aligned_up-at-requires-then-is_of c =

@@ -6,6 +6,7 @@ use Rattle.std.specs.Option.{option_or}
 use Rattle.elf32_read.specs.declared.fault.Fault.{Fault}
 use Rattle.elf32_read.specs.declared.fault.Fault.TheVariants.{TooLarge}
 use Rattle.psabi_sym.specs.Faults.{fault_from}
+use Rattle.psabi_sym.specs.Inputs.{inputs_in}
 use Rattle.psabi_sym.specs.Objects.{contents_of}
 use Rattle.psabi_sym.proofs.Gathered.{unreadable}
 use Rattle.psabi_sym.proofs.LongLaws.{fault_from_append, long_files, passes, reading_names_none, sum_fault_append, sums_third}
@@ -26,9 +27,9 @@ pub returns-in-Some : goal.returns-in-Some
 returns-in-Some c =
     let kept = contents_of c.args.kept.now in
     let count : length kept ≡ length c.args.kept.now = length-map c.args.kept.now (λ file. file.items) in
-    λ others map most later.
+    λ others options most later.
     let found = reading kept others _ count c.first_unreadable.ensures later (ap (λ o. option_or o c.args.later) c.in-Some.is) in (
-      unreadable (record { files = kept ++ others; map = map }) c.in-Some.index c.in-Some.fault (few kept others _ count most) found,
+      unreadable (inputs_in options (kept ++ others)) c.in-Some.index c.in-Some.fault (few kept others _ count most) found,
       reading_names_none 0 (kept ++ others) c.in-Some.index c.in-Some.fault found,
     )
 
@@ -36,9 +37,9 @@ pub returns-in-Some-later : goal.returns-in-Some-later
 returns-in-Some-later c =
     let kept = contents_of c.args.kept.now in
     let count : length kept ≡ length c.args.kept.now = length-map c.args.kept.now (λ file. file.items) in
-    λ others map most later.
+    λ others options most later.
     let found = reading kept others _ count c.first_unreadable.ensures later (ap (λ o. option_or o c.args.later) c.in_default.is ∙ c.in-Some-later.is) in (
-      unreadable (record { files = kept ++ others; map = map }) c.in-Some-later.index c.in-Some-later.fault (few kept others _ count most) found,
+      unreadable (inputs_in options (kept ++ others)) c.in-Some-later.index c.in-Some-later.fault (few kept others _ count most) found,
       reading_names_none 0 (kept ++ others) c.in-Some-later.index c.in-Some-later.fault found,
     )
 
@@ -54,8 +55,8 @@ returns-in-Some-first_too_large c =
     let same = c.deref.ensures.value ∙ c.in-Ok.ensures in
     let index = c.in-Some-first_too_large.index in
     let found = subst (λ f. find (passes f) (range_with_len 0 (length f)) ≡ Some index) same (sym c.first_too_large.ensures ∙ c.in-Some-first_too_large.is) in
-    λ others map most later. (
-      sums_third (record { files = kept ++ others; map = map }) index TooLarge (few kept others _ count most)
+    λ others options most later. (
+      sums_third (inputs_in options (kept ++ others)) index TooLarge (few kept others _ count most)
           (reading kept others _ count c.first_unreadable.ensures later (ap (λ o. option_or o c.args.later) c.in_default.is ∙ c.in_default-later.is))
           (sum_fault_append kept others index found),
       refl,

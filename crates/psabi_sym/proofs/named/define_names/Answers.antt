@@ -13,4 +13,4 @@ strong_definitions-requires c =
 
 pub undefined_symbol-requires : goal.undefined_symbol-requires
 undefined_symbol-requires c =
-    (c.args.memory.now, subst (AreNamed (read_from c.args.objects.now c.args.memory.now) c.args.rows.now.symbols.now) (sym c.deref-2.ensures.value) c.in_ok-definitions.ensures.0.named)
+    (c.args.options.now, subst (AreNamed (read_from c.args.objects.now c.args.options.now) c.args.rows.now.symbols.now) (sym c.deref-2.ensures.value) c.in_ok-definitions.ensures.0.named)

@@ -44,4 +44,4 @@ first_undefined-requires-clause-named c =
     named_rows (λ r. eqb r.bind 1) global_row_goes own.numbered refl (sym own.count)
 
 pub returns : goal.returns
-returns c = λ memory named. undefined named (c.deref.ensures.value ∙ c.in_ok-used.ensures) c.first_undefined.ensures
+returns c = λ options named. undefined named (c.deref.ensures.value ∙ c.in_ok-used.ensures) c.first_undefined.ensures

@@ -3,7 +3,7 @@ use Rattle.std.specs.Option.{option_and_then}
 use Rattle.std.proofs.lemmas.List.{get_or_read}
 use Rattle.elf32_read.specs.Parts.{SectionParts}
 use Rattle.psabi_sym.specs.Data.{data_address, role_address, role_of}
-use Rattle.psabi_sym.specs.Inputs.{Inputs, parsed}
+use Rattle.psabi_sym.specs.Inputs.{Inputs, inputs_in, parsed}
 use Rattle.psabi_sym.specs.Indexed.{section_at}
 use Rattle.psabi_sym.proofs.AccessLaws.{address_inside, data_address_is, no_section_there, section_there, some_none}
 use Rattle.psabi_sym.proofs.FoundLaws.{IsFoundSection}
@@ -18,7 +18,7 @@ by_section {here} o i section same is =
     ap (λ v. data_address (parsed v) o i) (sym same) ∙ ap (option_and_then (λ (s : SectionParts). role_address (parsed here) o i s (role_of s))) is
 
 abbrev here : In-Some → Inputs
-here c = record { files = c.self.inside.objects.items; map = c.self.inside.map }
+here c = inputs_in c.self.inside.options c.self.inside.objects.items
 
 found : (c : In-Some) → IsFoundSection (parsed (here c)).objects c.args.object c.args.section c.in-Some.k
 found c = section_there c.self.invariant c.deref.result.now c.args.object c.args.section c.from.result c.in-Some.k c.place.result c.deref.ensures.value c.from.ensures c.place.ensures c.in-Some.is

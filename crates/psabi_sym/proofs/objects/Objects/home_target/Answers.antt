@@ -3,7 +3,7 @@ use Rattle.std.proofs.lemmas.Int.{to_z-of_z}
 use Rattle.std.proofs.lemmas.List.{get_or_read}
 use Rattle.psabi_sym.specs.declared.section_row.SectionRole.{SectionRole}
 use Rattle.psabi_sym.specs.Data.{address_in, role_of}
-use Rattle.psabi_sym.specs.Inputs.{Inputs, parsed}
+use Rattle.psabi_sym.specs.Inputs.{Inputs, inputs_in, parsed}
 use Rattle.psabi_sym.specs.Resolve.{code_target, number_target, role_target}
 use Rattle.psabi_sym.proofs.AccessLaws.{address_inside, address_is, home_section, home_target_of, home_value_target, no_section_there, number_wrapped, row_inside, row_is, section_there}
 use Rattle.psabi_sym.proofs.FoundLaws.{IsFoundSection}
@@ -11,7 +11,7 @@ use Rattle.psabi_sym.proofs.objects.Objects.home_target.Goals as goal
 use Rattle.psabi_sym.proofs.objects.Objects.home_target.Goals.{In-Some}
 
 abbrev here : In-Some → Inputs
-here c = record { files = c.self.inside.objects.items; map = c.self.inside.map }
+here c = inputs_in c.self.inside.options c.self.inside.objects.items
 
 -- the section of the symbol
 found : (c : In-Some) → IsFoundSection (parsed (here c)).objects c.args.row.now.object c.args.row.now.home c.in-Some.k

@@ -2,7 +2,7 @@ use Rattle.std.proofs.Common.{ap, sym, ◌∙◌, arith, false}
 use Rattle.std.specs.Option.{option_map_or}
 use Rattle.elf32_read.specs.Parts.{is_code_section}
 use Rattle.psabi_sym.specs.Data.{is_code_at, is_code_role}
-use Rattle.psabi_sym.specs.Inputs.{Inputs, parsed}
+use Rattle.psabi_sym.specs.Inputs.{Inputs, inputs_in, parsed}
 use Rattle.psabi_sym.proofs.AccessLaws.{no_section_there, row_inside, row_is, section_there}
 use Rattle.psabi_sym.proofs.FoundLaws.{IsFoundSection}
 use Rattle.psabi_sym.proofs.PlaceLaws.{code_is}
@@ -10,7 +10,7 @@ use Rattle.psabi_sym.proofs.objects.Objects.is_code.Goals as goal
 use Rattle.psabi_sym.proofs.objects.Objects.is_code.Goals.{In-Some}
 
 abbrev here : In-Some → Inputs
-here c = record { files = c.self.inside.objects.items; map = c.self.inside.map }
+here c = inputs_in c.self.inside.options c.self.inside.objects.items
 
 found : (c : In-Some) → IsFoundSection (parsed (here c)).objects c.args.object c.args.section c.in-Some.k
 found c = section_there c.self.invariant c.deref.result.now c.args.object c.args.section c.from.result c.in-Some.k c.place.result c.deref.ensures.value c.from.ensures c.place.ensures c.in-Some.is

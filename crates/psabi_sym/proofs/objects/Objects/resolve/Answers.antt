@@ -7,7 +7,7 @@ use Rattle.std.proofs.lemmas.List.{get_or_read}
 use Rattle.elf32_read.specs.Parts.{SymbolParts}
 use Rattle.psabi_sym.specs.declared.meaning.Meaning.TheVariants.{Nothing}
 use Rattle.psabi_sym.specs.declared.target.Target.{Target}
-use Rattle.psabi_sym.specs.Inputs.{Inputs, ParsedInputs, parsed}
+use Rattle.psabi_sym.specs.Inputs.{Inputs, inputs_in, ParsedInputs, parsed}
 use Rattle.psabi_sym.specs.Indexed.{symbol_at}
 use Rattle.psabi_sym.specs.Names.{goes_by_name, is_common}
 use Rattle.psabi_sym.specs.Resolve.{definition_target, home_target, name_definition, number_target, resolved, symbol_target, undefined_target}
@@ -24,7 +24,7 @@ abbrev named_target : ParsedInputs → SymbolParts → ℤ → Target
 named_target inputs s addend = option_map_or (definition_target inputs addend) (name_definition inputs s.name) (undefined_target s addend)
 
 abbrev here : In-Some → Inputs
-here c = record { files = c.self.inside.objects.items; map = c.self.inside.map }
+here c = inputs_in c.self.inside.options c.self.inside.objects.items
 
 -- the symbol
 found : (c : In-Some) → IsFoundSymbol (parsed (here c)).objects c.args.object (c.args.symbol - 1) c.in-Some.k

@@ -10,8 +10,8 @@ use Rattle.psabi_sym.proofs.AccessLaws.{IsNumberedRow, numbered_row}
 use Rattle.psabi_sym.proofs.objects.Objects.section.Goals as goal
 
 -- the file that was read is that of the section
-file_is : {files : List (List ℕ)} {k : ℕ} {row : SectionRow} (there : IsNumberedRow files k row) (file : List ℕ) → file ≡ get_or files row.object file → file ≡ there.of.file
-file_is {files} there file is =
+file_is : {names files : List (List ℕ)} {k : ℕ} {row : SectionRow} (there : IsNumberedRow names files k row) (file : List ℕ) → file ≡ get_or files row.object file → file ≡ there.of.file
+file_is {files = files} there file is =
     is ∙ ap (λ r. get_or files r.object file) there.row_is ∙ get_or_from_slice_get files there.listed.object there.of.file file there.of.at
 
 pub index-requires : goal.index-requires

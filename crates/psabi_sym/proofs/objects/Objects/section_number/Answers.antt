@@ -1,5 +1,5 @@
 use Rattle.std.proofs.Common.{ap, ◌∙◌, arith, subst, None, Some, slice_get}
-use Rattle.psabi_sym.specs.Inputs.{Inputs, parsed}
+use Rattle.psabi_sym.specs.Inputs.{Inputs, inputs_in, parsed}
 use Rattle.psabi_sym.specs.Indexed.{IsSectionNumber, all_sections}
 use Rattle.psabi_sym.proofs.AccessLaws.{no_section_there, section_there}
 use Rattle.psabi_sym.proofs.FoundLaws.{IsFoundSection}
@@ -9,7 +9,7 @@ use Rattle.psabi_sym.proofs.objects.Objects.section_number.Goals as goal
 use Rattle.psabi_sym.proofs.objects.Objects.section_number.Goals.{In-Some}
 
 abbrev here : In-Some → Inputs
-here c = record { files = c.self.inside.objects.items; map = c.self.inside.map }
+here c = inputs_in c.self.inside.options c.self.inside.objects.items
 
 found : (c : In-Some) → IsFoundSection (parsed (here c)).objects c.args.object c.args.section c.in-Some.k
 found c = section_there c.self.invariant c.deref.result.now c.args.object c.args.section c.from.result c.in-Some.k c.place.result c.deref.ensures.value c.from.ensures c.place.ensures c.in-Some.is
