@@ -1,5 +1,6 @@
 -- The first place of a branch that doesn't reach: a test of each place of code, section after section.
 use Rattle.std.proofs.Common.{◌≡◌, ◌≢◌, ℕ, ◌+◌, ◌≤◌, List, [], ◌∷◌, ◌++◌, length, drop, map, not, take, Bool, true, false, cond, eqb, Option, IfSome, Some, None, slice_get, refl, sym, ap, ◌∙◌, arith}
+use Rattle.std.specs.Prelude.{◌||◌}
 use Rattle.std.specs.List.{find, flat_map}
 use Rattle.std.specs.Option.{option_map, option_map_or, option_or}
 use Rattle.std.proofs.lemmas.Bool.{ne_eqb}
@@ -11,9 +12,13 @@ use Rattle.zc_base.specs.declared.place.Place.{Place}
 use Rattle.elf32_read.specs.Parts.{SectionParts, is_code_section}
 use Rattle.psabi_reloc.specs.Reaches.{branch_reach, short_branch_reach}
 use Rattle.psabi_sym.specs.Faults.{gather_fault}
+use Rattle.psabi_sym.specs.Fixed.{is_fixed}
 use Rattle.psabi_sym.specs.Inputs.{Inputs, ParsedInputs, parsed}
 use Rattle.psabi_sym.specs.Indexed.{IndexedSection, section_at}
-use Rattle.block_cut.specs.Faults.{distance_between, is_far, is_out_of_reach, plain_distance, reaches, way_place}
+use Rattle.psabi_sym.specs.Invariants.Rows.{section_row}
+use Rattle.psabi_sym.specs.declared.section_row.SectionRow.{SectionRow}
+use Rattle.block_cut.specs.Faults.{distance_between, is_far, is_out_of_reach, leaves_fixed, plain_distance, reaches, way_place}
+use Rattle.block_cut.specs.Invariants.Home.{IsRowOf}
 use Rattle.block_cut.specs.Items.{item_at, item_in, place_of, places_of, size_at, starts_in, targets_in}
 use Rattle.block_cut.specs.Places.{code_place, code_places}
 use Rattle.block_cut.specs.PlainLayout.{plain_address}
@@ -29,18 +34,22 @@ use Rattle.psabi_sym.proofs.Tables.{or_none}
 
 -- ---- a place
 
+-- whether an item that leads to a place can't reach it, or may not leave its section
+abbrev misses : ParsedInputs → Place → ℕ → Item → Place → Bool
+misses inputs q size i to = is_far inputs q size i to || leaves_fixed inputs q to
+
 -- whether it is out of reach, by its item
 abbrev out_by : ParsedInputs → Place → Option Item → Bool
-out_by inputs q o = option_map_or (λ i. option_map_or (is_far inputs q (size_at inputs.objects q) i) (way_place (size_at inputs.objects q) i) false) o false
+out_by inputs q o = option_map_or (λ i. option_map_or (misses inputs q (size_at inputs.objects q) i) (way_place (size_at inputs.objects q) i) false) o false
 
 -- what leads nowhere that it has to reach isn't
 pub no_way : (inputs : ParsedInputs) (q : Place) (i : Item) → item_at inputs q ≡ Some i → way_place (size_at inputs.objects q) i ≡ None → is_out_of_reach inputs q ≡ false
-no_way inputs q i at none = ap (out_by inputs q) at ∙ ap (λ o. option_map_or (is_far inputs q (size_at inputs.objects q) i) o false) none
+no_way inputs q i at none = ap (out_by inputs q) at ∙ ap (λ o. option_map_or (misses inputs q (size_at inputs.objects q) i) o false) none
 
--- if the item leads to another place, it is out of range by the two addresses
+-- if the item leads to another place, it is out of range by the two addresses, or by the two sections
 pub way_there : (inputs : ParsedInputs) (q to : Place) (i : Item) → item_at inputs q ≡ Some i → way_place (size_at inputs.objects q) i ≡ Some to
-    → is_out_of_reach inputs q ≡ option_map_or (λ d. not (reaches (size_at inputs.objects q) i d)) (distance_between (plain_address inputs q) (plain_address inputs to)) false
-way_there inputs q to i at leads = ap (out_by inputs q) at ∙ ap (λ o. option_map_or (is_far inputs q (size_at inputs.objects q) i) o false) leads
+    → is_out_of_reach inputs q ≡ (option_map_or (λ d. not (reaches (size_at inputs.objects q) i d)) (distance_between (plain_address inputs q) (plain_address inputs to)) false || leaves_fixed inputs q to)
+way_there inputs q to i at leads = ap (out_by inputs q) at ∙ ap (λ o. option_map_or (misses inputs q (size_at inputs.objects q) i) o false) leads
 
 -- the branch that an item is leads here
 abbrev pub branch_place : Item → Option Place
@@ -51,9 +60,9 @@ branch_place item = None
 abbrev pub is_far_branch : ParsedInputs → Place → Place → Bool
 is_far_branch inputs q to = option_map_or (λ d. not (branch_reach d)) (plain_distance inputs q to) false
 
--- what has another size than 2 is out of reach if it is such a branch
+-- what has another size than 2 is out of reach if it is such a branch, or one that may not leave its section
 pub out_plain : (inputs : ParsedInputs) (q : Place) (i : Item) → item_at inputs q ≡ Some i → size_at inputs.objects q ≢ 2
-    → is_out_of_reach inputs q ≡ option_map_or (is_far_branch inputs q) (branch_place i) false
+    → is_out_of_reach inputs q ≡ option_map_or (λ to. is_far_branch inputs q to || leaves_fixed inputs q to) (branch_place i) false
 out_plain inputs q i at long = ap (out_by inputs q) at ∙ by i
   where
     size : ℕ
@@ -62,14 +71,14 @@ out_plain inputs q i at long = ap (out_by inputs q) at ∙ by i
     other : eqb size 2 ≡ false
     other = ne_eqb size 2 long
 
-    by : (i : Item) → option_map_or (is_far inputs q size i) (way_place size i) false ≡ option_map_or (is_far_branch inputs q) (branch_place i) false
+    by : (i : Item) → option_map_or (misses inputs q size i) (way_place size i) false ≡ option_map_or (λ to. is_far_branch inputs q to || leaves_fixed inputs q to) (branch_place i) false
     by (Op i) = refl
     by (Hi i t) = refl
     by (Lo i t) = refl
     by (PcHi i t) = refl
     by (PcLo i from) = refl
-    by (Branch op first second to) = ap (λ b. option_map_or (λ d. not (cond b (short_branch_reach d) (branch_reach d))) (plain_distance inputs q to) false) other
-    by (Jump rd to) = ap (λ b. option_map_or (is_far inputs q size (Jump rd to)) (cond b (Some to) None) false) other
+    by (Branch op first second to) = ap (λ b. option_map_or (λ d. not (cond b (short_branch_reach d) (branch_reach d))) (plain_distance inputs q to) false || leaves_fixed inputs q to) other
+    by (Jump rd to) = ap (λ b. option_map_or (misses inputs q size (Jump rd to)) (cond b (Some to) None) false) other
     by (Call rd temp to) = refl
     by (Align bytes) = refl
     by (Word t) = refl
@@ -141,6 +150,15 @@ place_own inputs l k p at = by (is_code_section l.section) at
     by : (b : Bool) → slice_get (cond b (map (code_place inputs l) (targets_in l.section)) []) k ≡ Some p → p ≡ code_place inputs l p.offset
     by true at = named (slice_get (targets_in l.section) k) (sym (slice_get-map (code_place inputs l) (targets_in l.section) k) ∙ at)
     by false at = absurd cc
+
+-- the row of a section is that of each of its places
+pub row_of : (inputs : ParsedInputs) (l : IndexedSection) (n : ℕ) (row : SectionRow) → section_at inputs.objects l.object l.index ≡ Some l.section → row ≡ section_row inputs.fixed l
+    → IsRowOf inputs (place_of l n) row
+row_of inputs l n row found is = record {
+  object = ap (λ r. r.object) is;
+  index = ap (λ r. r.index) is;
+  fixed = ap (λ r. r.fixed) is ∙ ap (λ o. option_map_or (is_fixed inputs.fixed) o false) (sym found);
+}
 
 -- ---- lists of elements
 

@@ -8,6 +8,7 @@ use Rattle.elf32_read.specs.declared.fault.Fault.{Fault}
 use Rattle.elf32_read.specs.declared.fault.Fault.TheVariants.{RelocKind, RelocPlace, LoPair, BadTarget, Range, NoEntry}
 use Rattle.elf32_read.specs.declared.reloc.Reloc.{Reloc}
 use Rattle.psabi_sym.specs.Faults.{first_some, gather_fault}
+use Rattle.psabi_sym.specs.Fixed.{is_fixed_at}
 use Rattle.psabi_sym.specs.Inputs.{Inputs, ParsedInputs, parsed}
 use Rattle.psabi_sym.specs.Indexed.{IndexedSection, all_sections}
 use Rattle.psabi_sym.specs.Resolve.{resolved}
@@ -113,11 +114,15 @@ reaches size item distance = true
 abbrev pub is_far : ParsedInputs → Place → ℕ → Item → Place → Bool
 is_far inputs q size i to = option_map_or (λ d. not (reaches size i d)) (plain_distance inputs q to) false
 
--- the branch or jump at a place is out of range in the plain layout
+-- a place lies in another section than one in a section of code that stays as it was compiled
+abbrev pub leaves_fixed : ParsedInputs → Place → Place → Bool
+leaves_fixed inputs q to = is_fixed_at inputs q.object q.section && not (q.object == to.object && q.section == to.section)
+
+-- the branch or jump at a place is out of range in the plain layout, or leads out of a section that stays as it was compiled
 abbrev pub is_out_of_reach : ParsedInputs → Place → Bool
 is_out_of_reach inputs q =
     let size = size_at inputs.objects q in
-    option_map_or (λ i. option_map_or (is_far inputs q size i) (way_place size i) false) (item_at inputs q) false
+    option_map_or (λ i. option_map_or (λ to. is_far inputs q size i to || leaves_fixed inputs q to) (way_place size i) false) (item_at inputs q) false
 
 -- the fault of the first branch or jump that is out of range
 unfoldable pub range_fault : ParsedInputs → Option (ℕ × Fault)

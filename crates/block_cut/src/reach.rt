@@ -1,14 +1,16 @@
-// Branches and jumps that are out of range in the plain layout.
+// Branches and jumps that are out of range in the plain layout, or that leave a section that stays as it was compiled.
 
 ghost use Rattle.std.specs.Prelude.{◌≡◌, ◌≤◌, ◌+◌, ℕ, false, not, IfSome, None, Some};
 ghost use Rattle.std.specs.List.{find};
 ghost use Rattle.std.specs.Option.{option_map, option_map_or};
 ghost use Rattle.psabi_sym.specs.Faults.{gather_fault};
-ghost use Rattle.psabi_sym.specs.Inputs.{parsed};
+ghost use Rattle.psabi_sym.specs.Inputs.{ParsedInputs, parsed};
 ghost use Rattle.psabi_sym.specs.Indexed.{IndexedSection, section_at};
 ghost use Rattle.zc_base.specs.declared.place.Place.{Place};
+ghost use Rattle.psabi_sym.specs.Invariants.Rows.{section_row};
 ghost use Rattle.block_cut.specs.Invariants.CodeTables.{AreCodeTables};
-ghost use Rattle.block_cut.specs.Faults.{distance_between, is_out_of_reach, reaches, way_place};
+ghost use Rattle.block_cut.specs.Invariants.Home.{IsRowOf};
+ghost use Rattle.block_cut.specs.Faults.{distance_between, is_out_of_reach, leaves_fixed, reaches, way_place};
 ghost use Rattle.block_cut.specs.Items.{all_places, place_of, places_of};
 ghost use Rattle.block_cut.specs.Places.{code_places, place_there};
 
@@ -17,6 +19,7 @@ use crate::code_tables::CodeTables;
 use crate::item::Item;
 use psabi_reloc::reaches::{branch_reaches, jal_reaches, short_branch_reaches, short_jump_reaches};
 use psabi_sym::objects::Objects;
+use psabi_sym::section_row::SectionRow;
 use zc_base::place::Place;
 
 // Where an item of `size` bytes leads, if that may be out of its range: a branch, or a jump of 2 bytes.
@@ -90,11 +93,24 @@ fn is_far(place: &CodePlace, item: &Item, to: Option<u32>) -> bool
     !reaches(place.size, item, distance)
 }
 
-// Whether the branch or jump at a place is out of range.
-fn is_out_of_reach(objects: &Objects, tables: &CodeTables, place: &CodePlace) -> bool
+// Whether a place lies in another section than this one, which stays as it was compiled.
+fn leaves_fixed(section: &SectionRow, to: &Place) -> bool
+    ensures { (inputs : ParsedInputs) (q : Place) → IsRowOf inputs q section.now
+        → result ≡ leaves_fixed inputs q to.now }
+{
+    section.fixed && !(section.object == to.object && section.index == to.section)
+}
+
+// Whether the branch or jump at a place of a section is out of range.
+fn is_out_of_reach(
+    objects: &Objects,
+    tables: &CodeTables,
+    section: &SectionRow,
+    place: &CodePlace,
+) -> bool
     requires faultless { gather_fault objects.now ≡ None }
     requires tables { AreCodeTables (parsed objects.now) tables.now }
-    ensures { (q : Place) → place.now ≡ place_there (parsed objects.now) q
+    ensures { (q : Place) → place.now ≡ place_there (parsed objects.now) q → IsRowOf (parsed objects.now) q section.now
         → result ≡ is_out_of_reach (parsed objects.now) q }
 {
     let Some(item) = &place.item else {
@@ -103,19 +119,24 @@ fn is_out_of_reach(objects: &Objects, tables: &CodeTables, place: &CodePlace) ->
     let Some(to) = way_place(place.size, item) else {
         return false;
     };
-    is_far(place, item, tables.address(objects, to))
+    is_far(place, item, tables.address(objects, to)) || leaves_fixed(section, &to)
 }
 
 // The offset of the first branch or jump of a section that is out of range.
-fn first_offset(objects: &Objects, tables: &CodeTables, places: &[CodePlace]) -> Option<u32>
+fn first_offset(
+    objects: &Objects,
+    tables: &CodeTables,
+    section: &SectionRow,
+    places: &[CodePlace],
+) -> Option<u32>
     requires faultless { gather_fault objects.now ≡ None }
     requires tables { AreCodeTables (parsed objects.now) tables.now }
     ensures { (l : IndexedSection) → section_at (parsed objects.now).objects l.object l.index ≡ Some l.section
-        → places.now ≡ code_places (parsed objects.now) l
+        → places.now ≡ code_places (parsed objects.now) l → section.now ≡ section_row objects.now.fixed l
         → option_map (place_of l) result ≡ find (is_out_of_reach (parsed objects.now)) (places_of l) }
 {
     for place in places {
-        if is_out_of_reach(objects, tables, place) {
+        if is_out_of_reach(objects, tables, section, place) {
             return Some(place.offset);
         }
     }
@@ -129,7 +150,7 @@ pub fn first_out_of_reach(objects: &Objects, tables: &CodeTables) -> Option<Plac
 {
     for k in 0..objects.section_count() {
         let row = objects.section_row(k);
-        if let Some(offset) = first_offset(objects, tables, tables.places(k)) {
+        if let Some(offset) = first_offset(objects, tables, &row, tables.places(k)) {
             return Some(Place {
                 object: row.object,
                 section: row.index,

@@ -20,7 +20,7 @@ add_words-requires c =
     let all : All (λ d. is_word d.kind ≡ true → at + d.offset ≤ data_end inputs) c.args.relocs.now =
     subst (All (λ d. is_word d.kind ≡ true → at + d.offset ≤ data_end inputs)) (sym (c.requires.relocs (sym (code_is l.section) ∙ ap is_code_role held.role))) low in
     let map = c.recall_invariant.ensures.is_map in
-    λ k d lt word. omega (arith, all k d lt word, c.recall_invariant.ensures.data, map.code, map.data_room, map.top)
+    λ k d lt word. omega (arith, all k d lt word, c.recall_invariant.ensures.data, map.room)
 
 pub returns-in-None : goal.returns-in-None
 returns-in-None c =

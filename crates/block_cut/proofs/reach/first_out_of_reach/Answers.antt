@@ -16,7 +16,7 @@ returns-in-Some c =
     let l = c.section_row-row.ensures.0 in
     let at = c.section_row-row.ensures.1 in
     let row = c.section_row-row.ensures.2 in
-    let own = c.first_offset.ensures l (listed_at (parsed inputs).objects k l at) (c.places.ensures inputs l c.requires at) in
+    let own = c.first_offset.ensures l (listed_at (parsed inputs).objects k l at) (c.places.ensures inputs l c.requires at) c.section_row-row.ensures.2 in
     let q : Place = record { object = c.section_row-row.result.object; section = c.section_row-row.result.index; offset = c.in-Some.offset } in
     let same : q ≡ place_of l c.in-Some.offset = λ j. record { object = (row j).object; section = (row j).index; offset = c.in-Some.offset } in
     ap Some same
@@ -28,5 +28,5 @@ loop-k-preserved c =
     let k = c.loop-k.k in
     let l = c.section_row-row.ensures.0 in
     let at = c.section_row-row.ensures.1 in
-    let own = c.first_offset.ensures l (listed_at (parsed inputs).objects k l at) (c.places.ensures inputs l c.requires at) in
+    let own = c.first_offset.ensures l (listed_at (parsed inputs).objects k l at) (c.places.ensures inputs l c.requires at) c.section_row-row.ensures.2 in
     none_more (is_out_of_reach (parsed inputs)) (all_sections (parsed inputs).objects) k l at c.loop-k.invariant (sym own ∙ ap (option_map (place_of l)) c.in_default.is)

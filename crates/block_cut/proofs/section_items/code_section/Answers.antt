@@ -32,7 +32,7 @@ begin_after-address-requires c =
     let inputs = c.args.objects.now in
     let l = c.args.section.now in
     let here = code_here inputs l.object l.index l.section c.requires.after.faultless c.requires.after.section c.requires.code in
-    omega (arith, before_fits inputs c.requires.after.faultless l here, c.requires.after.end, here.whole.low, c.align.ensures, c.requires.after.is_map.code, c.requires.after.is_map.data_room, c.requires.after.is_map.top)
+    omega (arith, before_fits inputs c.requires.after.faultless l here, c.requires.after.end, here.whole.low, c.align.ensures, c.requires.after.is_map.code, c.requires.after.is_map.room)
 
 pub loop-k-init : goal.loop-k-init
 loop-k-init c =
@@ -74,7 +74,7 @@ address_after-address-requires c =
     let numbers = c.numbers-number-items.ensures ∙ ap (λ (x : ResolvedSection). by_halfword (number_on x.section.section) x.section.section) c.in_ok-code.ensures in
     let at = number_got l.section c.numbers-number-items.result.now c.loop-k.k 0 numbers c.loop-k-test.true in
     let map = c.requires.after.is_map in
-    omega (arith, address_fits c.args.objects.now c.requires.after.faultless l here c.loop-k.k c.loop-k.places.items c.loop-k.address at.0 c.loop-k.invariant, map.code, map.data_room, map.top)
+    omega (arith, address_fits c.args.objects.now c.requires.after.faultless l here c.loop-k.k c.loop-k.places.items c.loop-k.address at.0 c.loop-k.invariant, map.code, map.room)
 
 pub loop-k-preserved : goal.loop-k-preserved
 loop-k-preserved c =
