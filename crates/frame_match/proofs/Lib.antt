@@ -1,6 +1,6 @@
 mod AccessLaws
 mod FoundLaws
-mod BeginLaws
+pub mod BeginLaws
 mod FrameLaws
 pub mod GroupLaws
 mod ListLaws

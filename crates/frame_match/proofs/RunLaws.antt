@@ -3,7 +3,7 @@ use Prim.Native.Nat.{zero}
 use Rattle.std.proofs.Common.{◌≡◌, ◌∙◌, ℕ, suc, ◌<◌, ◌≤◌, List, [], ◌∷◌, Option, Some, None, Bool, true, false, cond, length, take, map, eqb, refl, sym, ap, arith}
 use Rattle.std.specs.Prelude.{◌||◌, not}
 use Rattle.std.specs.List.{slice_get}
-use Rattle.std.specs.Option.{is_some}
+use Rattle.std.specs.Option.{is_some, option_and_then}
 use Rattle.std.proofs.lemmas.Bool.{and_parts, and_cases, ne_eqb, not-true, not-false}
 use Rattle.std.proofs.lemmas.List.{length-map}
 use Rattle.std.proofs.lemmas.Option.{none-some, same_Some}
@@ -13,8 +13,10 @@ use Rattle.zc_base.proofs.ListLaws.{get_map}
 use Rattle.psabi_sym.specs.Inputs.{ParsedInputs}
 use Rattle.psabi_sym.specs.Indexed.{IndexedSection}
 use Rattle.rv_decode.specs.declared.instr.Instr.{Instr}
+use Rattle.block_cut.specs.Items.{item_at, place_of}
 use Rattle.block_cut.specs.declared.code_place.CodePlace.{CodePlace}
-use Rattle.frame_match.specs.Groups.{op_then, ops_behind, spot_on, Spot}
+use Rattle.frame_match.specs.Groups.{may_have_groups, op_then, ops_behind, spot_on, Spot}
+use Rattle.frame_match.specs.Read.{op_of}
 use Rattle.frame_match.specs.Invariants.Runs.{joins, op_in, ops_of, run_from, spots_of, HaveOps, ArePlacesOf, IsRun}
 
 -- ---- by index
@@ -104,29 +106,34 @@ not_joined first s ss h = by first s.op refl (and_cases (is_some s.op) (first ||
     by true (Some i) e (inr f) = absurd cc
     by false (Some i) e (inr f) = ap (λ b. cond b [] (op_then s.op (ops_behind ss))) (not-false s.leader f)
 
-taken : (inputs : ParsedInputs) (l : IndexedSection) (first : Bool) (ps : List CodePlace) (n m : ℕ) → ArePlacesOf inputs l ps → n ≤ m → n ≤ length ps
+-- what stands at an offset has its instruction, if the section may have groups
+pub spot_op : (inputs : ParsedInputs) (l : IndexedSection) (n : ℕ) → may_have_groups inputs l.object l.index ≡ true
+    → (spot_on inputs l n).op ≡ option_and_then op_of (item_at inputs (place_of l n))
+spot_op inputs l n has = ap (λ b. cond b (option_and_then op_of (item_at inputs (place_of l n))) None) has
+
+taken : (inputs : ParsedInputs) (l : IndexedSection) → may_have_groups inputs l.object l.index ≡ true → (first : Bool) (ps : List CodePlace) (n m : ℕ) → ArePlacesOf inputs l ps → n ≤ m → n ≤ length ps
     → ((k : ℕ) (p : CodePlace) → k < n → slice_get ps k ≡ Some p → joins (at first k) (spot_on inputs l p.offset) ≡ true)
     → ((p : CodePlace) → n < m → slice_get ps n ≡ Some p → joins (at first n) (spot_on inputs l p.offset) ≡ false)
     → take m (ops_of (take n ps)) ≡ take m (run_on first (spots_of inputs l ps))
-taken inputs l first [] zero m are le within each stops = ap (take m) (sym (run_none first))
-taken inputs l first [] (suc n) m are le within each stops = absurd (omega (arith, within))
-taken inputs l first (p ∷ ps) zero zero are le within each stops = refl
-taken inputs l first (p ∷ ps) zero (suc m) are le within each stops =
+taken inputs l has first [] zero m are le within each stops = ap (take m) (sym (run_none first))
+taken inputs l has first [] (suc n) m are le within each stops = absurd (omega (arith, within))
+taken inputs l has first (p ∷ ps) zero zero are le within each stops = refl
+taken inputs l has first (p ∷ ps) zero (suc m) are le within each stops =
     ap (take (suc m)) (sym (not_joined first (spot_on inputs l p.offset) (spots_of inputs l ps) (stops p (omega arith) refl)))
-taken inputs l first (p ∷ ps) (suc n) zero are le within each stops = absurd (omega (arith, le))
-taken inputs l first (p ∷ ps) (suc n) (suc m) are le within each stops =
+taken inputs l has first (p ∷ ps) (suc n) zero are le within each stops = absurd (omega (arith, le))
+taken inputs l has first (p ∷ ps) (suc n) (suc m) are le within each stops =
     let w = joined_op first (spot_on inputs l p.offset) (spots_of inputs l ps) (each 0 p (omega arith) refl) in
-    let op : op_in p ≡ Some w.0 = ap op_in (are 0 p refl) ∙ w.1 in
+    let op : op_in p ≡ Some w.0 = ap op_in (are 0 p refl) ∙ sym (spot_op inputs l p.offset has) ∙ w.1 in
     ap (λ o. take (suc m) (op_then o (ops_of (take n ps)))) op
     ∙ ap (λ is. w.0 ∷ is)
-    (taken inputs l false ps n m (λ k q g. are (suc k) q g) (omega (arith, le)) (omega (arith, within))
+    (taken inputs l has false ps n m (λ k q g. are (suc k) q g) (omega (arith, le)) (omega (arith, within))
     (λ k q lt g. ap (λ b. joins b (spot_on inputs l q.offset)) (at_false k) ∙ each (suc k) q (omega (arith, lt)) g)
     (λ q lt g. ap (λ b. joins b (spot_on inputs l q.offset)) (at_false n) ∙ stops q (omega (arith, lt)) g))
     ∙ ap (take (suc m)) (sym w.2)
 
-pub run_is : (inputs : ParsedInputs) (l : IndexedSection) (ps : List CodePlace) (n : ℕ) → ArePlacesOf inputs l ps → IsRun (spots_of inputs l ps) n
+pub run_is : (inputs : ParsedInputs) (l : IndexedSection) → may_have_groups inputs l.object l.index ≡ true → (ps : List CodePlace) (n : ℕ) → ArePlacesOf inputs l ps → IsRun (spots_of inputs l ps) n
     → take 16 (ops_of (take n ps)) ≡ take 16 (run_from (spots_of inputs l ps))
-run_is inputs l ps n are r =
-    taken inputs l true ps n 16 are r.few (let e = length-map ps (λ p. spot_on inputs l p.offset) in let w = r.within in omega (arith, e, w))
+run_is inputs l has ps n are r =
+    taken inputs l has true ps n 16 are r.few (let e = length-map ps (λ p. spot_on inputs l p.offset) in let w = r.within in omega (arith, e, w))
     (λ k p lt g. ap (λ b. joins b (spot_on inputs l p.offset)) (sym (at_is k)) ∙ r.each k (spot_on inputs l p.offset) lt (get_map (λ p. spot_on inputs l p.offset) ps k p g))
     (λ p lt g. ap (λ b. joins b (spot_on inputs l p.offset)) (sym (at_is n)) ∙ r.stops (spot_on inputs l p.offset) lt (get_map (λ p. spot_on inputs l p.offset) ps n p g))

@@ -1,9 +1,10 @@
 -- Groups: the items that are written together, as one instruction or two (RISC-V Zc specification 1.0, "Zcmp").
-use Rattle.std.specs.Prelude.{ℕ, zero, suc, ◌-◌, Bool, if◌then◌else◌, List, [], ◌∷◌, map, slice_get, Option, Some, None}
+use Rattle.std.specs.Prelude.{ℕ, zero, suc, ◌-◌, Bool, not, ◌&&◌, if◌then◌else◌, List, [], ◌∷◌, map, slice_get, Option, Some, None}
 use Rattle.std.specs.List.{flat_map}
 use Rattle.std.specs.Option.{option_and_then}
 use Rattle.zc_base.specs.declared.place.Place.{Place}
 use Rattle.elf32_read.specs.Parts.{SectionParts, is_code_section}
+use Rattle.psabi_sym.specs.Fixed.{is_fixed_at}
 use Rattle.psabi_sym.specs.Inputs.{ParsedInputs}
 use Rattle.psabi_sym.specs.Indexed.{IndexedSection, all_sections}
 use Rattle.rv_decode.specs.declared.instr.Instr.{Instr}
@@ -18,7 +19,7 @@ use Rattle.frame_match.specs.declared.role.Role.TheVariants.{Alone, First, Insid
 
 -- ---- items one after another
 
--- an item: its instruction if it is one without relocation, and whether a basic block begins there
+-- an item: its instruction if a group may have it, and whether a basic block begins there
 pub record Spot : Type 0 where
   pub place : Place
   pub op : Option Instr
@@ -65,10 +66,19 @@ roles_from zero (s ∷ ss) =
 
 -- ---- all code
 
+-- a section, by its object's index and its own, may have groups: the chip has Zcmp, and the section isn't fixed
+abbrev pub may_have_groups : ParsedInputs → ℕ → ℕ → Bool
+may_have_groups inputs o i = inputs.map.extensions.zcmp && not (is_fixed_at inputs o i)
+
+-- the instruction at a place, if a group may have it: its section may have groups, and it has no relocation
+abbrev pub groupable_op : ParsedInputs → Place → Option Instr
+groupable_op inputs q =
+    if may_have_groups inputs q.object q.section then option_and_then op_of (item_at inputs q) else None
+
 -- the item at an offset of a section
 abbrev pub spot_on : ParsedInputs → IndexedSection → ℕ → Spot
 spot_on inputs l n =
-    record { place = place_of l n; op = option_and_then op_of (item_at inputs (place_of l n)); leader = is_leader_at inputs (place_of l n) }
+    record { place = place_of l n; op = groupable_op inputs (place_of l n); leader = is_leader_at inputs (place_of l n) }
 
 -- the roles of a section's items; empty if the section isn't code
 unfoldable pub roles_in : ParsedInputs → IndexedSection → List Role

@@ -5,7 +5,7 @@ ghost use Rattle.std.specs.Option.{is_some};
 ghost use Rattle.psabi_sym.specs.Inputs.{parsed};
 ghost use Rattle.block_cut.specs.Items.{place_of};
 ghost use Rattle.block_cut.specs.Places.{code_place};
-ghost use Rattle.frame_match.specs.Groups.{spot_on};
+ghost use Rattle.frame_match.specs.Groups.{may_have_groups, spot_on};
 ghost use Rattle.frame_match.specs.Invariants.Runs as runs;
 ghost use Rattle.frame_match.specs.Invariants.Runs.{op_in, run_from, spots_of, HaveOps, ArePlacesOf, IsRun};
 
@@ -58,7 +58,8 @@ pub fn place_in(section: &SectionRef, place: &CodePlace) -> Place
 
 // Whether the instruction at a place goes on a run: no basic block begins there, unless it is the run's first.
 fn joins(cut: &Cut, section: &SectionRef, place: &CodePlace, is_first: bool) -> bool
-    requires { place.now ≡ code_place (parsed cut.now) section.now place.now.offset }
+    requires may { may_have_groups (parsed cut.now) section.now.object section.now.index ≡ true }
+    requires place { place.now ≡ code_place (parsed cut.now) section.now place.now.offset }
     ensures op { result ≡ true → is_some (op_in place.now) ≡ true }
     ensures joins { result ≡ runs.joins is_first (spot_on (parsed cut.now) section.now place.now.offset) }
 {
@@ -67,7 +68,8 @@ fn joins(cut: &Cut, section: &SectionRef, place: &CodePlace, is_first: bool) -> 
 
 // The number of instructions in a run, up to where a basic block begins; at most 16, since no group has more.
 fn run_length(cut: &Cut, section: &SectionRef, places: &[CodePlace]) -> usize
-    requires { ArePlacesOf (parsed cut.now) section.now places.now }
+    requires may { may_have_groups (parsed cut.now) section.now.object section.now.index ≡ true }
+    requires places { ArePlacesOf (parsed cut.now) section.now places.now }
     ensures within { result ≤ length places.now }
     ensures ops { HaveOps (take result places.now) }
     ensures run { IsRun (spots_of (parsed cut.now) section.now places.now) result }
@@ -84,7 +86,8 @@ fn run_length(cut: &Cut, section: &SectionRef, places: &[CodePlace]) -> usize
 impl<'a> Run<'a> {
     /// The run of instructions from the first of some places of a section on, as far as a group may extend.
     pub fn new(cut: &Cut, section: &SectionRef, places: &'a [CodePlace]) -> Run<'a>
-        requires { ArePlacesOf (parsed cut.now) section.now places.now }
+        requires may { may_have_groups (parsed cut.now) section.now.object section.now.index ≡ true }
+        requires places { ArePlacesOf (parsed cut.now) section.now places.now }
         ensures { take 16 result ≡ take 16 (run_from (spots_of (parsed cut.now) section.now places.now)) }
     {
         let count = run_length(cut, section, places);

@@ -8,7 +8,7 @@ ghost use Rattle.std.specs.Option.{option_and_then};
 ghost use Rattle.block_cut.specs.Items.{items_in, place_of};
 ghost use Rattle.frame_match.specs.declared.mark.Mark.TheVariants.{Start};
 ghost use Rattle.frame_match.specs.Matches.{longest_of};
-ghost use Rattle.frame_match.specs.Groups.{group_at, groups_in, roles_in};
+ghost use Rattle.frame_match.specs.Groups.{group_at, groups_in, may_have_groups, roles_in};
 ghost use Rattle.frame_match.specs.Invariants.Marks.{groups_after, marks_after, marks_from, WalksOn};
 ghost use Rattle.frame_match.specs.Invariants.Runs.{begins_with, op_in, run_from, spots_of, ArePlacesOf};
 
@@ -45,12 +45,24 @@ fn begins(places: &[CodePlace]) -> bool
     }
 }
 
+// Whether a section may have groups: the chip has Zcmp, and the section isn't fixed.
+fn may_have_groups(cut: &Cut, section: &SectionRef) -> bool
+    ensures { result ≡ may_have_groups (parsed cut.now) section.now.object section.now.index }
+{
+    let objects = cut.objects();
+    objects.map().extensions.zcmp && !objects.is_fixed(section.object(), section.index())
+}
+
 // The longest group that starts at the first of some places of a section. Few instructions can begin a group, so most
 // items are looked at once.
-fn found_at(cut: &Cut, section: &SectionRef, places: &[CodePlace]) -> Option<Found>
-    requires { ArePlacesOf (parsed cut.now) section.now places.now }
+fn found_at(cut: &Cut, section: &SectionRef, places: &[CodePlace], may_group: bool) -> Option<Found>
+    requires may { may_group ≡ may_have_groups (parsed cut.now) section.now.object section.now.index }
+    requires places { ArePlacesOf (parsed cut.now) section.now places.now }
     ensures { result ≡ longest_of (run_from (spots_of (parsed cut.now) section.now places.now)) }
 {
+    if !may_group {
+        return None;
+    }
     if begins(places) {
         longest(&Run::new(cut, section, places))
     } else {
@@ -90,7 +102,9 @@ impl Walk {
         cut: &Cut,
         section: &SectionRef,
         places: &[CodePlace],
+        may_group: bool,
     ) -> Result<(), AllocError>
+        requires may { may_group ≡ may_have_groups (parsed cut.now) section.now.object section.now.index }
         requires some { 0 < length places.now }
         requires room { length self.old.groups.items < 2 ^ 32 }
         requires places { ArePlacesOf (parsed cut.now) section.now places.now }
@@ -102,7 +116,7 @@ impl Walk {
             self.marks.push(Mark::Within)?;
             return Ok(());
         }
-        match found_at(cut, section, places) {
+        match found_at(cut, section, places, may_group) {
             None => {
                 self.marks.push(Mark::Apart)?;
                 Ok(())
@@ -117,7 +131,9 @@ impl Walk {
         cut: &Cut,
         section: &SectionRef,
         places: &[CodePlace],
+        may_group: bool,
     ) -> Result<(), AllocError>
+        requires may { may_group ≡ may_have_groups (parsed cut.now) section.now.object section.now.index }
         requires places { ArePlacesOf (parsed cut.now) section.now places.now }
         requires room { length self.old.groups.items + length places.now < 2 ^ 32 }
         ensures marks { IfOk result (λ _.
@@ -126,7 +142,7 @@ impl Walk {
             self.new.groups.items ≡ groups_after self.old (spots_of (parsed cut.now) section.now places.now)) }
     {
         for k in 0..places.len() {
-            self.next(cut, section, &places[k..])?;
+            self.next(cut, section, &places[k..], may_group)?;
         }
         Ok(())
     }
@@ -155,6 +171,7 @@ pub fn walk_section(
         marks: Vec::with_capacity(alloc, places.len())?,
         left: 0,
     };
-    walk.go_over(cut, &cut.objects().section(section), places)?;
+    let section = cut.objects().section(section);
+    walk.go_over(cut, &section, places, may_have_groups(cut, &section))?;
     Ok(walk)
 }

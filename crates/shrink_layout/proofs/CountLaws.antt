@@ -1,17 +1,18 @@
 -- Pieces are counted as places are: places of a section have numbers one after another, after that of its padding, so as many
 -- pieces meet a test as places whose units do (`units_counted`).
-use Rattle.std.proofs.Common.{◌≡◌, ℕ, zero, suc, ◌+◌, ◌%◌, ◌<◌, List, [], ◌∷◌, ◌++◌, length, filter, map, drop, take, slice_index, Bool, true, false, cond, Option, Some, None, slice_get, refl, sym, ap, ◌∙◌, arith, eqb, ltb}
+use Rattle.std.proofs.Common.{◌≡◌, ℕ, zero, suc, ◌+◌, ◌%◌, ◌&&◌, ◌<◌, List, [], ◌∷◌, ◌++◌, length, filter, map, drop, take, slice_index, Bool, true, false, cond, Option, Some, None, slice_get, refl, sym, ap, ◌∙◌, arith, eqb, ltb}
 use Rattle.std.specs.List.{flat_map, range_with_len, sum_by}
 use Rattle.std.specs.Option.{option_map_or}
 use Rattle.std.proofs.lemmas.Bool.{le-ltb, lt-ltb}
 use Rattle.std.proofs.lemmas.List.Sums.{sum_by-cons}
 use Rattle.zc_base.specs.declared.place.Place.{Place}
-use Rattle.elf32_read.specs.Parts.{ObjectParts, SectionParts, is_code_section}
+use Rattle.elf32_read.specs.Parts.{SectionParts, is_code_section}
 use Rattle.psabi_sym.specs.Faults.{gather_fault}
+use Rattle.psabi_sym.specs.Fixed.{is_fixed_at}
 use Rattle.psabi_sym.specs.Inputs.{Inputs, ParsedInputs, parsed}
 use Rattle.psabi_sym.specs.Indexed.{IndexedSection, all_sections, section_at, sections_before}
 use Rattle.psabi_sym.proofs.SectionNumbers.{before_number, listed_at}
-use Rattle.block_cut.specs.Items.{index_on, item_in, place_of, places_of, size_on, starts_in, starts_on}
+use Rattle.block_cut.specs.Items.{index_on, item_in, place_of, places_of, size_at, size_on, starts_in, starts_on}
 use Rattle.block_cut.specs.CodeSizes.{code_step}
 use Rattle.block_cut.specs.Whole.{IsWhole}
 use Rattle.block_cut.specs.declared.item.Item.{Item}
@@ -19,7 +20,7 @@ use Rattle.block_cut.specs.declared.item.Item.TheVariants as item
 use Rattle.block_cut.proofs.StartLaws.{Above, IsStep, above_filter, along, among_first, among_later, is_among}
 use Rattle.block_cut.proofs.WholeLaws.{inputs_whole}
 use Rattle.shrink_layout.specs.Counted.{count_from, is_long_piece, is_short_piece, pieces_with}
-use Rattle.shrink_layout.specs.Pieces.{is_short_jump, jump_piece, piece_at, piece_count, piece_number_at, piece_of, pieces_by, pieces_in, pieces_of, section_alignment, section_pieces, slot_at, unit_piece}
+use Rattle.shrink_layout.specs.Pieces.{is_short_jump, item_piece_at, jump_piece, kept_piece, piece_at, piece_count, piece_number_at, piece_of, pieces_by, pieces_in, pieces_of, section_alignment, section_pieces, slot_at, unit_piece}
 use Rattle.shrink_layout.specs.Settled.{is_long, is_sized, settled_sizes, units_with}
 use Rattle.shrink_layout.specs.Units.{CodeUnit, OneGroup, OneItem, OneSite, unit_by}
 use Rattle.shrink_layout.specs.declared.piece.Piece.{Piece}
@@ -58,15 +59,15 @@ module _ (s : SectionParts) (code : is_code_section s ≡ true) (whole : IsWhole
 
 -- ---- tests
 
-module _ (objects : List ObjectParts) where
+module _ (inputs : ParsedInputs) where
   -- the piece of a jump counts by its size, whether it has a short form or not
-  jump_counts : (to : Place) (short : Bool) (size : ℕ) → (is_short_piece (jump_piece objects to short) size ≡ eqb size 2) × (is_long_piece (jump_piece objects to short) size ≡ false)
+  jump_counts : (to : Place) (short : Bool) (size : ℕ) → (is_short_piece (jump_piece inputs.objects to short) size ≡ eqb size 2) × (is_long_piece (jump_piece inputs.objects to short) size ≡ false)
   jump_counts to true size = (refl, refl)
   jump_counts to false size = (refl, refl)
 
   -- an item's piece is short if the item takes two bytes, and long if it is a branch that takes eight
   item_counts :
-      (i : Item) (size : ℕ) → (is_short_piece (piece_of objects i) size ≡ is_sized 2 size (OneItem i)) × (is_long_piece (piece_of objects i) size ≡ is_long size (OneItem i))
+      (i : Item) (size : ℕ) → (is_short_piece (piece_of inputs i) size ≡ is_sized 2 size (OneItem i)) × (is_long_piece (piece_of inputs i) size ≡ is_long size (OneItem i))
   item_counts (item.Op i) size = (refl, refl)
   item_counts (item.Hi i t) size = (refl, refl)
   item_counts (item.Lo i t) size = (refl, refl)
@@ -81,17 +82,44 @@ module _ (objects : List ObjectParts) where
   item_counts (item.RawShort half) size = (refl, refl)
   item_counts (item.RawPair first second) size = (refl, refl)
 
-module _ (objects : List ObjectParts) where
+  -- so is its piece in a fixed section
+  kept_counts :
+      (own : ℕ) (i : Item) (size : ℕ) → (is_short_piece (kept_piece inputs own i) size ≡ is_sized 2 size (OneItem i)) × (is_long_piece (kept_piece inputs own i) size ≡ is_long size (OneItem i))
+  kept_counts own (item.Op i) size = (refl, refl)
+  kept_counts own (item.Hi i t) size = (refl, refl)
+  kept_counts own (item.Lo i t) size = (refl, refl)
+  kept_counts own (item.PcHi i t) size = (refl, refl)
+  kept_counts own (item.PcLo i q) size = (refl, refl)
+  kept_counts own (item.Branch op first second to) size = (refl, refl)
+  kept_counts own (item.Jump rd to) size = jump_counts to (eqb own 2 && is_short_jump rd) size
+  kept_counts own (item.Call rd temp to) size = (refl, refl)
+  kept_counts own (item.Align bytes) size = (refl, refl)
+  kept_counts own (item.Word t) size = (refl, refl)
+  kept_counts own (item.Raw word) size = (refl, refl)
+  kept_counts own (item.RawShort half) size = (refl, refl)
+  kept_counts own (item.RawPair first second) size = (refl, refl)
+
+  -- and its piece at any place
+  here_counts :
+      (q : Place) (i : Item) (size : ℕ) → (is_short_piece (item_piece_at inputs q i) size ≡ is_sized 2 size (OneItem i)) × (is_long_piece (item_piece_at inputs q i) size ≡ is_long size (OneItem i))
+  here_counts q i size = by (is_fixed_at inputs q.object q.section)
+    where
+      by : (b : Bool) → let p : Piece = cond b (kept_piece inputs (size_at inputs.objects q) i) (piece_of inputs i) in
+          (is_short_piece p size ≡ is_sized 2 size (OneItem i)) × (is_long_piece p size ≡ is_long size (OneItem i))
+      by true = kept_counts (size_at inputs.objects q) i size
+      by false = item_counts i size
+
+module _ (inputs : ParsedInputs) (q : Place) where
   -- what is written at a place counts as its piece; what is written together counts as neither
-  pub unit_short : (o : Option CodeUnit) (size : ℕ) → is_short_piece (unit_piece objects o) size ≡ option_map_or (is_sized 2 size) o false
+  pub unit_short : (o : Option CodeUnit) (size : ℕ) → is_short_piece (unit_piece inputs q o) size ≡ option_map_or (is_sized 2 size) o false
   unit_short None size = refl
-  unit_short (Some (OneItem i)) size = (item_counts objects i size).0
+  unit_short (Some (OneItem i)) size = (here_counts inputs q i size).0
   unit_short (Some (OneGroup g)) size = refl
   unit_short (Some (OneSite n)) size = refl
 
-  pub unit_long : (o : Option CodeUnit) (size : ℕ) → is_long_piece (unit_piece objects o) size ≡ option_map_or (is_long size) o false
+  pub unit_long : (o : Option CodeUnit) (size : ℕ) → is_long_piece (unit_piece inputs q o) size ≡ option_map_or (is_long size) o false
   unit_long None size = refl
-  unit_long (Some (OneItem i)) size = (item_counts objects i size).1
+  unit_long (Some (OneItem i)) size = (here_counts inputs q i size).1
   unit_long (Some (OneGroup g)) size = refl
   unit_long (Some (OneSite n)) size = refl
 
@@ -121,7 +149,7 @@ passed_append {X = X} test (x ∷ first) second = by (test x) (passed_append tes
 module _
     (inputs : ParsedInputs) (slot : Place → Option ℕ) (sizes : List ℕ) (of_piece : Piece → ℕ → Bool) (of_unit : ℕ → CodeUnit → Bool)
     (padding : (alignment size : ℕ) → of_piece (Align alignment) size ≡ false)
-    (unit : (o : Option CodeUnit) (size : ℕ) → of_piece (unit_piece inputs.objects o) size ≡ option_map_or (of_unit size) o false) where
+    (unit : (q : Place) (o : Option CodeUnit) (size : ℕ) → of_piece (unit_piece inputs q o) size ≡ option_map_or (of_unit size) o false) where
   -- whether the unit at a place passes
   abbrev passes : Place → Bool
   passes q = option_map_or (of_unit (slice_index sizes (piece_number_at inputs.objects q))) (unit_by inputs slot q) false
@@ -146,7 +174,7 @@ module _
         let index : index_on l.section n ≡ a = ap (λ l. slice_index l 0) numbers in
         let number : piece_number_at inputs.objects q ≡ first + a = number_here n start ∙ ap (λ k. first + k) index in
         let one : of_piece (piece_at inputs slot q) (slice_index sizes (first + a)) ≡ passes q =
-        unit (unit_by inputs slot q) (slice_index sizes (first + a))
+        unit q (unit_by inputs slot q) (slice_index sizes (first + a))
         ∙ sym (λ j. option_map_or (of_unit (slice_index sizes (number j))) (unit_by inputs slot q) false) in
         let rest = counted ns (λ m is. are m (among_later n m ns is)) (a + 1) (ap (drop 1) numbers) in
         let next : first + (a + 1) ≡ first + a + 1 = omega arith in
@@ -170,9 +198,9 @@ module _
       places b = cond b (map (place_of l) (starts_in l.section)) []
 
       by : (b : Bool) → is_code_section l.section ≡ b
-          → count_from of_piece sizes k (cond b (Align (section_alignment l.section) ∷ map (piece_at inputs slot) (places b)) []) ≡ length (filter passes (places b))
+          → count_from of_piece sizes k (cond b (Align (section_alignment inputs l) ∷ map (piece_at inputs slot) (places b)) []) ≡ length (filter passes (places b))
       by true code =
-          let pad = padding (section_alignment l.section) (slice_index sizes k) in
+          let pad = padding (section_alignment inputs l) (slice_index sizes k) in
           let own = counted l here code (starts_in l.section) (λ m is. is) 0 (indexes l.section code (whole code)) in
           let same : first l here code + 0 ≡ k + 1 = omega arith in
           let places_of_code = map (piece_at inputs slot) (map (place_of l) (starts_in l.section)) in
@@ -187,7 +215,7 @@ module _
   sections_counted k (l ∷ ls) each =
       let first : k + 0 ≡ k = omega arith in
       let own = ap (λ n. count_from of_piece sizes n (section_pieces inputs slot l)) (sym first) ∙ each 0 l refl in
-      let long = length-section_laid (λ s. Align (section_alignment s)) (piece_at inputs slot) l in
+      let long = length-section_laid (λ m. Align (section_alignment inputs m)) (piece_at inputs slot) l in
       let rest = sections_counted (k + piece_count l) ls (λ j m is.
       let there : k + piece_count l + sum_by piece_count (take j ls) ≡ k + sum_by piece_count (take (suc j) (l ∷ ls)) = omega (arith, sum_by-cons piece_count l (take j ls)) in
       ap (λ n. count_from of_piece sizes n (section_pieces inputs slot m)) there ∙ each (suc j) m is) in
@@ -205,7 +233,7 @@ module _
 pub units_counted :
     (inputs : Inputs) → gather_fault inputs ≡ None → (slots : List (Option Place)) (of_piece : Piece → ℕ → Bool) (of_unit : ℕ → CodeUnit → Bool)
     → ((alignment size : ℕ) → of_piece (Align alignment) size ≡ false)
-    → ((o : Option CodeUnit) (size : ℕ) → of_piece (unit_piece (parsed inputs).objects o) size ≡ option_map_or (of_unit size) o false)
+    → ((q : Place) (o : Option CodeUnit) (size : ℕ) → of_piece (unit_piece (parsed inputs) q o) size ≡ option_map_or (of_unit size) o false)
     → pieces_with of_piece (pieces_of (parsed inputs) slots) (settled_sizes (parsed inputs) slots) ≡ units_with (parsed inputs) slots of_unit
 unfolding pieces_by pieces_of
 units_counted inputs none slots of_piece of_unit padding unit =

@@ -85,8 +85,8 @@ module _ (inputs : Inputs) (none : gather_fault inputs ≡ None) (slots : List (
   pub unit_ends : (q : Place) (u : CodeUnit) → unit_at given slots q ≡ Some u
       → slice_index (settled_addresses given slots) (piece_number_at given.objects q + 1)
       ≡ slice_index (settled_addresses given slots) (piece_number_at given.objects q)
-      + width (unit_piece given.objects (Some u)) (slice_index (settled_sizes given slots) (piece_number_at given.objects q)) (slice_index (settled_addresses given slots) (piece_number_at given.objects q))
-  unit_ends q u is = piece_ends given slots (piece_number_at given.objects q) (unit_piece given.objects (Some u)) (unit_there inputs none slots q u is)
+      + width (unit_piece given q (Some u)) (slice_index (settled_sizes given slots) (piece_number_at given.objects q)) (slice_index (settled_addresses given slots) (piece_number_at given.objects q))
+  unit_ends q u is = piece_ends given slots (piece_number_at given.objects q) (unit_piece given q (Some u)) (unit_there inputs none slots q u is)
 
   -- what is written has an address
   pub unit_address : (q : Place) (u : CodeUnit) → unit_at given slots q ≡ Some u → settled_address given slots q ≡ Some (slice_index (settled_addresses given slots) (piece_number_at given.objects q))

@@ -14,7 +14,7 @@ length_grown a j (p ∷ pieces) [] e = refl
 length_grown a j (p ∷ pieces) (size ∷ sizes) e = ap suc (length_grown a (j + 1) pieces sizes (omega arith))
 
 -- the size of the piece with number k is what the round makes of it
-grown_at : (a : List ℕ) (j : ℕ) (pieces : List Piece) (sizes : List ℕ) (k : ℕ) → k < length pieces → length sizes ≡ length pieces
+pub grown_at : (a : List ℕ) (j : ℕ) (pieces : List Piece) (sizes : List ℕ) (k : ℕ) → k < length pieces → length sizes ≡ length pieces
     → slice_index (grown_from a j pieces sizes) k ≡ grown_size a (j + k) (nth_piece pieces k) (slice_index sizes k)
 grown_at a j [] sizes k lt e = absurd (omega arith)
 grown_at a j (p ∷ pieces) [] k lt e = absurd (omega arith)

@@ -130,8 +130,8 @@ below_by inputs none slots q there = by (item_at (parsed inputs) q) refl there
 module _ (inputs : Inputs) (none : gather_fault inputs ≡ None) (slots : List (Option Place)) where
   -- items that take two bytes
   pub short_counted : pieces_with is_short_piece (pieces_of (parsed inputs) slots) (settled_sizes (parsed inputs) slots) ≡ units_with (parsed inputs) slots (is_sized 2)
-  short_counted = units_counted inputs none slots is_short_piece (is_sized 2) (λ alignment size. refl) (unit_short (parsed inputs).objects)
+  short_counted = units_counted inputs none slots is_short_piece (is_sized 2) (λ alignment size. refl) (unit_short (parsed inputs))
 
   -- branches that take eight
   pub long_counted : pieces_with is_long_piece (pieces_of (parsed inputs) slots) (settled_sizes (parsed inputs) slots) ≡ units_with (parsed inputs) slots is_long
-  long_counted = units_counted inputs none slots is_long_piece is_long (λ alignment size. refl) (unit_long (parsed inputs).objects)
+  long_counted = units_counted inputs none slots is_long_piece is_long (λ alignment size. refl) (unit_long (parsed inputs))

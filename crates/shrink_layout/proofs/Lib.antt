@@ -2,8 +2,10 @@ pub mod AddressLaws
 pub mod AnewLaws
 pub mod BlockLaws
 pub mod ChangeLaws
+pub mod ChipLaws
 pub mod CountLaws
 pub mod Distances
+pub mod FixedSections
 pub mod FormLaws
 pub mod GroupAddresses
 pub mod GroupCounts
@@ -19,6 +21,7 @@ pub mod MoveLaws
 pub mod NumberEnds
 pub mod NumberLaws
 pub mod OrderLaws
+pub mod OwnSizes
 pub mod PlaceAddressLaws
 pub mod PlaceLaws
 pub mod PlaceNumberLaws

@@ -37,9 +37,9 @@ place_at o i n = record { object = o; section = i; offset = n }
 -- ---- lists that are laid as pieces are
 
 -- what there is for the padding of a section of code and for each of its items, as `pieces_in` has it for pieces
-module _ {X : Type 0} (pad : SectionParts → X) (f : Place → X) where
+module _ {X : Type 0} (pad : IndexedSection → X) (f : Place → X) where
   abbrev pub section_laid : IndexedSection → List X
-  section_laid l = cond (is_code_section l.section) (pad l.section ∷ map f (places_of l)) []
+  section_laid l = cond (is_code_section l.section) (pad l ∷ map f (places_of l)) []
 
   abbrev pub laid_in : List IndexedSection → List X
   laid_in ls = flat_map section_laid ls
@@ -48,7 +48,7 @@ module _ {X : Type 0} (pad : SectionParts → X) (f : Place → X) where
   pub length-section_laid : (l : IndexedSection) → length (section_laid l) ≡ piece_count l
   length-section_laid l = by (is_code_section l.section)
     where
-      by : (b : Bool) → length (cond b (pad l.section ∷ map f (cond b (map (place_of l) (starts_in l.section)) [])) []) ≡ cond {A = ℕ} b (1 + length (starts_in l.section)) 0
+      by : (b : Bool) → length (cond b (pad l ∷ map f (cond b (map (place_of l) (starts_in l.section)) [])) []) ≡ cond {A = ℕ} b (1 + length (starts_in l.section)) 0
       by true = omega (arith, length-map (map (place_of l) (starts_in l.section)) f, length-map (starts_in l.section) (place_of l))
       by false = refl
 
@@ -65,15 +65,15 @@ module _ {X : Type 0} (pad : SectionParts → X) (f : Place → X) where
       )
 
   -- a section of code
-  pub section_laid-code : (o i : ℕ) (s : SectionParts) → is_code_section s ≡ true → section_laid (listed o i s) ≡ pad s ∷ map (λ m. f (place_at o i m)) (starts_in s)
+  pub section_laid-code : (o i : ℕ) (s : SectionParts) → is_code_section s ≡ true → section_laid (listed o i s) ≡ pad (listed o i s) ∷ map (λ m. f (place_at o i m)) (starts_in s)
   section_laid-code o i s code =
-      (λ j. cond (code j) (pad s ∷ map f (cond (code j) (map (place_at o i) (starts_in s)) [])) [])
-      ∙ ap (λ xs. pad s ∷ xs) (map-map f (place_at o i) (starts_in s))
+      (λ j. cond (code j) (pad (listed o i s) ∷ map f (cond (code j) (map (place_at o i) (starts_in s)) [])) [])
+      ∙ ap (λ xs. pad (listed o i s) ∷ xs) (map-map f (place_at o i) (starts_in s))
 
   -- what is laid for all is that of the sections before one of code, that of its padding and its items, and the rest
   pub record IsCutInto (objects : List ObjectParts) (o i : ℕ) (s : SectionParts) : Type 0 where
     pub rest : List X
-    pub are : laid_in (all_sections objects) ≡ laid_in (sections_before objects o i) ++ pad s ∷ (map (λ m. f (place_at o i m)) (starts_in s) ++ rest)
+    pub are : laid_in (all_sections objects) ≡ laid_in (sections_before objects o i) ++ pad (listed o i s) ∷ (map (λ m. f (place_at o i m)) (starts_in s) ++ rest)
 
   -- the pieces of all code are those before a section of code, its own, and those after it
   pub cut_into : (objects : List ObjectParts) (o i : ℕ) (s : SectionParts) → section_at objects o i ≡ Some s → is_code_section s ≡ true → IsCutInto objects o i s
@@ -164,7 +164,7 @@ item_target inputs q i is =
 pub length-pieces_of : (inputs : ParsedInputs) (slots : List (Option Place)) → length (pieces_of inputs slots) ≡ 1 + sum_by piece_count (all_sections inputs.objects)
 unfolding pieces_by pieces_of
 length-pieces_of inputs slots =
-    let all = length-laid_in (λ s. Align (section_alignment s)) (piece_at inputs (slot_at inputs slots)) (all_sections inputs.objects) in
+    let all = length-laid_in (λ l. Align (section_alignment inputs l)) (piece_at inputs (slot_at inputs slots)) (all_sections inputs.objects) in
     omega (arith, all)
 
 -- whatever slots there are
@@ -210,7 +210,7 @@ module _ (inputs : Inputs) (none : gather_fault inputs ≡ None) where
   given = parsed inputs
 
   -- what is laid for an item has its place's number
-  pub laid_there : {X : Type 0} (first : X) (pad : SectionParts → X) (f : Place → X) (q : Place) (i : Item) → item_at given q ≡ Some i
+  pub laid_there : {X : Type 0} (first : X) (pad : IndexedSection → X) (f : Place → X) (q : Place) (i : Item) → item_at given q ≡ Some i
       → slice_get (first ∷ laid_in pad f (all_sections given.objects)) (piece_number_at given.objects q) ≡ Some (f q)
   laid_there {X = X} first pad f q i is =
       let found = item_found given q i is in
@@ -221,17 +221,18 @@ module _ (inputs : Inputs) (none : gather_fault inputs ≡ None) where
       let g : ℕ → X = λ m. f (place_at q.object q.section m) in
       let before = filter (λ m. ltb m q.offset) (starts_in s) in
       let own = laid_in pad f (sections_before given.objects q.object q.section) in
-      let head = (first ∷ own) ++ pad s ∷ map g before in
+      let padding = pad (listed q.object q.section s) in
+      let head = (first ∷ own) ++ padding ∷ map g before in
       let items : map g (starts_in s) ≡ map g before ++ g q.offset ∷ map g starts.rest = ap (map g) starts.are ∙ map-append g before (q.offset ∷ starts.rest) in
       let all : first ∷ laid_in pad f (all_sections given.objects) ≡ head ++ g q.offset ∷ (map g starts.rest ++ cut.rest) =
       ap (λ xs. first ∷ xs) cut.are
-      ∙ ap (λ l. (first ∷ own) ++ pad s ∷ l) (ap (λ l. l ++ cut.rest) items ∙ append_assoc (map g before) (g q.offset ∷ map g starts.rest) cut.rest)
-      ∙ sym (append_assoc (first ∷ own) (pad s ∷ map g before) (g q.offset ∷ (map g starts.rest ++ cut.rest))) in
+      ∙ ap (λ l. (first ∷ own) ++ padding ∷ l) (ap (λ l. l ++ cut.rest) items ∙ append_assoc (map g before) (g q.offset ∷ map g starts.rest) cut.rest)
+      ∙ sym (append_assoc (first ∷ own) (padding ∷ map g before) (g q.offset ∷ (map g starts.rest ++ cut.rest))) in
       let number : piece_number_at given.objects q ≡ length head =
       omega (
         arith,
         number-code given.objects q s (item_target given q i is) found.code,
-        length-append own (pad s ∷ map g before),
+        length-append own (padding ∷ map g before),
         length-map before g,
         length-laid_in pad f (sections_before given.objects q.object q.section),
       ) in
@@ -241,14 +242,14 @@ module _ (inputs : Inputs) (none : gather_fault inputs ≡ None) where
   pub place_piece : (slots : List (Option Place)) (q : Place) (i : Item) → item_at given q ≡ Some i
       → slice_get (pieces_of given slots) (piece_number_at given.objects q) ≡ Some (piece_at given (slot_at given slots) q)
   unfolding pieces_by pieces_of
-  place_piece slots q i is = laid_there (Fixed (front_size slots)) (λ s. Align (section_alignment s)) (piece_at given (slot_at given slots)) q i is
+  place_piece slots q i is = laid_there (Fixed (front_size slots)) (λ l. Align (section_alignment given l)) (piece_at given (slot_at given slots)) q i is
 
   -- which is that of what is written there
   pub unit_there : (slots : List (Option Place)) (q : Place) (u : CodeUnit) → unit_at given slots q ≡ Some u
-      → slice_get (pieces_of given slots) (piece_number_at given.objects q) ≡ Some (unit_piece given.objects (Some u))
+      → slice_get (pieces_of given slots) (piece_number_at given.objects q) ≡ Some (unit_piece given q (Some u))
   unit_there slots q u is =
       let at = found_item given q (unit_found given (slot_at given slots) q u is) in
-      place_piece slots q at.0 at.1 ∙ ap (λ o. Some (unit_piece given.objects o)) is
+      place_piece slots q at.0 at.1 ∙ ap (λ o. Some (unit_piece given q o)) is
 
   -- the number of a place is below the number of pieces
   pub number_below : (slots : List (Option Place)) (q : Place) (i : Item) → item_at given q ≡ Some i → piece_number_at given.objects q < length (pieces_of given slots)

@@ -1,29 +1,33 @@
--- Pieces, and what is written for them, as those behind a table are put in the place of the first ones: section by section (`put_skip`, `put_enter`,
--- `put_leave`), and in a section of code place by place (`put_next`).
-use Rattle.std.proofs.Common.{◌≡◌, ℕ, zero, suc, ◌+◌, ◌≤◌, List, [], ◌∷◌, ◌++◌, length, map, take, drop, set, cond, true, false, Option, Some, None, slice_get, slice_index, refl, sym, ap, ◌∙◌, subst, arith, append_assoc}
+-- Pieces, and what is written for them, as those behind a table are put in the place of the first ones: section by section (`put_kept`, `put_skip`,
+-- `put_enter`, `put_leave`), and in a section of code place by place (`put_next`).
+use Rattle.std.proofs.Common.{◌≡◌, ℕ, zero, suc, ◌+◌, ◌≤◌, List, [], ◌∷◌, ◌++◌, length, map, take, drop, set, cond, Bool, true, false, Option, Some, None, slice_get, slice_index, refl, sym, ap, ◌∙◌, subst, arith, append_assoc}
 use Rattle.std.proofs.Math.Seq.{set-append_seam}
 use Rattle.std.proofs.lemmas.List.{append-nil, drop_all, drop_more, length-append, length-map, length-take, map-append, take_all}
 use Rattle.std.proofs.lemmas.Option.{get_or_from_slice_get, none-some, same_Some, slice_get_within}
 use Rattle.std.specs.List.{sum_by}
+use Rattle.std.specs.Option.{option_and_then}
 use Rattle.zc_base.specs.declared.place.Place.{Place}
-use Rattle.elf32_read.specs.Parts.{SectionParts, is_code_section}
+use Rattle.elf32_read.specs.Parts.{is_code_section}
+use Rattle.psabi_sym.specs.Fixed.{is_fixed_at}
 use Rattle.psabi_sym.specs.Inputs.{Inputs, ParsedInputs, parsed}
 use Rattle.psabi_sym.specs.Indexed.{IndexedSection, all_sections}
-use Rattle.block_cut.specs.Items.{is_start_at, place_of, places_of}
+use Rattle.block_cut.specs.Items.{is_start_at, item_at, place_of, places_of, starts_in}
 use Rattle.block_cut.specs.Places.{IsPlaceNumber}
 use Rattle.block_cut.specs.declared.code_place.CodePlace.{CodePlace}
 use Rattle.block_cut.specs.declared.place_number.PlaceNumber.{PlaceNumber}
 use Rattle.shrink_layout.specs.Invariants.Made.{AreHalvesOf, ArePiecesOf, ArePut, ArePutIn, owners_in, places_held}
 use Rattle.shrink_layout.specs.Invariants.Numbers.{AreFirstNumbers, IsHalfAt}
 use Rattle.shrink_layout.specs.Invariants.Slots.{first_piece, first_unit}
-use Rattle.shrink_layout.specs.Pieces.{piece_at, piece_count, piece_number_at, pieces_by, pieces_in, pieces_of, section_alignment, slot_at, unit_at}
-use Rattle.shrink_layout.specs.Units.{CodeUnit, front_size, unit_by}
+use Rattle.shrink_layout.specs.Pieces.{piece_at, piece_count, piece_number_at, pieces_by, pieces_in, pieces_of, section_alignment, slot_at, unit_at, unit_piece}
+use Rattle.shrink_layout.specs.Units.{CodeUnit, front_size, role_unit, unit_by}
 use Rattle.shrink_layout.specs.declared.piece.Piece.{Piece}
 use Rattle.shrink_layout.specs.declared.piece.Piece.TheVariants.{Align, Fixed}
 use Rattle.shrink_layout.specs.declared.pieces.Pieces.{Pieces}
 use Rattle.shrink_layout.proofs.HalfLaws.{length-halves}
 use Rattle.shrink_layout.proofs.NumberLaws.{behind, laid_in, length-laid_in, section_laid}
 use Rattle.shrink_layout.proofs.PlaceNumberLaws.{start_at, start_told, starts_count}
+use Rattle.frame_match.specs.Groups.{role_at}
+use Rattle.shrink_layout.proofs.SiteLaws.{site-fixed, slot_nowhere}
 use Rattle.shrink_layout.proofs.SectionLaws.{flat_next, held_next}
 
 -- what is dropped up to an element begins with it
@@ -47,14 +51,14 @@ halves_set (owner ∷ owners) (h ∷ halves) (suc k) o half are is = (are.0, hal
 -- ---- what is laid as pieces are
 
 -- lists of which a part is new and the rest is old
-module _ {X : Type 0} (first : X) (pad : SectionParts → X) (old new : Place → X) (all : List IndexedSection) (k : ℕ) (l : IndexedSection) where
+module _ {X : Type 0} (first : X) (pad : IndexedSection → X) (old new : Place → X) (all : List IndexedSection) (k : ℕ) (l : IndexedSection) where
   -- up to the section
   abbrev pub put_to : List X
   put_to = first ∷ (laid_in pad new (take k all) ++ laid_in pad old (drop k all))
 
   -- up to the last of some places in the section, and from the first of the others on
   abbrev pub put_in : List Place → List Place → List X
-  put_in before after = first ∷ (laid_in pad new (take k all) ++ pad l.section ∷ (map new before ++ (map old after ++ laid_in pad old (drop (k + 1) all))))
+  put_in before after = first ∷ (laid_in pad new (take k all) ++ pad l ∷ (map new before ++ (map old after ++ laid_in pad old (drop (k + 1) all))))
 
   -- up to the next section
   abbrev pub put_past : List X
@@ -66,7 +70,7 @@ module _ {X : Type 0} (first : X) (pad : SectionParts → X) (old new : Place �
       let rest = laid_in pad old (drop (k + 1) all) in
       omega (
         arith,
-        length-append (laid_in pad new (take k all)) (pad l.section ∷ (map new before ++ (map old after ++ rest))),
+        length-append (laid_in pad new (take k all)) (pad l ∷ (map new before ++ (map old after ++ rest))),
         length-laid_in pad new (take k all),
         length-append (map new before) (map old after ++ rest),
         length-map before new,
@@ -77,7 +81,7 @@ module _ {X : Type 0} (first : X) (pad : SectionParts → X) (old new : Place �
 
   module _ (before : List Place) (q : Place) (after : List Place) where
     abbrev pub put_front : List X
-    put_front = (first ∷ laid_in pad new (take k all)) ++ pad l.section ∷ map new before
+    put_front = (first ∷ laid_in pad new (take k all)) ++ pad l ∷ map new before
 
     abbrev pub put_back : List X
     put_back = map old after ++ laid_in pad old (drop (k + 1) all)
@@ -85,19 +89,19 @@ module _ {X : Type 0} (first : X) (pad : SectionParts → X) (old new : Place �
     front_long : length put_front ≡ 1 + sum_by piece_count (take k all) + 1 + length before
     front_long = omega (
       arith,
-      length-append (first ∷ laid_in pad new (take k all)) (pad l.section ∷ map new before),
+      length-append (first ∷ laid_in pad new (take k all)) (pad l ∷ map new before),
       length-laid_in pad new (take k all),
       length-map before new,
     )
 
     here : put_in before (q ∷ after) ≡ put_front ++ old q ∷ put_back
-    here = sym (append_assoc (first ∷ laid_in pad new (take k all)) (pad l.section ∷ map new before) (old q ∷ put_back))
+    here = sym (append_assoc (first ∷ laid_in pad new (take k all)) (pad l ∷ map new before) (old q ∷ put_back))
 
     there : put_in (before ++ q ∷ []) after ≡ put_front ++ new q ∷ put_back
     there =
-        ap (λ xs. (first ∷ laid_in pad new (take k all)) ++ pad l.section ∷ xs)
+        ap (λ xs. (first ∷ laid_in pad new (take k all)) ++ pad l ∷ xs)
         (ap (λ xs. xs ++ put_back) (map-append new before (q ∷ [])) ∙ append_assoc (map new before) (new q ∷ []) put_back)
-        ∙ sym (append_assoc (first ∷ laid_in pad new (take k all)) (pad l.section ∷ map new before) (new q ∷ put_back))
+        ∙ sym (append_assoc (first ∷ laid_in pad new (take k all)) (pad l ∷ map new before) (new q ∷ put_back))
 
     module _ (number : ℕ) (stands : number ≡ 1 + sum_by piece_count (take k all) + 1 + length before) where
       long : number ≡ length put_front
@@ -112,19 +116,25 @@ module _ {X : Type 0} (first : X) (pad : SectionParts → X) (old new : Place �
       put_next = (λ j. set (here j) (long j) (new q)) ∙ set-append_seam put_front (old q) put_back (new q) ∙ sym there
 
   module _ (is : slice_get all k ≡ Some l) where
+    -- a section of which nothing is new
+    pub put_kept : section_laid pad old l ≡ section_laid pad new l → put_to ≡ put_past
+    put_kept same =
+        let front = laid_in pad new (take k all) in
+        let rest = laid_in pad old (drop (k + 1) all) in
+        ap (λ xs. first ∷ xs)
+        (ap (λ xs. front ++ xs) (ap (laid_in pad old) (drop_at all k l is) ∙ ap (λ xs. xs ++ rest) same)
+        ∙ sym (append_assoc front (section_laid pad new l) rest)
+        ∙ ap (λ xs. xs ++ rest) (sym (flat_next (section_laid pad new) all k l is)))
+
     -- a section without code has nothing
     pub put_skip : is_code_section l.section ≡ false → put_to ≡ put_past
     put_skip other =
-        let none : (f : Place → X) → section_laid pad f l ≡ [] = λ f. ap (λ b. cond b (pad l.section ∷ map f (places_of l)) []) other in
-        let before : laid_in pad new (take (k + 1) all) ≡ laid_in pad new (take k all) =
-        flat_next (section_laid pad new) all k l is ∙ ap (λ xs. laid_in pad new (take k all) ++ xs) (none new) ∙ append-nil (laid_in pad new (take k all)) in
-        let after : laid_in pad old (drop k all) ≡ laid_in pad old (drop (k + 1) all) =
-        ap (laid_in pad old) (drop_at all k l is) ∙ ap (λ xs. xs ++ laid_in pad old (drop (k + 1) all)) (none old) in
-        λ j. first ∷ (sym before j ++ after j)
+        let none : (f : Place → X) → section_laid pad f l ≡ [] = λ f. ap (λ b. cond b (pad l ∷ map f (places_of l)) []) other in
+        put_kept (none old ∙ sym (none new))
 
     module _ (code : is_code_section l.section ≡ true) where
-      own : (f : Place → X) → section_laid pad f l ≡ pad l.section ∷ map f (places_of l)
-      own f = ap (λ b. cond b (pad l.section ∷ map f (places_of l)) []) code
+      own : (f : Place → X) → section_laid pad f l ≡ pad l ∷ map f (places_of l)
+      own f = ap (λ b. cond b (pad l ∷ map f (places_of l)) []) code
 
       pub put_enter : put_to ≡ put_in [] (places_of l)
       put_enter =
@@ -135,7 +145,7 @@ module _ {X : Type 0} (first : X) (pad : SectionParts → X) (old new : Place �
       put_leave =
           let rest = laid_in pad old (drop (k + 1) all) in
           ap (λ xs. first ∷ xs)
-          (sym (append_assoc (laid_in pad new (take k all)) (pad l.section ∷ map new (places_of l)) rest)
+          (sym (append_assoc (laid_in pad new (take k all)) (pad l ∷ map new (places_of l)) rest)
           ∙ ap (λ xs. xs ++ rest) (ap (λ xs. laid_in pad new (take k all) ++ xs) (sym (own new)) ∙ sym (flat_next (section_laid pad new) all k l is)))
 
 -- ---- all pieces
@@ -162,6 +172,44 @@ last_pieces inputs slots k made le put =
           ((λ j. owners (taken j) ++ owners_in inputs (slot_at inputs []) (left j)) ∙ append-nil (owners all)) put.halves_are;
     }
 
+-- ---- fixed sections
+
+module _ (inputs : ParsedInputs) (slots : List (Option Place)) (l : IndexedSection) (fixed : is_fixed_at inputs l.object l.index ≡ true) where
+  -- no jump or call of a fixed section has a slot
+  no_slots : (n : ℕ) → slot_at inputs [] (place_of l n) ≡ slot_at inputs slots (place_of l n)
+  no_slots n =
+      let none = site-fixed inputs (place_of l n) fixed in
+      slot_nowhere inputs [] (place_of l n) none ∙ sym (slot_nowhere inputs slots (place_of l n) none)
+
+  -- so what is written there is the same with any slots
+  same_units : (n : ℕ) → unit_by inputs (slot_at inputs []) (place_of l n) ≡ unit_by inputs (slot_at inputs slots) (place_of l n)
+  same_units n = ap (λ o. option_and_then (role_unit o (item_at inputs (place_of l n))) (role_at inputs (place_of l n))) (no_slots n)
+
+  -- and so is what is laid for it
+  kept_laid : {X : Type 0} (pad : IndexedSection → X) (f : Place → Option CodeUnit → X)
+      → section_laid pad (λ q. f q (unit_by inputs (slot_at inputs []) q)) l ≡ section_laid pad (λ q. f q (unit_by inputs (slot_at inputs slots) q)) l
+  kept_laid {X = X} pad f = by (is_code_section l.section)
+    where
+      old : Place → X
+      old q = f q (unit_by inputs (slot_at inputs []) q)
+
+      new : Place → X
+      new q = f q (unit_by inputs (slot_at inputs slots) q)
+
+      places : (ns : List ℕ) → map old (map (place_of l) ns) ≡ map new (map (place_of l) ns)
+      places [] = refl
+      places (n ∷ ns) = λ j. f (place_of l n) (same_units n j) ∷ places ns j
+
+      by : (b : Bool) → cond b (pad l ∷ map old (cond b (map (place_of l) (starts_in l.section)) [])) [] ≡ cond b (pad l ∷ map new (cond b (map (place_of l) (starts_in l.section)) [])) []
+      by true = ap (λ xs. pad l ∷ xs) (places (starts_in l.section))
+      by false = refl
+
+  pub same_pieces : section_laid (λ m. Align (section_alignment inputs m)) (piece_at inputs (slot_at inputs [])) l ≡ section_laid (λ m. Align (section_alignment inputs m)) (piece_at inputs (slot_at inputs slots)) l
+  same_pieces = kept_laid (λ m. Align (section_alignment inputs m)) (unit_piece inputs)
+
+  pub same_owners : section_laid (λ m. None) (unit_by inputs (slot_at inputs [])) l ≡ section_laid (λ m. None) (unit_by inputs (slot_at inputs slots)) l
+  same_owners = kept_laid (λ m. None) (λ q u. u)
+
 -- ---- a place more
 
 module _ (inputs : Inputs) (starts : List ℕ) (are : AreFirstNumbers (parsed inputs).objects starts) (slots : List (Option Place)) (k : ℕ) (l : IndexedSection)
@@ -173,7 +221,7 @@ module _ (inputs : Inputs) (starts : List ℕ) (are : AreFirstNumbers (parsed in
   all_of = all_sections given.objects
 
   abbrev pieces_put : List Place → List Place → List Piece
-  pieces_put before after = put_in (Fixed (front_size slots)) (λ s. Align (section_alignment s)) (piece_at given (slot_at given [])) (piece_at given (slot_at given slots)) all_of k l before after
+  pieces_put before after = put_in (Fixed (front_size slots)) (λ m. Align (section_alignment given m)) (piece_at given (slot_at given [])) (piece_at given (slot_at given slots)) all_of k l before after
 
   abbrev owners_put : List Place → List Place → List (Option CodeUnit)
   owners_put before after = put_in None (λ s. None) (unit_by given (slot_at given [])) (unit_by given (slot_at given slots)) all_of k l before after
@@ -184,7 +232,7 @@ module _ (inputs : Inputs) (starts : List ℕ) (are : AreFirstNumbers (parsed in
     arith,
     length-halves (owners_put before after) made.halves.items so_far.halves_are,
     ap length so_far.pieces_are,
-    put_long (Fixed (front_size slots)) (λ s. Align (section_alignment s)) (piece_at given (slot_at given [])) (piece_at given (slot_at given slots)) all_of k l before after,
+    put_long (Fixed (front_size slots)) (λ m. Align (section_alignment given m)) (piece_at given (slot_at given [])) (piece_at given (slot_at given slots)) all_of k l before after,
     put_long None (λ s. None) (unit_by given (slot_at given [])) (unit_by given (slot_at given slots)) all_of k l before after,
   )
 
@@ -226,7 +274,7 @@ module _ (inputs : Inputs) (starts : List ℕ) (are : AreFirstNumbers (parsed in
     pub first_there : slice_get made.pieces.items (piece_number_at given.objects q) ≡ Some (first_piece given q)
     first_there =
         ap (λ ps. slice_get ps (piece_number_at given.objects q)) (so_far.pieces_are ∙ ap (pieces_put before) todo)
-        ∙ put_got (Fixed (front_size slots)) (λ s. Align (section_alignment s)) (piece_at given (slot_at given [])) (piece_at given (slot_at given slots)) all_of k l before q after
+        ∙ put_got (Fixed (front_size slots)) (λ m. Align (section_alignment given m)) (piece_at given (slot_at given [])) (piece_at given (slot_at given slots)) all_of k l before q after
         (piece_number_at given.objects q) placed
 
     -- the new piece is put in its place
@@ -241,7 +289,7 @@ module _ (inputs : Inputs) (starts : List ℕ) (are : AreFirstNumbers (parsed in
         record {
           pieces_are = pieces
               ∙ ap (λ ps. set ps n (new q)) (so_far.pieces_are ∙ ap (pieces_put before) todo)
-              ∙ put_next (Fixed (front_size slots)) (λ s. Align (section_alignment s)) (piece_at given (slot_at given [])) new all_of k l before q after n placed
+              ∙ put_next (Fixed (front_size slots)) (λ m. Align (section_alignment given m)) (piece_at given (slot_at given [])) new all_of k l before q after n placed
               ∙ ap (λ qs. pieces_put qs after) (sym done);
           halves_are = subst (λ os. AreHalvesOf os next.halves.items)
               (put_next None (λ s. None) (unit_by given (slot_at given [])) unit all_of k l before q after n placed ∙ ap (λ qs. owners_put qs after) (sym done))

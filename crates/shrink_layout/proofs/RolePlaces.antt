@@ -231,7 +231,7 @@ module _ (inputs : Inputs) (none : gather_fault inputs ≡ None) where
           let behind_it = rest j.0 j.1 starts more in
           let nothing : unit_at given slots next ≡ None = unit-inside given (slot_at given slots) next (role-code given next s here starts ∙ first) in
           one_before slots q next left (after_items given.objects (suc left) next) (number_next inputs none q i is)
-          (place_piece inputs none slots next j.0 j.1 ∙ ap (λ o. Some (unit_piece given.objects o)) nothing) behind_it
+          (place_piece inputs none slots next j.0 j.1 ∙ ap (λ o. Some (unit_piece given next o)) nothing) behind_it
 
   -- from where something is written on
   pub behind_unit : (slots : List (Option Place)) (q : Place) (u : CodeUnit) → unit_at given slots q ≡ Some u → IsBehind given slots q (after_items given.objects (unit_items u) q) (unit_items u)

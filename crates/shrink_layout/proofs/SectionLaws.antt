@@ -122,7 +122,7 @@ module _ (inputs : Inputs) (none : gather_fault inputs ≡ None) where
     -- a section that isn't code adds no pieces
     pub none_next : (slot : Place → Option ℕ) → is_code_section l.section ≡ false → pieces_in given slot (take k all) ≡ pieces_in given slot (take (k + 1) all)
     none_next slot other =
-        let own : section_pieces given slot l ≡ [] = ap (λ b. cond b (Align (section_alignment l.section) ∷ map (piece_at given slot) (places_of l)) []) other in
+        let own : section_pieces given slot l ≡ [] = ap (λ b. cond b (Align (section_alignment given l) ∷ map (piece_at given slot) (places_of l)) []) other in
         sym (flat_next (section_pieces given slot) all k l is ∙ ap (λ ps. pieces_in given slot (take k all) ++ ps) own ∙ append-nil (pieces_in given slot (take k all)))
 
     pub no_owners_next : (slot : Place → Option ℕ) → is_code_section l.section ≡ false → owners_in given slot (take k all) ≡ owners_in given slot (take (k + 1) all)
@@ -141,11 +141,11 @@ module _ (inputs : Inputs) (none : gather_fault inputs ≡ None) where
 
     -- a section of code adds its padding and the pieces of its places
     pub some_next : (slot : Place → Option ℕ) → is_code_section l.section ≡ true
-        → (pieces_in given slot (take k all) ++ Align (section_alignment l.section) ∷ []) ++ map (piece_at given slot) (places_of l)
+        → (pieces_in given slot (take k all) ++ Align (section_alignment given l) ∷ []) ++ map (piece_at given slot) (places_of l)
         ≡ pieces_in given slot (take (k + 1) all)
     some_next slot code =
         let front = pieces_in given slot (take k all) in
-        let pad = Align (section_alignment l.section) in
+        let pad = Align (section_alignment given l) in
         let own : section_pieces given slot l ≡ pad ∷ map (piece_at given slot) (places_of l) = ap (λ b. cond b (pad ∷ map (piece_at given slot) (places_of l)) []) code in
         append_assoc front (pad ∷ []) (map (piece_at given slot) (places_of l))
         ∙ sym (flat_next (section_pieces given slot) all k l is ∙ ap (λ ps. front ++ ps) own)

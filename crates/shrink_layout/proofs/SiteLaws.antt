@@ -6,13 +6,15 @@ use Rattle.std.proofs.lemmas.Bool.{and_parts, eqb-true, ltb-true}
 use Rattle.std.proofs.lemmas.Option.{none-some, same_Some, slice_get-map}
 use Rattle.zc_base.specs.declared.place.Place.{Place}
 use Rattle.psabi_sym.specs.Faults.{gather_fault}
+use Rattle.psabi_sym.specs.Fixed.{is_fixed_at}
 use Rattle.psabi_sym.specs.Inputs.{Inputs, ParsedInputs, parsed}
 use Rattle.elf32_read.specs.Parts.{ObjectParts}
+use Rattle.rv_decode.specs.declared.instr.Instr.{Instr}
 use Rattle.block_cut.specs.Items.{index_on, is_target_at, item_at, starts_in}
 use Rattle.block_cut.specs.declared.item.Item.{Item}
 use Rattle.block_cut.specs.declared.item.Item.TheVariants as item
 use Rattle.block_cut.proofs.WholeLaws.{code_is_section, code_whole}
-use Rattle.frame_match.specs.Groups.{Spot, op_then, ops_behind, role_at, spot_on}
+use Rattle.frame_match.specs.Groups.{Spot, may_have_groups, op_then, ops_behind, role_at, spot_on}
 use Rattle.frame_match.specs.Read.{op_of}
 use Rattle.frame_match.specs.declared.group.Group.{Group}
 use Rattle.frame_match.specs.declared.role.Role.{Role}
@@ -20,13 +22,14 @@ use Rattle.frame_match.specs.declared.role.Role.TheVariants.{Alone, First, Insid
 use Rattle.frame_match.proofs.GroupLaws.{group_starts}
 use Rattle.shrink_layout.specs.Forms.{IsForm, width}
 use Rattle.shrink_layout.specs.Invariants.Sites.{is_four}
-use Rattle.shrink_layout.specs.Pieces.{first_sizes, is_short_jump, jump_piece, piece_number_at, piece_of, pieces_by, pieces_of, site_at, site_only, slot_at, unit_at, unit_piece}
+use Rattle.shrink_layout.specs.Pieces.{first_sizes, item_piece_at, piece_number_at, pieces_by, pieces_of, site_at, site_only, slot_at, unit_at, unit_piece}
 use Rattle.shrink_layout.specs.Settled.{settled_addresses, settled_size, settled_sizes}
 use Rattle.shrink_layout.specs.Units.{CodeUnit, OneGroup, OneItem, OneSite, item_unit, jump_of, slot_for, unit_by}
 use Rattle.shrink_layout.specs.declared.piece.Piece.TheVariants.{WithOthers}
 use Rattle.shrink_layout.proofs.GroupAddresses.{piece_form, unit_ends}
 use Rattle.shrink_layout.proofs.NumberLaws.{behind, place_piece, starts_cut}
 use Rattle.shrink_layout.proofs.PlaceAddressLaws.{size_nowhere, size_there}
+use Rattle.shrink_layout.proofs.PremiseLaws.{here_case}
 use Rattle.shrink_layout.proofs.RolePlaces.{own, role-code, role_there}
 use Rattle.shrink_layout.proofs.TargetLaws.{LeadsWell}
 use Rattle.shrink_layout.proofs.UnitLaws.{role_found, unit-alone, unit-first, unit-inside, unit_item}
@@ -48,7 +51,7 @@ pub record IsSite (inputs : ParsedInputs) (q : Place) (jump : ℕ × Place) : Ty
 
 pub site_found : (inputs : ParsedInputs) (q : Place) (jump : ℕ × Place) → site_at inputs q ≡ Some jump → IsSite inputs q jump
 unfolding site_at
-site_found inputs q jump h = items (item_at inputs q) refl h
+site_found inputs q jump h = fixed (is_fixed_at inputs q.object q.section) refl h
   where
     size : ℕ
     size = slice_index (first_sizes inputs) (piece_number_at inputs.objects q)
@@ -74,6 +77,10 @@ site_found inputs q jump h = items (item_at inputs q) refl h
     items : (o : Option Item) → item_at inputs q ≡ o → option_and_then (site_only size) (option_and_then jump_of o) ≡ Some jump → IsSite inputs q jump
     items None is h = absurd (none-some jump h)
     items (Some i) is h = jumps i is (jump_of i) refl h
+
+    fixed : (b : Bool) → is_fixed_at inputs q.object q.section ≡ b → cond b None (option_and_then (site_only size) (option_and_then jump_of (item_at inputs q))) ≡ Some jump → IsSite inputs q jump
+    fixed true at h = absurd (none-some jump h)
+    fixed false at h = items (item_at inputs q) refl h
 
 -- a slot at a place is that of a site there
 pub record HasSlot (inputs : ParsedInputs) (slots : List (Option Place)) (q : Place) (n : ℕ) : Type 0 where
@@ -141,9 +148,13 @@ module _ (inputs : Inputs) (none : gather_fault inputs ≡ None) (q : Place) (ju
   not_inside : role_at given q ≡ Some Inside → ⊥
   not_inside inside =
       let piece : slice_get (pieces_of given []) (piece_number_at given.objects q) ≡ Some (WithOthers 0) =
-      place_piece inputs none [] q is.item is.is ∙ ap (λ o. Some (unit_piece given.objects o)) (unit-inside given (slot_at given []) q inside) in
+      place_piece inputs none [] q is.item is.is ∙ ap (λ o. Some (unit_piece given q o)) (unit-inside given (slot_at given []) q inside) in
       let size : IsForm (WithOthers 0) (slice_index (settled_sizes given []) (piece_number_at given.objects q)) = piece_form given [] (piece_number_at given.objects q) (WithOthers 0) piece in
       omega (arith, size, is.size, ap (λ sizes. slice_index sizes (piece_number_at given.objects q)) (first_settled given))
+
+  either_none : (b : Bool) → cond {A = Option Instr} b None None ≡ None
+  either_none true = refl
+  either_none false = refl
 
   -- nor the first of one, whose first item is an instruction without relocation
   not_first : (g : Group) → role_at given q ≡ Some (First g) → ⊥
@@ -158,7 +169,8 @@ module _ (inputs : Inputs) (none : gather_fault inputs ≡ None) (q : Place) (ju
       let got : slice_get (starts_in s) n ≡ Some q.offset = ap (λ ns. slice_get ns n) cut.are ∙ behind (filter (λ m. ltb m q.offset) (starts_in s)) q.offset cut.rest in
       let there : slice_get spots n ≡ Some (spot_on given (own q s) q.offset) = slice_get-map (spot_on given (own q s)) (starts_in s) n ∙ ap (option_map (spot_on given (own q s))) got in
       let same : spot_on given (own q s) q.offset ≡ starts.spot = same_Some _ starts.spot (sym there ∙ drop_got spots n starts.spot starts.rest starts.here) in
-      let op : starts.spot.op ≡ None = ap (λ (x : Spot). x.op) (sym same) ∙ ap (option_and_then op_of) is.is ∙ no_op in
+      let may = may_have_groups given q.object q.section in
+      let op : starts.spot.op ≡ None = ap (λ (x : Spot). x.op) (sym same) ∙ ap (λ o. cond may o None) (ap (option_and_then op_of) is.is ∙ no_op) ∙ either_none may in
       omega (arith, starts.sized.least, starts.sized.within, ap (λ o. length (op_then o (ops_behind starts.rest))) op)
 
   -- a site is written by itself, or through the table if it has a slot
@@ -176,25 +188,39 @@ module _ (inputs : Inputs) (none : gather_fault inputs ≡ None) (q : Place) (ju
 -- ---- by what is found
 
 module _ (inputs : ParsedInputs) (q : Place) where
-  -- where no item starts there is none
-  pub site-no_item : item_at inputs q ≡ None → site_at inputs q ≡ None
+  -- in a fixed section there is none
+  pub site-fixed : is_fixed_at inputs q.object q.section ≡ true → site_at inputs q ≡ None
   unfolding site_at
-  site-no_item is = ap (λ o. option_and_then (site_only (slice_index (first_sizes inputs) (piece_number_at inputs.objects q))) (option_and_then jump_of o)) is
+  site-fixed fixed =
+      ap (λ b. cond b None (option_and_then (site_only (slice_index (first_sizes inputs) (piece_number_at inputs.objects q))) (option_and_then jump_of (item_at inputs q)))) fixed
+
+  -- in another it goes by the jump or call there
+  abbrev by_jump : Option (ℕ × Place) → Option (ℕ × Place)
+  by_jump o = cond (is_fixed_at inputs q.object q.section) None (option_and_then (site_only (slice_index (first_sizes inputs) (piece_number_at inputs.objects q))) o)
+
+  pub site-by : (o : Option (ℕ × Place)) → option_and_then jump_of (item_at inputs q) ≡ o → site_at inputs q ≡ by_jump o
+  unfolding site_at
+  site-by o is = ap by_jump is
+
+  -- where there is no jump or call there is none
+  pub site-no_jump_there : option_and_then jump_of (item_at inputs q) ≡ None → site_at inputs q ≡ None
+  site-no_jump_there other = site-by None other ∙ by (is_fixed_at inputs q.object q.section)
+    where
+      by : (b : Bool) → cond {A = Option (ℕ × Place)} b None None ≡ None
+      by true = refl
+      by false = refl
+
+  -- nor where no item starts
+  pub site-no_item : item_at inputs q ≡ None → site_at inputs q ≡ None
+  site-no_item is = site-no_jump_there (ap (option_and_then jump_of) is)
 
   -- nor at an item that is no jump or call
   pub site-no_jump : (i : Item) → item_at inputs q ≡ Some i → jump_of i ≡ None → site_at inputs q ≡ None
-  unfolding site_at
-  site-no_jump i is other =
-      ap (λ o. option_and_then (site_only (slice_index (first_sizes inputs) (piece_number_at inputs.objects q))) (option_and_then jump_of o)) is
-      ∙ ap (option_and_then (site_only (slice_index (first_sizes inputs) (piece_number_at inputs.objects q)))) other
+  site-no_jump i is other = site-no_jump_there (ap (option_and_then jump_of) is ∙ other)
 
   -- else it goes by its size and its register
-  site-jump : (i : Item) (jump : ℕ × Place) → item_at inputs q ≡ Some i → jump_of i ≡ Some jump
-      → site_at inputs q ≡ site_only (slice_index (first_sizes inputs) (piece_number_at inputs.objects q)) jump
-  unfolding site_at
-  site-jump i jump is leads =
-      ap (λ o. option_and_then (site_only (slice_index (first_sizes inputs) (piece_number_at inputs.objects q))) (option_and_then jump_of o)) is
-      ∙ ap (option_and_then (site_only (slice_index (first_sizes inputs) (piece_number_at inputs.objects q)))) leads
+  site-jump : (i : Item) (jump : ℕ × Place) → item_at inputs q ≡ Some i → jump_of i ≡ Some jump → site_at inputs q ≡ by_jump (Some jump)
+  site-jump i jump is leads = site-by (Some jump) (ap (option_and_then jump_of) is ∙ leads)
 
 -- where a jump or call leads
 pub jump_target : (objects : List ObjectParts) (i : Item) (jump : ℕ × Place) → jump_of i ≡ Some jump → LeadsWell objects i → is_target_at objects jump.1 ≡ true
@@ -220,29 +246,15 @@ module _ (inputs : Inputs) (none : gather_fault inputs ≡ None) (q : Place) (i 
   number = piece_number_at own_inputs.objects q
 
   -- a jump is never padding, so it takes its size
-  jump_width : (to : Place) (b : Bool) (size at : ℕ) → width (jump_piece own_inputs.objects to b) size at ≡ size
-  jump_width to true size at = refl
-  jump_width to false size at = refl
+  item_width : (j : Item) → item_at own_inputs q ≡ Some j → (size at : ℕ) → jump_of j ≡ Some jump → width (item_piece_at own_inputs q j) size at ≡ size
+  item_width j there size at h =
+      here_case own_inputs [] q j there (λ p. width p size at ≡ size) refl refl refl (λ to b. refl) (λ to. refl)
+      (λ bytes e. absurd (none-some jump (ap jump_of (sym e) ∙ h)))
 
-  item_width : (j : Item) (size at : ℕ) → jump_of j ≡ Some jump → width (piece_of own_inputs.objects j) size at ≡ size
-  item_width (item.Op j) size at h = refl
-  item_width (item.Hi j t) size at h = refl
-  item_width (item.Lo j t) size at h = refl
-  item_width (item.PcHi j t) size at h = refl
-  item_width (item.PcLo j from) size at h = refl
-  item_width (item.Branch op first second to) size at h = refl
-  item_width (item.Jump rd to) size at h = jump_width to (is_short_jump rd) size at
-  item_width (item.Call rd temp to) size at h = jump_width to (is_short_jump rd) size at
-  item_width (item.Align bytes) size at h = absurd (none-some jump h)
-  item_width (item.Word t) size at h = refl
-  item_width (item.Raw word) size at h = refl
-  item_width (item.RawShort half) size at h = refl
-  item_width (item.RawPair first second) size at h = refl
-
-  unit_width : (u : CodeUnit) (size at : ℕ) → unit_at own_inputs [] q ≡ Some u → width (unit_piece own_inputs.objects (Some u)) size at ≡ size
+  unit_width : (u : CodeUnit) (size at : ℕ) → unit_at own_inputs [] q ≡ Some u → width (unit_piece own_inputs q (Some u)) size at ≡ size
   unit_width (OneItem j) size at here =
-      let same : i ≡ j = same_Some i j (sym is ∙ (unit_item own_inputs (slot_at own_inputs []) q j here).1) in
-      item_width j size at (ap jump_of (sym same) ∙ leads)
+      let there = (unit_item own_inputs (slot_at own_inputs []) q j here).1 in
+      item_width j there size at (ap jump_of (sym (same_Some i j (sym is ∙ there))) ∙ leads)
   unit_width (OneGroup g) size at here = refl
   unit_width (OneSite n) size at here = refl
 
@@ -255,7 +267,7 @@ module _ (inputs : Inputs) (none : gather_fault inputs ≡ None) (q : Place) (i 
       by (First g) at = absurd (none-some _ (sym nothing ∙ unit-first own_inputs (slot_at own_inputs []) q g at))
       by Inside at =
           let piece : slice_get (pieces_of own_inputs []) number ≡ Some (WithOthers 0) =
-          place_piece inputs none [] q i is ∙ ap (λ o. Some (unit_piece own_inputs.objects o)) (unit-inside own_inputs (slot_at own_inputs []) q at) in
+          place_piece inputs none [] q i is ∙ ap (λ o. Some (unit_piece own_inputs q o)) (unit-inside own_inputs (slot_at own_inputs []) q at) in
           piece_form own_inputs [] number (WithOthers 0) piece
 
   -- the jump takes four bytes without a table just where the layout says so
@@ -270,6 +282,8 @@ module _ (inputs : Inputs) (none : gather_fault inputs ≡ None) (q : Place) (i 
           let size : slice_index (settled_sizes own_inputs []) number ≡ slice_index (settled_addresses own_inputs []) (number + 1) - slice_index (settled_addresses own_inputs []) number = omega (arith, ends, w) in
           ap (λ n. eqb n 4) size ∙ sym (ap is_four (size_there own_inputs [] q u at))
 
-  -- there is a site by the jump's size and register
-  pub site_by_size : site_at own_inputs q ≡ cond (is_four (settled_size own_inputs [] q) && ltb jump.0 2) (Some jump) None
-  site_by_size = site-jump own_inputs q i jump is leads ∙ ap (λ b. cond (b && ltb jump.0 2) (Some jump) None) jump_four
+  -- there is a site by the jump's size and register, unless the section is fixed
+  pub site_by_size : site_at own_inputs q ≡ cond (is_fixed_at own_inputs q.object q.section) None (cond (is_four (settled_size own_inputs [] q) && ltb jump.0 2) (Some jump) None)
+  site_by_size =
+      site-jump own_inputs q i jump is leads
+      ∙ ap (λ b. cond (is_fixed_at own_inputs q.object q.section) None (cond (b && ltb jump.0 2) (Some jump) None)) jump_four

@@ -11,8 +11,9 @@ use Rattle.zc_base.specs.declared.place.Place.{Place}
 use Rattle.zc_base.proofs.PlaceLaws.{same_place-refl}
 use Rattle.elf32_read.specs.Parts.{ObjectParts}
 use Rattle.psabi_sym.specs.Faults.{gather_fault}
+use Rattle.psabi_sym.specs.Fixed.{is_fixed_at}
 use Rattle.psabi_sym.specs.Inputs.{Inputs, ParsedInputs, parsed}
-use Rattle.block_cut.specs.Items.{is_target_at, item_at}
+use Rattle.block_cut.specs.Items.{is_target_at, item_at, size_at}
 use Rattle.block_cut.specs.declared.item.Item.{Item}
 use Rattle.block_cut.specs.declared.item.Item.TheVariants as item
 use Rattle.block_cut.proofs.LedLaws.{same_is}
@@ -20,7 +21,7 @@ use Rattle.frame_match.specs.Groups.{role_at}
 use Rattle.zc_encode.specs.Halves.{jump_half}
 use Rattle.shrink_layout.specs.Invariants.Sites.{is_four}
 use Rattle.shrink_layout.specs.Invariants.Slots.{AreFirstSlots, first_piece, put_unit}
-use Rattle.shrink_layout.specs.Pieces.{first_sizes, is_short_jump, jump_piece, piece_number_at, piece_of, site_at, site_only, slot_at, unit_at, unit_piece}
+use Rattle.shrink_layout.specs.Pieces.{is_short_jump, item_piece_at, jump_piece, kept_piece, piece_number_at, piece_of, site_at, slot_at, unit_at, unit_piece}
 use Rattle.shrink_layout.specs.Settled.{settled_size, settled_widths}
 use Rattle.shrink_layout.specs.Units.{CodeUnit, OneGroup, OneItem, OneSite, item_unit, jump_of, role_unit, slot_for, slot_from}
 use Rattle.shrink_layout.specs.declared.piece.Piece.TheVariants.{Jump}
@@ -28,7 +29,7 @@ use Rattle.shrink_layout.proofs.KeptLaws.{width_is}
 use Rattle.shrink_layout.proofs.NumberLaws.{number_below}
 use Rattle.shrink_layout.proofs.OrderLaws.{numbers_apart}
 use Rattle.shrink_layout.proofs.PlaceAddressLaws.{size_there}
-use Rattle.shrink_layout.proofs.SiteLaws.{site_by_size, site_found, site_unit, slot_found, slot_nowhere}
+use Rattle.shrink_layout.proofs.SiteLaws.{site-no_jump_there, site_by_size, site_found, site_unit, slot_found, slot_nowhere}
 use Rattle.shrink_layout.proofs.UnitLaws.{unit_item}
 
 -- ---- the first slot of each place
@@ -103,10 +104,7 @@ slot_is inputs (slot ∷ slots) q = refl
 
 -- another item has no slot
 pub no_jump_slot : (inputs : ParsedInputs) (slots : List (Option Place)) (q : Place) → option_and_then jump_of (item_at inputs q) ≡ None → slot_at inputs slots q ≡ None
-unfolding site_at
-no_jump_slot inputs slots q other =
-    slot_is inputs slots q
-    ∙ ap (λ o. option_and_then (slot_for slots) (option_and_then (site_only (slice_index (first_sizes inputs) (piece_number_at inputs.objects q))) o)) other
+no_jump_slot inputs slots q other = slot_nowhere inputs slots q (site-no_jump_there inputs q other)
 
 -- ---- the slot of one, by its piece without the table
 
@@ -120,20 +118,20 @@ short_jump (suc (suc n)) =
     ∙ sym (le-ltb (suc (suc n)) 2 (omega arith))
 
 -- the piece of one leads to its target
-piece_of_jump : (objects : List ObjectParts) (i : Item) (jump : ℕ × Place) → jump_of i ≡ Some jump → piece_of objects i ≡ jump_piece objects jump.1 (is_short_jump jump.0)
-piece_of_jump objects (item.Op i) jump leads = absurd (none-some jump leads)
-piece_of_jump objects (item.Hi i t) jump leads = absurd (none-some jump leads)
-piece_of_jump objects (item.Lo i t) jump leads = absurd (none-some jump leads)
-piece_of_jump objects (item.PcHi i t) jump leads = absurd (none-some jump leads)
-piece_of_jump objects (item.PcLo i q) jump leads = absurd (none-some jump leads)
-piece_of_jump objects (item.Branch op first second to) jump leads = absurd (none-some jump leads)
-piece_of_jump objects (item.Jump rd to) jump leads = ap (λ (x : ℕ × Place). jump_piece objects x.1 (is_short_jump x.0)) (same_Some (rd, to) jump leads)
-piece_of_jump objects (item.Call rd temp to) jump leads = ap (λ (x : ℕ × Place). jump_piece objects x.1 (is_short_jump x.0)) (same_Some (rd, to) jump leads)
-piece_of_jump objects (item.Align bytes) jump leads = absurd (none-some jump leads)
-piece_of_jump objects (item.Word t) jump leads = absurd (none-some jump leads)
-piece_of_jump objects (item.Raw word) jump leads = absurd (none-some jump leads)
-piece_of_jump objects (item.RawShort half) jump leads = absurd (none-some jump leads)
-piece_of_jump objects (item.RawPair first second) jump leads = absurd (none-some jump leads)
+piece_of_jump : (inputs : ParsedInputs) (i : Item) (jump : ℕ × Place) → jump_of i ≡ Some jump → piece_of inputs i ≡ jump_piece inputs.objects jump.1 (is_short_jump jump.0)
+piece_of_jump inputs (item.Op i) jump leads = absurd (none-some jump leads)
+piece_of_jump inputs (item.Hi i t) jump leads = absurd (none-some jump leads)
+piece_of_jump inputs (item.Lo i t) jump leads = absurd (none-some jump leads)
+piece_of_jump inputs (item.PcHi i t) jump leads = absurd (none-some jump leads)
+piece_of_jump inputs (item.PcLo i q) jump leads = absurd (none-some jump leads)
+piece_of_jump inputs (item.Branch op first second to) jump leads = absurd (none-some jump leads)
+piece_of_jump inputs (item.Jump rd to) jump leads = ap (λ (x : ℕ × Place). jump_piece inputs.objects x.1 (is_short_jump x.0)) (same_Some (rd, to) jump leads)
+piece_of_jump inputs (item.Call rd temp to) jump leads = ap (λ (x : ℕ × Place). jump_piece inputs.objects x.1 (is_short_jump x.0)) (same_Some (rd, to) jump leads)
+piece_of_jump inputs (item.Align bytes) jump leads = absurd (none-some jump leads)
+piece_of_jump inputs (item.Word t) jump leads = absurd (none-some jump leads)
+piece_of_jump inputs (item.Raw word) jump leads = absurd (none-some jump leads)
+piece_of_jump inputs (item.RawShort half) jump leads = absurd (none-some jump leads)
+piece_of_jump inputs (item.RawPair first second) jump leads = absurd (none-some jump leads)
 
 module _ (inputs : Inputs) (none : gather_fault inputs ≡ None) (q : Place) where
   abbrev given : ParsedInputs
@@ -151,24 +149,29 @@ module _ (inputs : Inputs) (none : gather_fault inputs ≡ None) (q : Place) whe
           let site = site_found given q slot.jump slot.site in
           site_unit inputs none q slot.jump site (slot_at given slots) ∙ ap (λ m. Some (item_unit m site.item)) at
 
+  -- outside fixed sections the piece of an item is that of its kind
+  free_piece : is_fixed_at given q.object q.section ≡ false → (i : Item) → item_piece_at given q i ≡ piece_of given i
+  free_piece free i = ap (λ b. cond b (kept_piece given (size_at given.objects q) i) (piece_of given i)) free
+
   -- the piece of a site without the table is that of a jump to its target
-  site_piece : (jump : ℕ × Place) → site_at given q ≡ Some jump → first_piece given q ≡ Jump (piece_number_at given.objects jump.1)
+  site_piece : is_fixed_at given q.object q.section ≡ false → (jump : ℕ × Place) → site_at given q ≡ Some jump → first_piece given q ≡ Jump (piece_number_at given.objects jump.1)
   unfolding slot_at
-  site_piece jump at =
+  site_piece free jump at =
       let site = site_found given q jump at in
-      ap (unit_piece given.objects) (site_unit inputs none q jump site (slot_at given []))
-      ∙ piece_of_jump given.objects site.item jump site.leads
+      ap (unit_piece given q) (site_unit inputs none q jump site (slot_at given []))
+      ∙ free_piece free site.item
+      ∙ piece_of_jump given site.item jump site.leads
       ∙ ap (jump_piece given.objects jump.1) (short_jump jump.0 ∙ lt-ltb jump.0 2 site.links)
 
   -- where the piece is another one, there is no slot
-  pub slot_elsewhere : (slots : List (Option Place)) → ((n : ℕ) → first_piece given q ≡ Jump n → ⊥) → slot_at given slots q ≡ None
-  slot_elsewhere slots other = by (site_at given q) refl
+  pub slot_elsewhere : is_fixed_at given q.object q.section ≡ false → (slots : List (Option Place)) → ((n : ℕ) → first_piece given q ≡ Jump n → ⊥) → slot_at given slots q ≡ None
+  slot_elsewhere free slots other = by (site_at given q) refl
     where
       by : (o : Option (ℕ × Place)) → site_at given q ≡ o → slot_at given slots q ≡ None
       by None at = slot_nowhere given slots q at
-      by (Some jump) at = absurd (other (piece_number_at given.objects jump.1) (site_piece jump at))
+      by (Some jump) at = absurd (other (piece_number_at given.objects jump.1) (site_piece free jump at))
 
-  module _ (i : Item) (is : item_at given q ≡ Some i) (jump : ℕ × Place) (leads : jump_of i ≡ Some jump) (n : ℕ) (piece : first_piece given q ≡ Jump n) where
+  module _ (free : is_fixed_at given q.object q.section ≡ false) (i : Item) (is : item_at given q ≡ Some i) (jump : ℕ × Place) (leads : jump_of i ≡ Some jump) (n : ℕ) (piece : first_piece given q ≡ Jump n) where
     -- where it is, a jump or call is written by itself, which links no register or ra
     pub record IsShortJump : Type 0 where
       pub unit : unit_at given [] q ≡ Some (OneItem i)
@@ -183,11 +186,11 @@ module _ (inputs : Inputs) (none : gather_fault inputs ≡ None) (q : Place) whe
         item true short same = (sym (short_jump jump.0) ∙ short, cc same)
         item false long same = absurd cc
 
-        by : (o : Option CodeUnit) → unit_at given [] q ≡ o → unit_piece given.objects o ≡ Jump n → IsShortJump
+        by : (o : Option CodeUnit) → unit_at given [] q ≡ o → unit_piece given q o ≡ Jump n → IsShortJump
         by None at same = absurd cc
         by (Some (OneItem j)) at same =
             let own : j ≡ i = same_Some j i (sym (unit_item given (slot_at given []) q j at).1 ∙ is) in
-            let two = item (is_short_jump jump.0) refl (sym (piece_of_jump given.objects i jump leads) ∙ ap (piece_of given.objects) (sym own) ∙ same) in
+            let two = item (is_short_jump jump.0) refl (sym (piece_of_jump given i jump leads) ∙ ap (piece_of given) (sym own) ∙ sym (free_piece free j) ∙ same) in
             record { unit = at ∙ ap (λ k. Some (OneItem k)) own; links = two.0; target = two.1 }
         by (Some (OneGroup g)) at same = absurd cc
         by (Some (OneSite m)) at same = absurd cc
@@ -200,7 +203,9 @@ module _ (inputs : Inputs) (none : gather_fault inputs ≡ None) (q : Place) whe
         let four : is_four (settled_size given [] q) ≡ eqb width 4 = ap is_four (size_there given [] q (OneItem i) short_there.unit) ∙ ap (λ k. eqb k 4) (sym taken) in
         slot_is given slots q
         ∙ ap (option_and_then (slot_for slots))
-        (site_by_size inputs none q i is jump leads ∙ (λ k. cond (four k && short_there.links k) (Some jump) None) ∙ and_yes (eqb width 4))
+        (site_by_size inputs none q i is jump leads
+        ∙ (λ k. cond (free k) None (cond (four k && short_there.links k) (Some jump) None))
+        ∙ and_yes (eqb width 4))
       where
         and_yes : (b : Bool) → cond (b && true) (Some jump) None ≡ cond b (Some jump) None
         and_yes true = refl

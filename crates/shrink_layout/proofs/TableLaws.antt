@@ -9,7 +9,7 @@ use Rattle.std.proofs.lemmas.List.Elements.{All-tail, All-weaker, filter-append}
 use Rattle.std.proofs.lemmas.List.Sums.{sum_by-cons}
 use Rattle.std.proofs.lemmas.Option.{none-some, same_Some}
 use Rattle.zc_base.specs.declared.place.Place.{Place}
-use Rattle.elf32_read.specs.Parts.{SectionParts, is_code_section}
+use Rattle.elf32_read.specs.Parts.{is_code_section}
 use Rattle.psabi_sym.specs.Faults.{gather_fault}
 use Rattle.psabi_sym.specs.Inputs.{Inputs, ParsedInputs, parsed}
 use Rattle.psabi_sym.specs.Indexed.{IndexedSection, all_sections, section_at, sections_before}
@@ -36,18 +36,18 @@ use Rattle.shrink_layout.proofs.RoundLaws.{length_forms}
 use Rattle.shrink_layout.proofs.SiteLaws.{first_settled, site_found, slot_found}
 use Rattle.shrink_layout.proofs.SizesLaws.{sizes_forms, sizes_layout}
 use Rattle.shrink_layout.proofs.TablePieces.{AreSites, IsPastFront, marked, table_pays, tabled}
-use Rattle.shrink_layout.proofs.TargetLaws.{item_leads, item_past, no_gather_fault}
+use Rattle.shrink_layout.proofs.TargetLaws.{here_past, item_leads, no_gather_fault}
 use Rattle.shrink_layout.proofs.TargetNumbers.{InFirst, InSecond, IsIn, in_either, start_there}
 use Rattle.shrink_layout.proofs.UnitLaws.{piece_case, unit_site}
 
 -- ---- what is laid with a number
 
 -- what is laid for all code is that of a section's padding, or of a place with the next number
-data IsLaid {X : Type 0} (inputs : ParsedInputs) (pad : SectionParts → X) (f : Place → X) (k : ℕ) (x : X) : Type 0 where
-  Pads : (s : SectionParts) → x ≡ pad s → IsLaid inputs pad f k x
+data IsLaid {X : Type 0} (inputs : ParsedInputs) (pad : IndexedSection → X) (f : Place → X) (k : ℕ) (x : X) : Type 0 where
+  Pads : (l : IndexedSection) → x ≡ pad l → IsLaid inputs pad f k x
   Stands : (q : Place) → piece_number_at inputs.objects q ≡ 1 + k → x ≡ f q → IsLaid inputs pad f k x
 
-module _ (inputs : Inputs) (none : gather_fault inputs ≡ None) {X : Type 0} (pad : SectionParts → X) (f : Place → X) where
+module _ (inputs : Inputs) (none : gather_fault inputs ≡ None) {X : Type 0} (pad : IndexedSection → X) (f : Place → X) where
   abbrev parts : ParsedInputs
   parts = parsed inputs
 
@@ -61,15 +61,15 @@ module _ (inputs : Inputs) (none : gather_fault inputs ≡ None) {X : Type 0} (p
       places : Bool → List Place
       places b = cond b (map (place_of l) (starts_in l.section)) []
 
-      code_there : is_code_section l.section ≡ true → (j : ℕ) → slice_get (pad l.section ∷ map f (map (place_of l) (starts_in l.section))) j ≡ Some x → IsLaid parts pad f (base + j) x
-      code_there code zero h = Pads l.section (sym (same_Some (pad l.section) x h))
+      code_there : is_code_section l.section ≡ true → (j : ℕ) → slice_get (pad l ∷ map f (map (place_of l) (starts_in l.section))) j ≡ Some x → IsLaid parts pad f (base + j) x
+      code_there code zero h = Pads l (sym (same_Some (pad l) x h))
       code_there code (suc i) h =
           let one = got_of f (map (place_of l) (starts_in l.section)) i x h in
           let two = got_of (place_of l) (starts_in l.section) i one.0 one.1 in
           let number : piece_number_at parts.objects one.0 ≡ 1 + (base + suc i) = omega (arith, ap (piece_number_at parts.objects) (sym two.2), start_there inputs none l here code i two.0 two.1) in
           Stands one.0 number (sym one.2)
 
-      by : (b : Bool) → is_code_section l.section ≡ b → slice_get (cond b (pad l.section ∷ map f (places b)) []) j ≡ Some x → IsLaid parts pad f (base + j) x
+      by : (b : Bool) → is_code_section l.section ≡ b → slice_get (cond b (pad l ∷ map f (places b)) []) j ≡ Some x → IsLaid parts pad f (base + j) x
       by true code h = code_there code j h
       by false other h = absurd (none-some x h)
 
@@ -123,7 +123,7 @@ module _ (inputs : ParsedInputs) (slots : List (Option Place)) where
   tabled_piece q = by (slot_at inputs slots q) (item_at inputs q) (role_at inputs q)
     where
       by : (n : Option ℕ) (i : Option Item) (r : Option Role)
-          → cond (is_marked (option_and_then (role_unit n i) r)) (WithOthers 2) (unit_piece inputs.objects (option_and_then (role_unit None i) r)) ≡ unit_piece inputs.objects (option_and_then (role_unit n i) r)
+          → cond (is_marked (option_and_then (role_unit n i) r)) (WithOthers 2) (unit_piece inputs q (option_and_then (role_unit None i) r)) ≡ unit_piece inputs q (option_and_then (role_unit n i) r)
       by n i None = refl
       by n i (Some (First g)) = refl
       by n i (Some Inside) = refl
@@ -144,9 +144,9 @@ module _ (inputs : ParsedInputs) (slots : List (Option Place)) where
   tabled_section : (l : IndexedSection) → tabled (section_laid (λ s. false) mark_at l) (section_pieces inputs (slot_at inputs []) l) ≡ section_pieces inputs (slot_at inputs slots) l
   tabled_section l = by (is_code_section l.section)
     where
-      by : (b : Bool) → tabled (cond b (false ∷ map mark_at (places_of l)) []) (cond b (Align (section_alignment l.section) ∷ map (piece_at inputs (slot_at inputs [])) (places_of l)) [])
-          ≡ cond b (Align (section_alignment l.section) ∷ map (piece_at inputs (slot_at inputs slots)) (places_of l)) []
-      by true = ap (λ ps. Align (section_alignment l.section) ∷ ps) (tabled_places (places_of l))
+      by : (b : Bool) → tabled (cond b (false ∷ map mark_at (places_of l)) []) (cond b (Align (section_alignment inputs l) ∷ map (piece_at inputs (slot_at inputs [])) (places_of l)) [])
+          ≡ cond b (Align (section_alignment inputs l) ∷ map (piece_at inputs (slot_at inputs slots)) (places_of l)) []
+      by true = ap (λ ps. Align (section_alignment inputs l) ∷ ps) (tabled_places (places_of l))
       by false = refl
 
   -- the pieces of sections one after another, with the table's jumps put in
@@ -154,7 +154,7 @@ module _ (inputs : ParsedInputs) (slots : List (Option Place)) where
   tabled_sections [] = refl
   tabled_sections (l ∷ ls) =
       let same : length (section_laid (λ s. false) mark_at l) ≡ length (section_pieces inputs (slot_at inputs []) l) =
-      length-section_laid (λ s. false) mark_at l ∙ sym (length-section_laid (λ s. Align (section_alignment s)) (piece_at inputs (slot_at inputs [])) l) in
+      length-section_laid (λ s. false) mark_at l ∙ sym (length-section_laid (λ m. Align (section_alignment inputs m)) (piece_at inputs (slot_at inputs [])) l) in
       tabled_append (section_laid (λ s. false) mark_at l) (marks_in ls) (section_pieces inputs (slot_at inputs []) l) (pieces_by_slots [] ls) same
       ∙ (λ j. tabled_section l j ++ tabled_sections ls j)
 
@@ -249,7 +249,7 @@ module _ (inputs : Inputs) (none : first_fault inputs ≡ None) (slots : List (O
 
   -- all targets stand past the front
   past_place : (q : Place) → IsPastFront (piece_at given (slot_at given []) q)
-  past_place q = piece_case given (slot_at given []) q IsPastFront tt (λ i is. item_past inputs none i (item_leads inputs none q i is)) (λ g. tt) tt
+  past_place q = piece_case given (slot_at given []) q IsPastFront tt (λ i is. here_past inputs none q i (item_leads inputs none q i is)) (λ g. tt) tt
 
   past_places : (qs : List Place) → Each IsPastFront (map (piece_at given (slot_at given [])) qs)
   past_places [] = tt
@@ -260,7 +260,7 @@ module _ (inputs : Inputs) (none : first_fault inputs ≡ None) (slots : List (O
   past_sections (l ∷ ls) =
       each-append IsPastFront (section_pieces given (slot_at given []) l) (pieces_in given (slot_at given []) ls) (by (is_code_section l.section)) (past_sections ls)
     where
-      by : (b : Bool) → Each IsPastFront (cond b (Align (section_alignment l.section) ∷ map (piece_at given (slot_at given [])) (places_of l)) [])
+      by : (b : Bool) → Each IsPastFront (cond b (Align (section_alignment given l) ∷ map (piece_at given (slot_at given [])) (places_of l)) [])
       by true = (tt, past_places (places_of l))
       by false = tt
 
@@ -298,7 +298,7 @@ module _ (inputs : Inputs) (none : first_fault inputs ≡ None) (slots : List (O
         let forms : AreForms (Fixed 0 ∷ first_pieces) (0 ∷ sizes) = subst (AreForms (Fixed 0 ∷ first_pieces)) are (sizes_forms text (Fixed 0 ∷ first_pieces)) in
         let many = length_forms first_pieces sizes forms.1 in
         let marks_many : length marks ≡ length first_pieces =
-        length-laid_in (λ s. false) (mark_at given slots) all ∙ sym (length-laid_in (λ s. Align (section_alignment s)) (piece_at given (slot_at given [])) all) in
+        length-laid_in (λ s. false) (mark_at given slots) all ∙ sym (length-laid_in (λ l. Align (section_alignment given l)) (piece_at given (slot_at given [])) all) in
         table_pays text (front_size slots) marks first_pieces sizes text_even (front_even slots)
         (All-tail IsEvenPiece (Fixed 0) first_pieces (all_even inputs no_fault []))
         (All-tail IsTight (Fixed 0) first_pieces (all_tight given [] unaligned))

@@ -1,6 +1,6 @@
 -- Where items lead: in inputs without a fault, a branch, a jump or a call leads to a place where an item starts or a section of code ends
 -- (`item_leads`). Such a place has a number behind that of the front (`number_some`).
-use Rattle.std.proofs.Common.{◌≡◌, ℕ, ◌+◌, ◌≤◌, List, map, Bool, true, false, Option, Some, None, refl, sym, ap, ◌∙◌, subst, arith}
+use Rattle.std.proofs.Common.{◌≡◌, ℕ, ◌+◌, ◌≤◌, List, map, Bool, true, false, Option, Some, None, cond, refl, sym, ap, ◌∙◌, subst, arith, eqb}
 use Rattle.std.specs.Prelude.{ℤ, ◌==◌, ◌&&◌, ◌||◌, not}
 use Rattle.std.specs.List.{position_or_len}
 use Rattle.std.specs.Option.{option_map, option_map_or}
@@ -15,6 +15,7 @@ use Rattle.psabi_reloc.specs.Kinds.{kind_of}
 use Rattle.psabi_reloc.specs.declared.kind.RelocKind.{RelocKind}
 use Rattle.psabi_reloc.specs.declared.kind.RelocKind.TheVariants as kind
 use Rattle.psabi_sym.specs.Faults.{first_some, gather_fault}
+use Rattle.psabi_sym.specs.Fixed.{is_fixed_at}
 use Rattle.psabi_sym.specs.Inputs.{Inputs, ParsedInputs, parsed}
 use Rattle.psabi_sym.specs.Indexed.{section_at, sections_before}
 use Rattle.psabi_sym.specs.declared.target.Target.{Target}
@@ -23,7 +24,7 @@ use Rattle.psabi_sym.proofs.FaultLaws.{neither}
 use Rattle.rv_decode.specs.declared.instr.Instr.{Instr}
 use Rattle.rv_decode.specs.declared.instr.Instr.TheVariants as instr
 use Rattle.block_cut.specs.Faults.{first_fault, has_bad_target, if_so, is_bad_target, is_stray, lacks_pcrel_hi, reloc_fault, relocs_fault, section_fault}
-use Rattle.block_cut.specs.Items.{call_item, code_at, is_target_at, item_at, item_under, known_item, raw_in, raw_pair, size_on, spelled_item, target_away, target_of, to_place, transfer_item}
+use Rattle.block_cut.specs.Items.{call_item, code_at, is_target_at, item_at, item_under, known_item, raw_in, raw_pair, size_at, size_on, spelled_item, target_away, target_of, to_place, transfer_item}
 use Rattle.block_cut.specs.Relocs.{instr_in, is_bad_kind, is_bad_place, is_ignored, is_sound, is_transfer, reloc_on}
 use Rattle.block_cut.specs.declared.item.Item.{Item}
 use Rattle.block_cut.specs.declared.item.Item.TheVariants as item
@@ -33,7 +34,7 @@ use Rattle.block_cut.proofs.ListedLaws.{cut_at, listed}
 use Rattle.block_cut.proofs.RawLaws.{raw_by}
 use Rattle.block_cut.proofs.SoundLaws.{sound_at}
 use Rattle.block_cut.proofs.WholeLaws.{code_is_section}
-use Rattle.shrink_layout.specs.Pieces.{is_short_jump, jump_piece, piece_number_at, piece_of}
+use Rattle.shrink_layout.specs.Pieces.{is_short_jump, item_piece_at, jump_piece, kept_piece, piece_number_at, piece_of}
 use Rattle.shrink_layout.proofs.NumberLaws.{number-code}
 use Rattle.shrink_layout.proofs.OrderLaws.{target_code}
 use Rattle.shrink_layout.proofs.TablePieces.{IsPastFront}
@@ -206,7 +207,7 @@ module _ (inputs : Inputs) (none : first_fault inputs ≡ None) where
   jump_past to false well = tt
 
   -- the piece of each item has its target after the front, if it has one
-  pub item_past : (i : Item) → LeadsWell objects i → IsPastFront (piece_of objects i)
+  item_past : (i : Item) → LeadsWell objects i → IsPastFront (piece_of given i)
   item_past (item.Op i) well = tt
   item_past (item.Hi i t) well = tt
   item_past (item.Lo i t) well = tt
@@ -220,3 +221,27 @@ module _ (inputs : Inputs) (none : first_fault inputs ≡ None) where
   item_past (item.Raw word) well = tt
   item_past (item.RawShort half) well = tt
   item_past (item.RawPair first second) well = tt
+
+  -- so has its piece in a fixed section
+  kept_past : (own : ℕ) (i : Item) → LeadsWell objects i → IsPastFront (kept_piece given own i)
+  kept_past own (item.Op i) well = tt
+  kept_past own (item.Hi i t) well = tt
+  kept_past own (item.Lo i t) well = tt
+  kept_past own (item.PcHi i t) well = tt
+  kept_past own (item.PcLo i q) well = tt
+  kept_past own (item.Branch op first second to) well = omega (arith, number_some objects to well)
+  kept_past own (item.Jump rd to) well = jump_past to (eqb own 2 && is_short_jump rd) well
+  kept_past own (item.Call rd temp to) well = tt
+  kept_past own (item.Align bytes) well = tt
+  kept_past own (item.Word t) well = tt
+  kept_past own (item.Raw word) well = tt
+  kept_past own (item.RawShort half) well = tt
+  kept_past own (item.RawPair first second) well = tt
+
+  -- and its piece at any place
+  pub here_past : (q : Place) (i : Item) → LeadsWell objects i → IsPastFront (item_piece_at given q i)
+  here_past q i well = by (is_fixed_at given q.object q.section)
+    where
+      by : (b : Bool) → IsPastFront (cond b (kept_piece given (size_at objects q) i) (piece_of given i))
+      by true = kept_past (size_at objects q) i well
+      by false = item_past i well

@@ -15,7 +15,7 @@ use Rattle.frame_match.specs.Groups.{role_at, role_on, roles_in}
 use Rattle.frame_match.specs.declared.group.Group.{Group}
 use Rattle.frame_match.specs.declared.role.Role.{Role}
 use Rattle.frame_match.specs.declared.role.Role.TheVariants.{Alone, First, Inside}
-use Rattle.shrink_layout.specs.Pieces.{group_size, piece_at, piece_of, unit_piece}
+use Rattle.shrink_layout.specs.Pieces.{group_size, item_piece_at, piece_at, unit_piece}
 use Rattle.shrink_layout.specs.Units.{CodeUnit, OneGroup, OneItem, OneSite, item_unit, role_unit, unit_by}
 use Rattle.shrink_layout.specs.declared.piece.Piece.{Piece}
 use Rattle.shrink_layout.specs.declared.piece.Piece.TheVariants.{WithOthers}
@@ -82,11 +82,11 @@ module _ (inputs : ParsedInputs) (slot : Place → Option ℕ) (q : Place) where
   -- ---- its piece
 
   -- P holds of a place's piece if it holds of no bytes, of the piece of an item there, of those of groups, and of that of a jump through the table
-  pub piece_case : (P : Piece → Type 0) → P (WithOthers 0) → ((i : Item) → item_at inputs q ≡ Some i → P (piece_of inputs.objects i))
+  pub piece_case : (P : Piece → Type 0) → P (WithOthers 0) → ((i : Item) → item_at inputs q ≡ Some i → P (item_piece_at inputs q i))
       → ((g : Group) → P (WithOthers (group_size g))) → P (WithOthers 2) → P (piece_at inputs slot q)
   piece_case P nothing item group site = by (unit_by inputs slot q) refl
     where
-      by : (o : Option CodeUnit) → unit_by inputs slot q ≡ o → P (unit_piece inputs.objects o)
+      by : (o : Option CodeUnit) → unit_by inputs slot q ≡ o → P (unit_piece inputs q o)
       by None at = nothing
       by (Some (OneItem i)) at = item i (unit_item i at).1
       by (Some (OneGroup g)) at = group g

@@ -1,4 +1,5 @@
 pub mod Invariants
+pub mod FixedSections
 pub mod Forms
 pub mod Layout
 pub mod Least

@@ -1,14 +1,16 @@
 -- The pieces of code: the padding before each section of it, and what is written for its items, each with the forms that
 -- it has (RISC-V unprivileged manual, "C Extension for Compressed Instructions"; RISC-V Zc specification 1.0, "Zcb",
 -- "Zcmp" and "Zcmt").
-use Rattle.std.specs.Prelude.{ℕ, pos, ◌+◌, Bool, true, false, ◌==◌, nat_lt, nat_le, if◌then◌else◌, List, [], ◌∷◌, length, map, not, slice_index, ◌&&◌, Option, Some, None}
+use Rattle.std.specs.Prelude.{ℕ, pos, ◌+◌, Bool, true, false, ◌==◌, ◌||◌, nat_lt, nat_le, if◌then◌else◌, List, [], ◌∷◌, length, map, max, not, slice_index, ◌&&◌, Option, Some, None}
 use Rattle.std.specs.List.{flat_map, list_any, sum_by}
 use Rattle.std.specs.Option.{is_some, option_and_then, option_map_or}
+use Rattle.zc_base.specs.declared.extensions.Extensions.{Extensions}
 use Rattle.zc_base.specs.declared.place.Place.{Place}
 use Rattle.elf32_read.specs.Parts.{ObjectParts, SectionParts, is_code_section}
 use Rattle.psabi_reloc.specs.Parts.{hi20_of, lo12_of}
 use Rattle.psabi_reloc.specs.Patched.{with_imm, with_upper}
 use Rattle.psabi_sym.specs.Faults.{power_above}
+use Rattle.psabi_sym.specs.Fixed.{is_fixed_at}
 use Rattle.psabi_sym.specs.Inputs.{ParsedInputs}
 use Rattle.psabi_sym.specs.Indexed.{IndexedSection, all_sections, sections_before}
 use Rattle.psabi_sym.specs.declared.target.Target.{Target}
@@ -16,9 +18,10 @@ use Rattle.psabi_sym.specs.declared.target.Target.TheVariants.{Code, Number, Abs
 use Rattle.rv_decode.specs.declared.instr.BranchOp.{BranchOp}
 use Rattle.rv_decode.specs.declared.instr.Instr.{Instr}
 use Rattle.rv_decode.specs.declared.instr.Instr.TheVariants as instr
+use Rattle.zc_decode.specs.Extensions.{has_half}
 use Rattle.zc_decode.specs.declared.short.Short.TheVariants.{Base}
 use Rattle.zc_encode.specs.Halves.{encoded16}
-use Rattle.block_cut.specs.Items.{all_items, code_at, index_on, is_target_at, item_at, places_of, starts_in}
+use Rattle.block_cut.specs.Items.{all_items, code_at, index_on, is_target_at, item_at, places_of, size_at, starts_in}
 use Rattle.block_cut.specs.declared.item.Item.{Item}
 use Rattle.block_cut.specs.declared.item.Item.TheVariants as item
 use Rattle.frame_match.specs.declared.group.Group.{Group}
@@ -58,16 +61,24 @@ is_short_branch op first second = is_short (instr.Branch op first second (pos 0)
 abbrev pub is_short_jump : ℕ → Bool
 is_short_jump rd = is_short (instr.Jal rd (pos 0))
 
--- the size of an instruction whose immediate doesn't depend on the layout
+-- an instruction has a short form that a chip with these extensions has
+abbrev pub is_short_on : Extensions → Instr → Bool
+is_short_on extensions i = option_map_or (has_half extensions) (encoded16 (Base i)) false
+
+-- the size of an instruction whose immediate doesn't depend on the layout, on a chip with these extensions
+abbrev pub instr_size_on : Extensions → Instr → ℕ
+instr_size_on extensions i = if is_short_on extensions i then 2 else 4
+
+-- the same for an instruction whose short form every chip has, such as one that moves sp
 abbrev pub instr_size : Instr → ℕ
 instr_size i = if is_short i then 2 else 4
 
 -- the size of an instruction with a part of an address; the addresses of code aren't known before the layout
-abbrev pub part_size : Target → (ℕ → Instr) → ℕ
-part_size (Code q) patched = 4
-part_size (Number n) patched = instr_size (patched n)
-part_size (Absent n) patched = instr_size (patched n)
-part_size Nowhere patched = 4
+abbrev pub part_size : Extensions → Target → (ℕ → Instr) → ℕ
+part_size extensions (Code q) patched = 4
+part_size extensions (Number n) patched = instr_size_on extensions (patched n)
+part_size extensions (Absent n) patched = instr_size_on extensions (patched n)
+part_size extensions Nowhere patched = 4
 
 -- the piece of a jump to a place, by whether it has a short form
 abbrev pub jump_piece : List ObjectParts → Place → Bool → Piece
@@ -75,48 +86,77 @@ jump_piece objects to true = Jump (piece_number_at objects to)
 jump_piece objects to false = Fixed 4
 
 -- the piece of an item; a call is one jump
-abbrev pub piece_of : List ObjectParts → Item → Piece
-piece_of objects (item.Op i) = Fixed (instr_size i)
-piece_of objects (item.Hi i t) = Fixed (part_size t (λ x. with_upper i (hi20_of x)))
-piece_of objects (item.Lo i t) = Fixed (part_size t (λ x. with_imm i (lo12_of x)))
-piece_of objects (item.PcHi i t) = Fixed 4
-piece_of objects (item.PcLo i q) = Fixed 4
-piece_of objects (item.Branch op first second to) = Branch (piece_number_at objects to) (is_short_branch op first second)
-piece_of objects (item.Jump rd to) = jump_piece objects to (is_short_jump rd)
-piece_of objects (item.Call rd temp to) = jump_piece objects to (is_short_jump rd)
-piece_of objects (item.Align bytes) = Align (power_above bytes)
-piece_of objects (item.Word t) = Fixed 4
-piece_of objects (item.Raw word) = Fixed 4
-piece_of objects (item.RawShort half) = Fixed 2
-piece_of objects (item.RawPair first second) = Fixed 8
+abbrev pub piece_of : ParsedInputs → Item → Piece
+piece_of inputs (item.Op i) = Fixed (instr_size_on inputs.map.extensions i)
+piece_of inputs (item.Hi i t) = Fixed (part_size inputs.map.extensions t (λ x. with_upper i (hi20_of x)))
+piece_of inputs (item.Lo i t) = Fixed (part_size inputs.map.extensions t (λ x. with_imm i (lo12_of x)))
+piece_of inputs (item.PcHi i t) = Fixed 4
+piece_of inputs (item.PcLo i q) = Fixed 4
+piece_of inputs (item.Branch op first second to) =
+    Branch (piece_number_at inputs.objects to) (is_short_branch op first second)
+piece_of inputs (item.Jump rd to) = jump_piece inputs.objects to (is_short_jump rd)
+piece_of inputs (item.Call rd temp to) = jump_piece inputs.objects to (is_short_jump rd)
+piece_of inputs (item.Align bytes) = Align (power_above bytes)
+piece_of inputs (item.Word t) = Fixed 4
+piece_of inputs (item.Raw word) = Fixed 4
+piece_of inputs (item.RawShort half) = Fixed 2
+piece_of inputs (item.RawPair first second) = Fixed 8
+
+-- the piece of an item of a fixed section that has `own` bytes in its object: it keeps them. A branch or a jump is still a
+-- piece that leads somewhere, but begins with the form that it has in the object
+abbrev pub kept_piece : ParsedInputs → ℕ → Item → Piece
+kept_piece inputs own (item.Op i) = Fixed own
+kept_piece inputs own (item.Hi i t) = Fixed 4
+kept_piece inputs own (item.Lo i t) = Fixed 4
+kept_piece inputs own (item.PcHi i t) = Fixed 4
+kept_piece inputs own (item.PcLo i q) = Fixed 4
+kept_piece inputs own (item.Branch op first second to) =
+    Branch (piece_number_at inputs.objects to) (own == 2 && is_short_branch op first second)
+kept_piece inputs own (item.Jump rd to) = jump_piece inputs.objects to (own == 2 && is_short_jump rd)
+kept_piece inputs own (item.Call rd temp to) = Fixed 8
+kept_piece inputs own (item.Align bytes) = Align (power_above bytes)
+kept_piece inputs own (item.Word t) = Fixed 4
+kept_piece inputs own (item.Raw word) = Fixed 4
+kept_piece inputs own (item.RawShort half) = Fixed 2
+kept_piece inputs own (item.RawPair first second) = Fixed 8
+
+-- the piece of the item at a place
+abbrev pub item_piece_at : ParsedInputs → Place → Item → Piece
+item_piece_at inputs q i =
+    if is_fixed_at inputs q.object q.section then kept_piece inputs (size_at inputs.objects q) i else piece_of inputs i
 
 -- the size of a group: a halfword, and the instruction that moves sp by the rest of its frame
 abbrev pub group_size : Group → ℕ
 group_size g = if g.rest == 0 then 2 else 2 + instr_size (rest_instr g)
 
 -- the piece of what is written at a place; inside a group nothing is, and the piece takes no bytes
-abbrev pub unit_piece : List ObjectParts → Option CodeUnit → Piece
-unit_piece objects None = WithOthers 0
-unit_piece objects (Some (OneItem i)) = piece_of objects i
-unit_piece objects (Some (OneGroup g)) = WithOthers (group_size g)
-unit_piece objects (Some (OneSite slot)) = WithOthers 2
+abbrev pub unit_piece : ParsedInputs → Place → Option CodeUnit → Piece
+unit_piece inputs q None = WithOthers 0
+unit_piece inputs q (Some (OneItem i)) = item_piece_at inputs q i
+unit_piece inputs q (Some (OneGroup g)) = WithOthers (group_size g)
+unit_piece inputs q (Some (OneSite slot)) = WithOthers 2
 
 -- the piece at a place, if jumps and calls have these slots
 abbrev pub piece_at : ParsedInputs → (Place → Option ℕ) → Place → Piece
-piece_at inputs slot q = unit_piece inputs.objects (unit_by inputs slot q)
+piece_at inputs slot q = unit_piece inputs q (unit_by inputs slot q)
 
 -- ---- all pieces
 
--- the padding before a section: up to 4 its alignment is that of the instructions that it has, which may take 2 bytes
--- now
-abbrev pub section_alignment : SectionParts → ℕ
-section_alignment s = if nat_le s.align 4 then 2 else s.align
+-- the alignment of what has this one in its object: up to 4 it is that of instructions, which may take 2 bytes now; a fixed
+-- section keeps its own, and is aligned to 4 at least
+abbrev pub alignment_of : Bool → ℕ → ℕ
+alignment_of true align = max 4 align
+alignment_of false align = if nat_le align 4 then 2 else align
+
+-- the alignment of the padding before a section
+abbrev pub section_alignment : ParsedInputs → IndexedSection → ℕ
+section_alignment inputs l = alignment_of (is_fixed_at inputs l.object l.index) l.section.align
 
 -- a section's pieces
 abbrev pub section_pieces : ParsedInputs → (Place → Option ℕ) → IndexedSection → List Piece
 section_pieces inputs slot l =
     if is_code_section l.section
-    then Align (section_alignment l.section) ∷ map (piece_at inputs slot) (places_of l)
+    then Align (section_alignment inputs l) ∷ map (piece_at inputs slot) (places_of l)
     else []
 
 -- the pieces of sections, one after another
@@ -137,10 +177,12 @@ first_sizes inputs = sizes_of inputs.map.text (pieces_by inputs 0 no_slot)
 abbrev pub site_only : ℕ → ℕ × Place → Option (ℕ × Place)
 site_only size jump = if size == 4 && nat_lt jump.0 2 then Some jump else None
 
--- the jump or call at a place that a table could serve
+-- the jump or call at a place that a table could serve; a fixed section has none
 unfoldable pub site_at : ParsedInputs → Place → Option (ℕ × Place)
 site_at inputs q =
-    option_and_then (site_only (slice_index (first_sizes inputs) (piece_number_at inputs.objects q)))
+    if is_fixed_at inputs q.object q.section
+    then None
+    else option_and_then (site_only (slice_index (first_sizes inputs) (piece_number_at inputs.objects q)))
     (option_and_then jump_of (item_at inputs q))
 
 -- the slot of the jump or call at a place; without slots none has one
@@ -176,11 +218,12 @@ is_align (item.Raw word) = false
 is_align (item.RawShort half) = false
 is_align (item.RawPair first second) = false
 
--- a section is code that is aligned above 4 bytes
-abbrev pub is_aligned_code : IndexedSection → Bool
-is_aligned_code l = is_code_section l.section && nat_lt 4 l.section.align
+-- a section is code that is aligned above 4 bytes, or fixed
+abbrev pub is_aligned_code : ParsedInputs → IndexedSection → Bool
+is_aligned_code inputs l =
+    is_code_section l.section && nat_lt 4 l.section.align || is_fixed_at inputs l.object l.index
 
--- there is no ALIGN, and no section of code is aligned above 4 bytes
+-- there is no ALIGN, no section of code is aligned above 4 bytes, and none is fixed
 abbrev pub is_unaligned : ParsedInputs → Bool
 is_unaligned inputs =
-    not (list_any is_align (all_items inputs)) && not (list_any is_aligned_code (all_sections inputs.objects))
+    not (list_any is_align (all_items inputs)) && not (list_any (is_aligned_code inputs) (all_sections inputs.objects))

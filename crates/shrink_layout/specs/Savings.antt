@@ -1,5 +1,5 @@
 -- What a table could save: the targets of jumps and calls that take 4 bytes without one.
-use Rattle.std.specs.Prelude.{ℕ, ◌+◌, ◌≤◌, Bool, not, ◌&&◌, ◌==◌, List, length, filter, map}
+use Rattle.std.specs.Prelude.{ℕ, ◌+◌, ◌≤◌, Bool, not, ◌&&◌, ◌==◌, if◌then◌else◌, List, [], length, filter, map}
 use Rattle.std.specs.List.{flat_map}
 use Rattle.std.specs.Option.{option_to_list}
 use Rattle.zc_base.specs.Places.{same_place}
@@ -28,6 +28,10 @@ has_sites s = not (s.jump_sites + s.call_sites == 0)
 -- the savings of each place that some jump or call leads to, by object, section and offset
 unfoldable pub savings_of : ParsedInputs → List Saving
 savings_of inputs = filter has_sites (map (saving_of (sites_of inputs)) (all_targets inputs.objects))
+
+-- the savings of the inputs' chip; without Zcmt there are none
+abbrev pub table_savings : ParsedInputs → List Saving
+table_savings inputs = if inputs.map.extensions.zcmt then savings_of inputs else []
 
 -- there are no more jumps and calls than there is room for in code
 pub record HasFewSites (s : Saving) : Type 0 where

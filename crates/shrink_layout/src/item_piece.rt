@@ -62,17 +62,58 @@ fn jump_piece(cut: &Cut, starts: &[u32], rd: Reg, to: Place) -> ItemPiece
     })
 }
 
+/// The piece of an item of a fixed section that has `own` bytes in its object.
+pub fn kept_piece(cut: &Cut, starts: &[u32], own: u8, item: &Item) -> Piece
+    requires faultless { gather_fault cut.now ≡ None }
+    requires starts { AreFirstNumbers (parsed cut.now).objects starts.now }
+    ensures { result ≡ pieces.kept_piece (parsed cut.now) own item.now }
+{
+    match item {
+        Item::Op(_) => Piece::Fixed {
+            size: u16::from(own),
+        },
+        Item::Branch {
+            op,
+            first,
+            second,
+            to,
+        } => Piece::Branch {
+            to: piece_number_at(cut, starts, *to),
+            short: own == 2 && is_short_branch(*op, *first, *second),
+        },
+        Item::Jump { rd, to } => {
+            if own == 2 {
+                jump_piece(cut, starts, *rd, *to).piece
+            } else {
+                Piece::Fixed { size: 4 }
+            }
+        }
+        Item::Align(bytes) => Piece::Align {
+            alignment: power_above(*bytes),
+        },
+        Item::Hi(..)
+        | Item::Lo(..)
+        | Item::PcHi(..)
+        | Item::PcLo(..)
+        | Item::Word(_)
+        | Item::Raw(_) => Piece::Fixed { size: 4 },
+        Item::RawShort(_) => Piece::Fixed { size: 2 },
+        Item::Call { .. } | Item::RawPair(..) => Piece::Fixed { size: 8 },
+    }
+}
+
 /// The piece of an item, with its halfword.
 pub fn item_piece(cut: &Cut, starts: &[u32], item: &Item) -> ItemPiece
     requires faultless { gather_fault cut.now ≡ None }
     requires starts { AreFirstNumbers (parsed cut.now).objects starts.now }
-    ensures piece { result.piece ≡ piece_of (parsed cut.now).objects item.now }
+    ensures piece { result.piece ≡ piece_of (parsed cut.now) item.now }
     ensures half { IsHalfAt (Some (OneItem item.now)) result.half }
 {
+    let extensions = cut.objects().map().extensions;
     match item {
-        Item::Op(i) => instr_piece(*i),
-        Item::Hi(i, t) => upper_piece(*i, *t),
-        Item::Lo(i, t) => lower_piece(*i, *t),
+        Item::Op(i) => instr_piece(extensions, *i),
+        Item::Hi(i, t) => upper_piece(extensions, *i, *t),
+        Item::Lo(i, t) => lower_piece(extensions, *i, *t),
         Item::Branch {
             op,
             first,

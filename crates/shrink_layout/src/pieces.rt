@@ -1,13 +1,15 @@
 // The pieces of all code.
 
-ghost use Rattle.std.specs.Prelude.{◌≡◌, ◌<◌, ◌≤◌, ◌+◌, ◌-◌, ◌^◌, ◌++◌, ◌∷◌, [], List, None, Option, Some, IfOk, IfSome, if◌then◌else◌, length, map, nat_le, slice_get, take};
+ghost use Rattle.std.specs.Prelude.{◌≡◌, ◌<◌, ◌≤◌, ◌+◌, ◌-◌, ◌^◌, ◌++◌, ◌∷◌, [], List, None, Option, Some, IfOk, IfSome, length, map, slice_get, take};
 ghost use Rattle.psabi_sym.specs.Faults.{gather_fault};
+ghost use Rattle.psabi_sym.specs.Fixed.{is_fixed_at};
 ghost use Rattle.psabi_sym.specs.Inputs.{ParsedInputs, parsed};
 ghost use Rattle.psabi_sym.specs.Indexed.{all_sections};
 ghost use Rattle.block_cut.specs.Items.{place_of};
 ghost use Rattle.block_cut.specs.declared.code_place.CodePlace.{CodePlace};
 ghost use Rattle.shrink_layout.specs.Invariants.Made.{AreHalvesOf, AreItemPlaces, AreMade, ArePiecesOf, AreStartsOf, IsItemPlace, IsNoCode, places_held};
 ghost use Rattle.shrink_layout.specs.Invariants.Slots.{AreNumbered, first_piece, first_unit};
+ghost use Rattle.shrink_layout.specs.Pieces.{alignment_of};
 ghost use Rattle.shrink_layout.specs.Units.{CodeUnit};
 
 use crate::instr_piece::{ItemPiece, without_half};
@@ -41,10 +43,11 @@ impl Pieces {
     }
 }
 
-/// Places of a section, with its number among all.
+/// Places of a section, with its number among all, and whether it is fixed.
 #[derive(Drop)]
 pub struct SectionPlaces<'a> {
     pub number: u32,
+    pub is_fixed: bool,
     pub section: SectionRef<'a>,
     pub places: &'a [CodePlace],
 }
@@ -62,9 +65,11 @@ impl<'a> SectionPlaces<'a> {
         if places.is_empty() {
             return None;
         }
+        let section = cut.objects().section(number);
         Some(SectionPlaces {
             number,
-            section: cut.objects().section(number),
+            is_fixed: cut.objects().is_fixed(section.object(), section.index()),
+            section,
             places: item_places(places),
         })
     }
@@ -96,12 +101,18 @@ impl<'a> SectionPlaces<'a> {
     }
 }
 
-// The alignment of the padding before a section: up to 4 it is that of instructions, which may take two
-// bytes.
-fn padding(align: u32) -> u32
-    ensures { result ≡ (if nat_le align 4 then 2 else align) }
+// The alignment of the padding before a section: up to 4 it is that of instructions, which may take two bytes. A fixed
+// section is aligned as in its object, and to 4 at least.
+fn padding(is_fixed: bool, align: u32) -> u32
+    ensures { result ≡ alignment_of is_fixed align }
 {
-    if align <= 4 { 2 } else { align }
+    if is_fixed {
+        align.max(4)
+    } else if align <= 4 {
+        2
+    } else {
+        align
+    }
 }
 
 // Adds the pieces of these places of a section.
@@ -110,6 +121,8 @@ fn add_places(of: &Numbered, section: &SectionPlaces, made: &mut Pieces) -> Resu
     requires held { AreItemPlaces (parsed of.now.planned.now) section.now.number section.now.section
         section.now.places.now }
     requires few { length section.now.places.now < 2 ^ 32 }
+    requires fixed { section.now.is_fixed
+        ≡ is_fixed_at (parsed of.now.planned.now) section.now.section.object section.now.section.index }
     ensures pieces { IfOk result (λ _. made.new.pieces.items ≡ made.old.pieces.items
         ++ map (first_piece (parsed of.now.planned.now)) (places_held section.now.section section.now.places.now)) }
     ensures halves { IfOk result (λ _. (owners : List (Option CodeUnit)) → AreHalvesOf owners made.old.halves.items
@@ -117,7 +130,7 @@ fn add_places(of: &Numbered, section: &SectionPlaces, made: &mut Pieces) -> Resu
         (places_held section.now.section section.now.places.now)) made.new.halves.items) }
 {
     for i in 0..section.places.len() {
-        made.push(place_piece(of, &section.item_place(i)))?;
+        made.push(place_piece(of, &section.item_place(i), section.is_fixed))?;
     }
     Ok(())
 }
@@ -133,7 +146,7 @@ fn add_section(of: &Numbered, section: u32, made: &mut Pieces) -> Result<(), All
         return Ok(());
     };
     made.push(without_half(Piece::Align {
-        alignment: padding(starts.section.align()),
+        alignment: padding(starts.is_fixed, starts.section.align()),
     }))?;
     add_places(of, &starts, made)
 }

@@ -48,8 +48,8 @@ fn is_served(size: Option<u32>, site: Site) -> bool
     matches!(size, Some(4)) && site.rd < 2
 }
 
-/// The jump or call at a place that a table could serve: it takes four bytes without one, and links no register or ra
-/// (RISC-V Zc specification 1.0, "cm.jt" and "cm.jalt"). It takes constant time.
+/// The jump or call at a place that a table could serve: it takes four bytes without one, links no register or ra, and
+/// isn't in a fixed section (RISC-V Zc specification 1.0, "cm.jt" and "cm.jalt"). It takes constant time.
 pub fn site_at(settled: &Settled, p: Place) -> Option<Site>
     requires { settled.now.slots ≡ [] }
     ensures value { option_map site_pair result ≡ site_at (parsed settled.now.inputs) p }
@@ -65,6 +65,9 @@ pub fn site_at(settled: &Settled, p: Place) -> Option<Site>
         return None;
     };
     if !is_served(settled.size(p), site) {
+        return None;
+    }
+    if cut.objects().is_fixed(p.object, p.section) {
         return None;
     }
     Some(site)

@@ -1,6 +1,7 @@
 // The jumps and calls through a table, put in the place of those that it serves.
 
-ghost use Rattle.std.specs.Prelude.{◌≡◌, ◌<◌, ◌≤◌, ◌+◌, ◌^◌, ℕ, [], List, Option, Some, length, slice_get, slice_set};
+ghost use Rattle.std.specs.Prelude.{◌≡◌, ◌<◌, ◌≤◌, ◌+◌, ◌^◌, ℕ, [], List, Option, Some, false, length, slice_get, slice_set};
+ghost use Rattle.psabi_sym.specs.Fixed.{is_fixed_at};
 ghost use Rattle.psabi_sym.specs.Inputs.{parsed};
 ghost use Rattle.psabi_sym.specs.Indexed.{all_sections};
 ghost use Rattle.shrink_layout.specs.Invariants.Made.{AreHalvesOf, AreItemPlaces, ArePiecesOf, ArePut, ArePutIn, IsItemPlace, places_held};
@@ -47,10 +48,11 @@ fn slot_to(of: &PieceSource, rd: Reg, to: usize) -> Option<u8>
     }
 }
 
-// The slot of the jump or call at a place, if it goes through the table, by its piece without the table: it has a form of
-// two bytes, but takes four.
+// The slot of the jump or call at a place outside fixed sections, if it goes through the table, by its piece without the
+// table: it has a form of two bytes, but takes four.
 fn slot_of(of: &PieceSource, place: &ItemPlace, k: usize, piece: Piece) -> Option<u8>
     requires source { IsSource of.now }
+    requires free { is_fixed_at (source_inputs of.now) place.now.at.object place.now.at.section ≡ false }
     requires place { IsItemPlace (source_inputs of.now) place.now.at place.now.number place.now.item.now }
     requires number { k ≡ piece_number_at (source_inputs of.now).objects place.now.at }
     requires piece { piece ≡ first_piece (source_inputs of.now) place.now.at }
@@ -83,9 +85,10 @@ fn put_site(made: &mut Pieces, k: usize, slot: u8)
     made.halves[k] = table_half(slot);
 }
 
-// Replaces the piece at a place of the layout without a table by the piece there with the table.
+// Replaces the piece at a place of the layout without a table, outside fixed sections, by the piece there with the table.
 fn put_place(of: &PieceSource, place: &ItemPlace, made: &mut Pieces)
     requires source { IsSource of.now }
+    requires free { is_fixed_at (source_inputs of.now) place.now.at.object place.now.at.section ≡ false }
     requires place { IsItemPlace (source_inputs of.now) place.now.at place.now.number place.now.item.now }
     requires piece { slice_get made.old.pieces.items (piece_number_at (source_inputs of.now).objects place.now.at)
         ≡ Some (first_piece (source_inputs of.now) place.now.at) }
@@ -104,9 +107,10 @@ fn put_place(of: &PieceSource, place: &ItemPlace, made: &mut Pieces)
     }
 }
 
-// Replaces the pieces at places of a section of code by those with the table.
+// Replaces the pieces at places of a section of code, which isn't fixed, by those with the table.
 fn put_places(of: &PieceSource, section: &SectionPlaces, made: &mut Pieces)
     requires source { IsSource of.now }
+    requires free { is_fixed_at (source_inputs of.now) section.now.section.object section.now.section.index ≡ false }
     requires held { AreItemPlaces (source_inputs of.now) section.now.number section.now.section section.now.places.now }
     requires few { length section.now.places.now < 2 ^ 32 }
     requires first { ArePutIn (source_inputs of.now) (source_slots of.now) section.now.number section.now.section
@@ -126,9 +130,14 @@ fn put_section(of: &PieceSource, section: u32, made: &mut Pieces)
     requires so_far { ArePut (source_inputs of.now) (source_slots of.now) section made.old }
     ensures { ArePut (source_inputs of.now) (source_slots of.now) (section + 1) made.new }
 {
-    if let Some(starts) = SectionPlaces::of(of.planned.cut(), section) {
-        put_places(of, &starts, made);
+    let Some(starts) = SectionPlaces::of(of.planned.cut(), section) else {
+        return;
+    };
+    // A fixed section has no jumps or calls through the table.
+    if starts.is_fixed {
+        return;
     }
+    put_places(of, &starts, made);
 }
 
 /// Replaces the pieces of the layout without a table by those with the table: first the table and its stub, and then

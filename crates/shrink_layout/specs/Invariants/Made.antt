@@ -3,6 +3,7 @@
 use Rattle.std.specs.Prelude.{◌≡◌, ℕ, ◌+◌, ◌<◌, ◌^◌, true, false, if◌then◌else◌, List, [], ◌∷◌, ◌++◌, drop, length, map, take, slice_get, Option, Some, None}
 use Rattle.std.specs.List.{flat_map}
 use Rattle.elf32_read.specs.Parts.{is_code_section}
+use Rattle.psabi_sym.specs.Fixed.{is_fixed_at}
 use Rattle.psabi_sym.specs.Inputs.{ParsedInputs}
 use Rattle.psabi_sym.specs.Indexed.{IndexedSection, all_sections}
 use Rattle.block_cut.specs.Items.{is_start_at, item_at, place_of, places_of}
@@ -41,6 +42,7 @@ pub record AreStartsOf (inputs : ParsedInputs) (s : SectionPlaces) : Type 0 wher
   pub held : AreItemPlaces inputs s.number s.section s.places.now
   pub are : places_held s.section s.places.now ≡ places_of s.section
   pub few : length s.places.now < 2 ^ 32
+  pub fixed : s.is_fixed ≡ is_fixed_at inputs s.section.object s.section.index
 
 -- the section with this number among all isn't code
 abbrev pub IsNoCode : ParsedInputs → ℕ → Type 0
@@ -95,7 +97,7 @@ pub record ArePutIn (inputs : ParsedInputs) (slots : List (Option Place)) (k : �
     (before after : List Place) (made : Pieces) : Type 0 where
   pub pieces_are : made.pieces.items
       ≡ Fixed (front_size slots) ∷ (pieces_in inputs (slot_at inputs slots) (take k (all_sections inputs.objects))
-      ++ Align (section_alignment l.section) ∷ (map (piece_at inputs (slot_at inputs slots)) before
+      ++ Align (section_alignment inputs l) ∷ (map (piece_at inputs (slot_at inputs slots)) before
       ++ (map (piece_at inputs (slot_at inputs [])) after
       ++ pieces_in inputs (slot_at inputs []) (drop (k + 1) (all_sections inputs.objects)))))
   pub halves_are :

@@ -1,6 +1,7 @@
 -- Each place where an item starts adds its piece and its halfword (`held_next`).
 use Rattle.std.proofs.Common.{◌≡◌, ◌+◌, ◌∷◌, ◌++◌, ◌∙◌, List, [], append_assoc, map, take, ap, subst, subst₂, sym}
 use Rattle.std.proofs.lemmas.List.{map-append}
+use Rattle.psabi_sym.specs.Fixed.{is_fixed_at}
 use Rattle.psabi_sym.specs.Inputs.{parsed}
 use Rattle.zc_base.specs.declared.place.Place.{Place}
 use Rattle.block_cut.specs.Items.{place_of}
@@ -18,6 +19,12 @@ one_more f first places more q is =
 
 pub place_piece-requires-clause-place : goal.place_piece-requires-clause-place
 place_piece-requires-clause-place c = c.item_place.ensures.held (parsed c.args.of.now.planned.now) c.requires.held
+
+pub place_piece-requires-clause-fixed : goal.place_piece-requires-clause-fixed
+place_piece-requires-clause-fixed c =
+    let given = parsed c.args.of.now.planned.now in
+    let got = some_at c.args.section.now.places.now c.loop-i.i c.loop-i-test.true in
+    c.requires.fixed ∙ ap (λ (q : Place). is_fixed_at given q.object q.section) (sym (c.item_place.ensures.at got.0 got.1))
 
 pub loop-i-preserved : goal.loop-i-preserved
 loop-i-preserved c =

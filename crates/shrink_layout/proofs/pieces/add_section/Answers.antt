@@ -1,10 +1,10 @@
 -- What isn't code has no pieces (`none_next`, `no_owners_next`); what is has its padding, and the pieces of the places where its items start (`some_next`,
 -- `owners_next`).
-use Rattle.std.proofs.Common.{◌∙◌, ◌∷◌, ◌++◌, ◌+◌, [], None, IfOk, Result, Ok, Err, map, take, cond, leb, ap, slice_get, sym, subst}
+use Rattle.std.proofs.Common.{◌∙◌, ◌∷◌, ◌++◌, ◌+◌, [], None, IfOk, Result, Ok, Err, map, take, ap, slice_get, sym, subst}
 use Rattle.psabi_sym.specs.Inputs.{parsed}
 use Rattle.psabi_sym.specs.Indexed.{all_sections}
 use Rattle.shrink_layout.specs.Invariants.Made.{AreHalvesOf, AreMade, AreStartsOf, owners_in}
-use Rattle.shrink_layout.specs.Pieces.{piece_at, slot_at, unit_at}
+use Rattle.shrink_layout.specs.Pieces.{alignment_of, piece_at, slot_at, unit_at}
 use Rattle.shrink_layout.specs.declared.piece.Piece.TheVariants.{Fixed, Align}
 use Rattle.shrink_layout.proofs.HalfLaws.{halves-append}
 use Rattle.shrink_layout.proofs.SectionLaws.{no_owners_next, none_next, owners_next, some_at, some_next}
@@ -33,6 +33,9 @@ add_places-requires-clause-held c = (subst (λ x. AreStartsOf (parsed x) c.in-So
 pub add_places-requires-clause-few : goal.add_places-requires-clause-few
 add_places-requires-clause-few c = c.in-Some.ensures.some.few
 
+pub add_places-requires-clause-fixed : goal.add_places-requires-clause-fixed
+add_places-requires-clause-fixed c = (subst (λ x. AreStartsOf (parsed x) c.in-Some.starts) c.cut.ensures.same c.in-Some.ensures.some).fixed
+
 pub returns : goal.returns
 returns c =
     let inputs = c.args.of.now.planned.now in
@@ -44,7 +47,7 @@ returns c =
     let slot = slot_at given [] in
     let so_far = subst (λ n. AreMade given n c.args.made.now) (sym c.in-Some.ensures.number) c.requires.so_far in
     let owners = None ∷ owners_in given slot (take k (all_sections given.objects)) in
-    let pad = c.padding.ensures ∙ ap (λ a. cond (leb a 4) 2 a) c.align.ensures in
+    let pad = c.padding.ensures ∙ (λ j. alignment_of (are.fixed j) (c.align.ensures j)) in
     let pushed = c.in_ok-push.ensures.pieces ∙ (λ i. so_far.pieces_are i ++ (ap (λ m. m.piece) c.without_half.ensures.piece ∙ ap Align pad) i ∷ []) in
     let old : AreHalvesOf (owners ++ None ∷ []) c.push.new.self.halves.items =
     subst (AreHalvesOf (owners ++ None ∷ [])) (sym c.in_ok-push.ensures.halves)

@@ -14,6 +14,7 @@ use Rattle.shrink_layout.specs.Least.{IsLeast, IsTight}
 use Rattle.shrink_layout.specs.Pieces.{pieces_of}
 use Rattle.shrink_layout.specs.Settled.{settled_sizes}
 use Rattle.shrink_layout.specs.declared.piece.Piece.{Piece}
+use Rattle.shrink_layout.proofs.FixedSections.{kept_sections}
 use Rattle.shrink_layout.proofs.KeptLaws.{kept_addresses, kept_sizes, kept_widths, long_counted, short_counted, sizes_long, text_summed}
 use Rattle.shrink_layout.proofs.HalfLaws.{all_halves}
 use Rattle.shrink_layout.proofs.PremiseLaws.{all_aligned, all_even, all_tight, front_few, pieces_few, room_few, targets}
@@ -29,7 +30,7 @@ settle_pieces-requires c =
     record {
       alignments = subst (All HasAlignment) (sym pieces) (all_aligned c.args.of.now.planned.now none c.args.slots.now);
       targets = subst (λ ps. All (λ p. target p ≤ length ps) ps) (sym pieces) (targets c.args.of.now.planned.now none c.args.slots.now);
-      room = omega (arith, ap (sum_by longest) pieces, room_few c.args.of.now.planned.now none c.args.slots.now, front_few c.args.slots.now c.requires.targets.few, map.code, map.data_room, map.top);
+      room = omega (arith, ap (sum_by longest) pieces, room_few c.args.of.now.planned.now none c.args.slots.now, front_few c.args.slots.now c.requires.targets.few, map.code, map.room);
       near = omega (arith, ap (sum_by longest) pieces, room_few c.args.of.now.planned.now none c.args.slots.now, front_few c.args.slots.now c.requires.targets.few);
     }
 
@@ -112,4 +113,5 @@ returns-clause-laid c =
           subst (IsLeast inputs.map.text (pieces_of inputs slots)) (kept_sizes inputs slots)
           (subst₂ (λ (t : ℕ) (ps : List Piece). IsLeast t ps (sizes_of t ps)) text pieces given);
       pays = λ unaligned. table_pays_off own faultless slots unaligned own_even;
+      kept = kept_sections own faultless slots;
     }

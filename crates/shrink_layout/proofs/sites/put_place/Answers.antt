@@ -73,7 +73,7 @@ module _ (c : After-slot_of) where
 pub returns-in-Some-clause-pieces : goal.returns-in-Some-clause-pieces
 returns-in-Some-clause-pieces c =
     let a = (goal.at.returns-in-Some-clause-pieces c).After-slot_of in
-    c.put_site.ensures.pieces ∙ (λ j. set c.args.made.now.pieces.items (number a j) (unit_piece (given a).objects (sym (put a (Some c.in-Some.slot) c.in-Some.is) j)))
+    c.put_site.ensures.pieces ∙ (λ j. set c.args.made.now.pieces.items (number a j) (unit_piece (given a) (q a) (sym (put a (Some c.in-Some.slot) c.in-Some.is) j)))
 
 pub returns-in-Some-clause-halves : goal.returns-in-Some-clause-halves
 returns-in-Some-clause-halves c = λ owners are got.
@@ -85,8 +85,8 @@ returns-in-Some-clause-halves c = λ owners are got.
 pub returns-in_default-clause-pieces : goal.returns-in_default-clause-pieces
 returns-in_default-clause-pieces c =
     let a = (goal.at.returns-in_default-clause-pieces c).After-slot_of in
-    sym (set_same c.args.made.now.pieces.items (piece_number_at (given a).objects (q a)) (unit_piece (given a).objects (source_unit c.args.of.now (q a)))
-    (c.requires.piece ∙ ap (λ o. Some (unit_piece (given a).objects o)) (sym (put a None c.in_default.is))))
+    sym (set_same c.args.made.now.pieces.items (piece_number_at (given a).objects (q a)) (unit_piece (given a) (q a) (source_unit c.args.of.now (q a)))
+    (c.requires.piece ∙ ap (λ o. Some (unit_piece (given a) (q a) o)) (sym (put a None c.in_default.is))))
 
 pub returns-in_default-clause-halves : goal.returns-in_default-clause-halves
 returns-in_default-clause-halves c = λ owners are got.

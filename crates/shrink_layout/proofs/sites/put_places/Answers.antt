@@ -1,5 +1,7 @@
 -- Each place gets what is written with the table (`put_one`).
-use Rattle.std.proofs.Common.{drop, take}
+use Rattle.std.proofs.Common.{◌∙◌, ap, drop, take}
+use Rattle.zc_base.specs.declared.place.Place.{Place}
+use Rattle.psabi_sym.specs.Fixed.{is_fixed_at}
 use Rattle.psabi_sym.specs.Inputs.{parsed}
 use Rattle.shrink_layout.specs.Invariants.Made.{places_held}
 use Rattle.shrink_layout.specs.Invariants.Slots.{source_slots}
@@ -9,6 +11,11 @@ use Rattle.shrink_layout.proofs.sites.put_places.Goals as goal
 
 pub put_place-requires-clause-place : goal.put_place-requires-clause-place
 put_place-requires-clause-place c = c.item_place.ensures.held (parsed c.args.of.now.planned.now) c.requires.held
+
+pub put_place-requires-clause-free : goal.put_place-requires-clause-free
+put_place-requires-clause-free c =
+    let got = some_at c.args.section.now.places.now c.loop-i.i c.loop-i-test.true in
+    ap (λ (q : Place). is_fixed_at (parsed c.args.of.now.planned.now) q.object q.section) (c.item_place.ensures.at got.0 got.1) ∙ c.requires.free
 
 pub put_place-requires-clause-piece : goal.put_place-requires-clause-piece
 put_place-requires-clause-piece c =

@@ -4,6 +4,7 @@ use Rattle.std.specs.Option.{option_and_then}
 use Rattle.std.proofs.lemmas.Bool.{eq-eqb, ne_eqb}
 use Rattle.zc_base.specs.declared.place.Place.{Place}
 use Rattle.psabi_sym.specs.Faults.{gather_fault}
+use Rattle.psabi_sym.specs.Fixed.{is_fixed_at}
 use Rattle.psabi_sym.specs.Inputs.{Inputs, parsed}
 use Rattle.block_cut.specs.Items.{item_at}
 use Rattle.block_cut.specs.declared.item.Item.{Item}
@@ -19,18 +20,18 @@ use Rattle.shrink_layout.proofs.SlotLaws.{no_jump_slot, short_there, slot_by_wid
 use Rattle.shrink_layout.proofs.sites.slot_of.Goals as goal
 
 -- what takes other than four bytes has no slot
-unsized : (inputs : Inputs) (none : gather_fault inputs ≡ None) (slots : List (Option Place)) (q : Place) (i : Item) → item_at (parsed inputs) q ≡ Some i
+unsized : (inputs : Inputs) (none : gather_fault inputs ≡ None) (slots : List (Option Place)) (q : Place) → is_fixed_at (parsed inputs) q.object q.section ≡ false → (i : Item) → item_at (parsed inputs) q ≡ Some i
     → (n : ℕ) → first_piece (parsed inputs) q ≡ Jump n → (size : ℕ) → size ≡ slice_index (settled_widths (parsed inputs) []) (piece_number_at (parsed inputs).objects q)
     → eqb size 4 ≡ false → slot_at (parsed inputs) slots q ≡ None
-unsized inputs none slots q i is n piece size read other = by (jump_of i) refl
+unsized inputs none slots q free i is n piece size read other = by (jump_of i) refl
   where
     by : (o : Option (ℕ × Place)) → jump_of i ≡ o → slot_at (parsed inputs) slots q ≡ None
     by None other = no_jump_slot (parsed inputs) slots q (ap (option_and_then jump_of) is ∙ other)
-    by (Some jump) leads = slot_by_width inputs none q i is jump leads n piece slots size read ∙ ap (λ b. option_and_then (slot_for slots) (cond b (Some jump) None)) other
+    by (Some jump) leads = slot_by_width inputs none q free i is jump leads n piece slots size read ∙ ap (λ b. option_and_then (slot_for slots) (cond b (Some jump) None)) other
 
 pub returns-in_default : goal.returns-in_default
 returns-in_default c =
-    sym (slot_elsewhere c.args.of.now.planned.now c.requires.source.faultless c.args.place.now.at (source_slots c.args.of.now)
+    sym (slot_elsewhere c.args.of.now.planned.now c.requires.source.faultless c.args.place.now.at c.requires.free (source_slots c.args.of.now)
     (λ n same. c.in_default.not-Jump n (c.requires.piece ∙ same)))
 
 pub size-requires : goal.size-requires
@@ -49,7 +50,7 @@ pub returns-then-size-ne4 : goal.returns-then-size-ne4
 returns-then-size-ne4 c =
     let inputs = c.args.of.now.planned.now in
     let there = sym c.requires.place.is ∙ c.in-Some.is in
-    sym (unsized inputs c.requires.source.faultless (source_slots c.args.of.now) c.args.place.now.at c.in-Some.item there c.in-Jump.to (sym c.requires.piece ∙ c.in-Jump.is) c.size.result
+    sym (unsized inputs c.requires.source.faultless (source_slots c.args.of.now) c.args.place.now.at c.requires.free c.in-Some.item there c.in-Jump.to (sym c.requires.piece ∙ c.in-Jump.is) c.size.result
     (c.size.ensures ∙ (λ j. slice_index (c.requires.source.slots.first j) (c.requires.number j))) (ne_eqb c.size.result 4 c.if-size-ne4.true))
 
 -- a jump or a call leads to a place
@@ -62,7 +63,7 @@ slot_to-requires-clause-target c =
     let inputs = c.args.of.now.planned.now in
     let there = sym c.requires.place.is ∙ c.in-Some.is in
     let jump = leads_to c.in-Some.item c.in-Jump-item.rd c.in-Jump-item.is in
-    let short = short_there inputs c.requires.source.faultless c.args.place.now.at c.in-Some.item there (c.in-Jump-item.rd, jump.0) jump.1 c.in-Jump.to (sym c.requires.piece ∙ c.in-Jump.is) in
+    let short = short_there inputs c.requires.source.faultless c.args.place.now.at c.requires.free c.in-Some.item there (c.in-Jump-item.rd, jump.0) jump.1 c.in-Jump.to (sym c.requires.piece ∙ c.in-Jump.is) in
     omega (arith, short.target, number_most (parsed inputs) [] jump.0)
 
 pub returns-in-Jump-item : goal.returns-in-Jump-item
@@ -75,8 +76,8 @@ returns-in-Jump-item c =
     let there = sym c.requires.place.is ∙ c.in-Some.is in
     let jump = leads_to i c.in-Jump-item.rd c.in-Jump-item.is in
     let piece = sym c.requires.piece ∙ c.in-Jump.is in
-    let short = short_there inputs none q i there (c.in-Jump-item.rd, jump.0) jump.1 c.in-Jump.to piece in
+    let short = short_there inputs none q c.requires.free i there (c.in-Jump-item.rd, jump.0) jump.1 c.in-Jump.to piece in
     c.slot_to.ensures jump.0 short.target
-    ∙ sym (slot_by_width inputs none q i there (c.in-Jump-item.rd, jump.0) jump.1 c.in-Jump.to piece slots c.size.result
+    ∙ sym (slot_by_width inputs none q c.requires.free i there (c.in-Jump-item.rd, jump.0) jump.1 c.in-Jump.to piece slots c.size.result
     (c.size.ensures ∙ (λ j. slice_index (c.requires.source.slots.first j) (c.requires.number j)))
     ∙ ap (λ b. option_and_then (slot_for slots) (cond b (Some (c.in-Jump-item.rd, jump.0)) None)) (eq-eqb c.size.result 4 c.if-size-ne4.false))

@@ -1,6 +1,7 @@
 -- What isn't code has no places; what is has one for its end, behind those where items start.
 use Rattle.std.proofs.Common.{◌≡◌, ◌∙◌, ◌-◌, ◌+◌, Some, length, take, ap, eqb, sym, subst₂, arith}
 use Rattle.elf32_read.specs.Parts.{is_code_section}
+use Rattle.psabi_sym.specs.Fixed.{is_fixed_at}
 use Rattle.psabi_sym.specs.Inputs.{parsed}
 use Rattle.psabi_sym.specs.Indexed.{all_sections}
 use Rattle.block_cut.specs.Items.{places_of}
@@ -22,7 +23,7 @@ returns-clause-some c =
     let k = c.args.number in
     let there = some_at (all_sections (parsed inputs).objects) k c.requires.section in
     let l = there.0 in
-    let own : c.section.result ≡ l = cc (there.1, c.section.ensures, c.objects.ensures.same) in
+    let own : c.section-section.result ≡ l = cc (there.1, c.section-section.ensures, c.objects.ensures.same) in
     let places = c.places-places.ensures l there.1 in
     let code = some_code inputs none k l there.1 (ap (λ ps. eqb (length ps) 0) (sym places) ∙ sym c.is_empty.ensures ∙ c.if-is_empty.false) in
     let starts = c.item_places.ensures ∙ ap (λ ps. take (length ps - 1) ps) places in
@@ -40,4 +41,5 @@ returns-clause-some c =
         count_next inputs none k l there.1,
         count_few inputs none (k + 1),
       );
+      fixed = c.is_fixed.ensures ∙ (λ j. is_fixed_at (parsed (c.objects-2.ensures.same j)) (c.object.ensures j) (c.index.ensures j));
     }

@@ -62,8 +62,7 @@ overflow_add-result c =
       address a,
       address_few own.planned c.self.invariant.faultless own.slots.items c.self.invariant.targets.few c.args.k (most a),
       map.code,
-      map.data_room,
-      map.top,
+      map.room,
     )
 
 pub returns : goal.returns
