@@ -126,7 +126,7 @@ module _ (p : Program) (parts : Parts) (out : AreLaidOut p parts) where
       record {
         size = 4;
         here = fetched_long (loaded_core e) a w i (text_lies p parts out a 4 st.low (omega (arith, high, four))) word low sp.spells;
-        small = omega (arith, high, four, short, map.code, map.data_room, map.top);
+        small = omega (arith, high, four, short, map.code, map.room);
       }
 
   -- a halfword that is an instruction is fetched
@@ -143,7 +143,7 @@ module _ (p : Program) (parts : Parts) (out : AreLaidOut p parts) where
       record {
         size = 2;
         here = fetched_short (loaded_core e) a half s (text_lies p parts out a 2 st.low (omega (arith, high, two))) is (short_low half s spells) spells;
-        small = omega (arith, high, two, short, map.code, map.data_room, map.top);
+        small = omega (arith, high, two, short, map.code, map.room);
       }
 
   -- n bytes that are an instruction: it is fetched, or another one with its effect

@@ -132,7 +132,7 @@ module _ (L : TextLayout) (is_map : IsMap L.inputs.map) (laid : IsLaidOut L) (so
       let few = laid.few in
       let size = size_some L.slots some in
       record {
-        small = omega (arith, few, is_map.code, is_map.data_room, is_map.top);
+        small = omega (arith, few, is_map.code, is_map.room);
         word = address_small L is_map laid q (start_address L) laid.start;
         low = omega (arith, low, size);
         near = omega (arith, high, short);

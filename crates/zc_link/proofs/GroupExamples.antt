@@ -1,6 +1,7 @@
 -- Groups that are laid, computed: a whole push, a split pop that returns 0, whose loads stand in the other order, and a pair of moves.
 use Rattle.std.proofs.Common.{◌≡◌, ℕ, zero, suc, ◌+◌, ◌<◌, List, [], ◌∷◌, Option, Some, None, true, refl, arith, pos, negsuc, inl, inr}
 use Rattle.std.specs.Prelude.{◌==◌, if◌then◌else◌, Contains}
+use Rattle.zc_base.specs.MemMap.{all_extensions}
 use Rattle.zc_base.specs.declared.place.Place.{Place}
 use Rattle.rv_decode.specs.Memory.{blank}
 use Rattle.rv_decode.specs.declared.instr.Instr.TheVariants.{Jalr, Load, Store, WithImm}
@@ -41,7 +42,7 @@ program = record {
   item = λ q. items q.offset;
   next = λ q. record q { offset = q.offset + 4 };
   entry = record { object = 0; section = 1; offset = 0 };
-  map = record { text = 0x10000; data_low = 0x20000; stack_low = 0x30000; stack_high = 0x40000 };
+  map = record { text = 0x10000; data_low = 0x20000; stack_low = 0x30000; stack_high = 0x40000; extensions = all_extensions };
   bytes = [];
 }
 
@@ -51,7 +52,7 @@ image = record {
   entry = 0x10000;
   segments = record { code = true; at = 0x10000; size = 8; bytes = 0x42 ∷ 0xB8 ∷ 0x45 ∷ 0x61 ∷ 0x5E ∷ 0xBC ∷ 0xEA ∷ 0xAC ∷ [] } ∷ [];
   address = λ q. if q.offset == 0 then Some 0x10000 else (if q.offset == 8 then Some 0x10002 else (if q.offset == 28 then Some 0x10006 else (if q.offset == 36 then Some 0x10008 else None)));
-  map = record { text = 0x10000; data_low = 0x20000; stack_low = 0x30000; stack_high = 0x40000 };
+  map = record { text = 0x10000; data_low = 0x20000; stack_low = 0x30000; stack_high = 0x40000; extensions = all_extensions };
 }
 
 -- ---- what is fetched

@@ -1,13 +1,15 @@
 -- The items of a group: they stand one after another in its section (`along`), a basic block begins at none behind the first, and they are the
 -- instructions of some kind of group, which its halfword and its rest are those of (`group_known`).
 use Rattle.std.proofs.Common.{◌≡◌, ◌∙◌, ℕ, zero, suc, ◌+◌, ◌<◌, ◌≤◌, ◌⊎◌, inl, inr, List, [], ◌∷◌, ◌++◌, length, filter, map, Bool, true, false, cond, Option, Some, None, slice_get, refl, sym, ap, subst, arith, eqb, ltb, drop}
+use Rattle.std.specs.Prelude.{not}
 use Rattle.std.specs.Option.{option_and_then, option_map_or}
-use Rattle.std.proofs.lemmas.Bool.{eqb-true, false_from_ne_true}
+use Rattle.std.proofs.lemmas.Bool.{and_parts, eqb-true, false_from_ne_true}
 use Rattle.std.proofs.lemmas.List.{length-append, length-map}
 use Rattle.std.proofs.lemmas.Option.{none-some, same_Some, slice_get-map, slice_get_within}
 use Rattle.zc_base.specs.declared.place.Place.{Place}
 use Rattle.elf32_read.specs.Parts.{SectionParts}
 use Rattle.psabi_sym.specs.Faults.{gather_fault}
+use Rattle.psabi_sym.specs.Fixed.{is_fixed_at}
 use Rattle.psabi_sym.specs.Inputs.{Inputs, ParsedInputs, parsed}
 use Rattle.rv_decode.specs.declared.instr.Instr.{Instr}
 use Rattle.block_cut.specs.Items.{after_items, code_at, index_on, is_end_at, is_start_at, item_at, next_at, size_on, starts_in, starts_on}
@@ -17,7 +19,7 @@ use Rattle.block_cut.proofs.ItemLaws.{item_found, item_there}
 use Rattle.block_cut.proofs.PlainLaws.{next_start}
 use Rattle.block_cut.proofs.StartLaws.{before_end_all, before_next_start, start_is}
 use Rattle.block_cut.proofs.WholeLaws.{code_is_section, code_whole}
-use Rattle.frame_match.specs.Groups.{Spot, op_then, ops_behind, ops_from, role_at, roles_in, spot_on}
+use Rattle.frame_match.specs.Groups.{Spot, groupable_op, may_have_groups, op_then, ops_behind, ops_from, role_at, roles_in, spot_on}
 use Rattle.frame_match.specs.Read.{op_of}
 use Rattle.frame_match.specs.declared.group.Group.{Group}
 use Rattle.frame_match.specs.declared.role.Role.TheVariants.{First, Inside}
@@ -120,6 +122,14 @@ module _ (inputs : Inputs) (none : gather_fault inputs ≡ None) where
       by (Some (RawShort w)) at h = absurd cc
       by (Some (RawPair v w)) at h = absurd cc
 
+  -- and it has none else
+  op_some : (q : Place) (i : Instr) → groupable_op given q ≡ Some i → option_and_then op_of (item_at given q) ≡ Some i
+  op_some q i = by (may_have_groups given q.object q.section)
+    where
+      by : (b : Bool) → cond b (option_and_then op_of (item_at given q)) None ≡ Some i → option_and_then op_of (item_at given q) ≡ Some i
+      by true h = h
+      by false h = absurd cc
+
   -- the spot of a place where an item starts
   spot_there : (q : Place) (s : SectionParts) → code_at given.objects q ≡ Some s → starts_on s q.offset ≡ true
       → slice_get (map (spot_on given (own q s)) (starts_in s)) (index_on s q.offset) ≡ Some (spot_on given (own q s) q.offset)
@@ -165,7 +175,7 @@ module _ (inputs : Inputs) (none : gather_fault inputs ≡ None) where
         let n = index_on s q.offset in
         let first = first_op spot.op i (is ++ tail) (ops_behind rest) ops in
         let same : spot_on given (own q s) q.offset ≡ spot = same_Some _ spot (sym (spot_there q s here start) ∙ drop_got spots n spot rest at) in
-        let own_item = op_there q i (ap (λ (x : Spot). x.op) same ∙ first.0) in (
+        let own_item = op_there q i (op_some q i (ap (λ (x : Spot). x.op) same ∙ first.0)) in (
           (λ j. item j q) ∙ own_item,
           subst (λ (f : Place → Place). AreOps program (f q) is) (sym next)
               (by is first.1 (λ t ts begins on more. ops_along is tail (next_at given.objects q) s t ts here begins on more)),
@@ -203,6 +213,23 @@ module _ (inputs : Inputs) (none : gather_fault inputs ≡ None) where
     starts =
         let two = code_is_section given.objects q s here in
         group_starts given (own q s) (index_on s q.offset) g two.1 (sym (role-code given q s here start) ∙ role)
+
+    -- its section may have groups
+    may_have : may_have_groups given q.object q.section ≡ true
+    may_have = by (may_have_groups given q.object q.section) refl
+      where
+        by : (b : Bool) → may_have_groups given q.object q.section ≡ b → may_have_groups given q.object q.section ≡ true
+        by true is = is
+        by false is =
+            let spots = map (spot_on given (own q s)) (starts_in s) in
+            let same : spot_on given (own q s) q.offset ≡ starts.spot =
+            same_Some _ starts.spot (sym (spot_there q s here start) ∙ drop_got spots (index_on s q.offset) starts.spot starts.rest starts.here) in
+            let op : starts.spot.op ≡ None = ap (λ (x : Spot). x.op) (sym same) ∙ ap (λ b. cond b (option_and_then op_of (item_at given q)) None) is in
+            absurd (omega (arith, starts.sized.least, starts.sized.within, ap (λ o. length (op_then o (ops_behind starts.rest))) op))
+
+    -- so the chip has Zcmp
+    pub needs_zcmp : given.map.extensions.zcmp ≡ true
+    needs_zcmp = (and_parts given.map.extensions.zcmp (not (is_fixed_at given q.object q.section)) may_have).0
 
     -- an item inside it starts at each place but the first
     pub inside_role : (k : ℕ) → 0 < k → k < g.items → role_at given (after_items given.objects k q) ≡ Some Inside

@@ -54,7 +54,7 @@ module _ (L : TextLayout) where
         within = omega (arith, h.within, length-append text more);
         section = h.section;
         here = h.here;
-        written = subst (UnitWritten L (bytes_from h.section.bytes e.0.offset) e.1 h.size u)
+        written = subst (UnitWritten L e.0 (bytes_from h.section.bytes e.0.offset) e.1 h.size u)
             (sym (first_bytes text more (e.1 - start) h.size (omega (arith, h.low, h.within)))) h.written;
       }
 
@@ -77,7 +77,7 @@ module _ (L : TextLayout) where
         within = omega (arith, adds.long, length-append text bytes);
         section = s;
         here = at;
-        written = subst (UnitWritten L (bytes_from s.bytes q.offset) a n v)
+        written = subst (UnitWritten L q (bytes_from s.bytes q.offset) a n v)
             (sym (added_there text bytes (a - start) n (omega arith) (sym adds.long))) adds.written;
       })
 

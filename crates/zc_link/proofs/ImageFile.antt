@@ -4,6 +4,7 @@ use Rattle.std.proofs.Common.{◌≡◌, ℕ, ◌+◌, ◌-◌, ◌%◌, ◌<◌
 use Rattle.std.specs.Prelude.{All}
 use Rattle.std.proofs.lemmas.List.{length-replicate}
 use Rattle.std.proofs.lemmas.Option.{none-some}
+use Rattle.zc_base.specs.MemMap.{data_limit}
 use Rattle.zc_base.specs.declared.place.Place.{Place}
 use Rattle.elf32_read.specs.Header.{are_known_flags}
 use Rattle.elf32_read.specs.Parts.{SectionParts}
@@ -68,27 +69,27 @@ use Rattle.zc_link.proofs.ImageMemory as memory
 
 -- all data has 4 MiB at most
 abbrev pub HasDataRoom : ParsedInputs → Type 0
-HasDataRoom p = data_end p ≤ p.map.data_low + 0x40_0000
+HasDataRoom p = data_end p ≤ p.map.data_low + data_limit p.map
 
 -- ---- what is copied
 
 -- where bytes are those of the objects, or an address, they are copied as they should be
 copied_item :
-    (L : TextLayout) (B : Place → Option ℕ) (own bytes : ℕ → List ℕ) (a size n : ℕ) (item : Item) → L.address ≡ B → HasForm L.address a size n item
-    → IsWritten L own a n item (bytes n) → ItemCopied B own bytes item
-copied_item L B own bytes a size n (Op i) same form w = tt
-copied_item L B own bytes a size n (Hi i t) same form w = tt
-copied_item L B own bytes a size n (Lo i t) same form w = tt
-copied_item L B own bytes a size n (PcHi i t) same form w = tt
-copied_item L B own bytes a size n (PcLo i from) same form w = tt
-copied_item L B own bytes a size n (Branch op first second to) same form w = tt
-copied_item L B own bytes a size n (Jump rd to) same form w = tt
-copied_item L B own bytes a size n (Call rd temp to) same form w = tt
-copied_item L B own bytes a size n (Align k) same form w = tt
-copied_item L B own bytes a size n (Word t) same form w = (w.0, ap (λ f. target_value f t) (sym same) ∙ w.1, ap bytes (sym form) ∙ w.2)
-copied_item L B own bytes a size n (Raw word) same form w = ap bytes (sym form) ∙ w
-copied_item L B own bytes a size n (RawShort half) same form w = ap bytes (sym form) ∙ w
-copied_item L B own bytes a size n (RawPair first second) same form w = ap bytes (sym form) ∙ w
+    (L : TextLayout) (q : Place) (B : Place → Option ℕ) (own bytes : ℕ → List ℕ) (a size n : ℕ) (item : Item) → L.address ≡ B → HasForm L.address a size n item
+    → IsWritten L q own a n item (bytes n) → ItemCopied B own bytes item
+copied_item L q B own bytes a size n (Op i) same form w = tt
+copied_item L q B own bytes a size n (Hi i t) same form w = tt
+copied_item L q B own bytes a size n (Lo i t) same form w = tt
+copied_item L q B own bytes a size n (PcHi i t) same form w = tt
+copied_item L q B own bytes a size n (PcLo i from) same form w = tt
+copied_item L q B own bytes a size n (Branch op first second to) same form w = tt
+copied_item L q B own bytes a size n (Jump rd to) same form w = tt
+copied_item L q B own bytes a size n (Call rd temp to) same form w = tt
+copied_item L q B own bytes a size n (Align k) same form w = tt
+copied_item L q B own bytes a size n (Word t) same form w = (w.0, ap (λ f. target_value f t) (sym same) ∙ w.1, ap bytes (sym form) ∙ w.2)
+copied_item L q B own bytes a size n (Raw word) same form w = ap bytes (sym form) ∙ w
+copied_item L q B own bytes a size n (RawShort half) same form w = ap bytes (sym form) ∙ w
+copied_item L q B own bytes a size n (RawPair first second) same form w = ap bytes (sym form) ∙ w
 
 -- of jumps and calls nothing is copied
 jump_copied :
@@ -170,7 +171,7 @@ module _ (L : TextLayout) (ready : IsReady L.inputs) (lies : IsLaidOut L) (flags
   short = omega (arith, ends, lies.short)
 
   -- data are short too
-  memory_size : length (image_data p3 A) + (data_end p3 - data_file_end p3) ≤ 0x40_0000
+  memory_size : length (image_data p3 A) + (data_end p3 - data_file_end p3) ≤ data_limit inputs.map
   memory_size = omega (arith, length-image_data p3 A, data_low-le p3, data_file_end-le p3, room)
 
   -- the image has as many bytes of data as the program
@@ -250,8 +251,8 @@ module _ (L : TextLayout) (ready : IsReady L.inputs) (lies : IsLaidOut L) (flags
         map = refl;
         top = map.top;
         some = omega (arith, map.stack);
-        deep = omega (arith, map.stack, map.data_room, map.code);
-        under = omega (arith, size, data_part, map.stack, map.data_room);
+        deep = omega (arith, map.below, map.code);
+        under = omega (arith, size, data_part, map.below);
         reaches = memory.reaches program parts out;
         bounded = memory.bounded program parts out;
         apart = memory.text_apart program parts out;
@@ -319,7 +320,7 @@ module _ (L : TextLayout) (ready : IsReady L.inputs) (lies : IsLaidOut L) (flags
       record {
         file = omega (arith, short, few, memory_size);
         data_memory = omega (arith, memory_size);
-        data_end = omega (arith, memory_size, map.data_room, map.top);
+        data_end = omega (arith, memory_size, map.room);
       }
 
   -- a loader accepts the parts
@@ -330,7 +331,7 @@ module _ (L : TextLayout) (ready : IsReady L.inputs) (lies : IsLaidOut L) (flags
       record {
         text_at = refl;
         data_at = refl;
-        words = omega (arith, map.data_room, map.top);
+        words = omega (arith, map.room);
         file = omega (arith, short, few, memory_size);
         flags = known_flags flags one;
         text = omega (arith, short, map.code);
@@ -400,9 +401,9 @@ module _ (L : TextLayout) (ready : IsReady L.inputs) (lies : IsLaidOut L) (flags
           let same : h.section ≡ s = cc (sym h.here ∙ at) in
           let one : i ≡ item = cc (sym form.is ∙ is) in
           subst (ItemCopied (listed_address (place_list (image_bytes parts))) (bytes_from s.bytes q.offset) (bytes_from text (a - inputs.map.text))) one
-          (copied_item L (listed_address (place_list (image_bytes parts))) (bytes_from s.bytes q.offset) (bytes_from text (a - inputs.map.text)) a (size_at p3.objects q) h.size i addresses
+          (copied_item L q (listed_address (place_list (image_bytes parts))) (bytes_from s.bytes q.offset) (bytes_from text (a - inputs.map.text)) a (size_at p3.objects q) h.size i addresses
           (subst (λ n. HasForm A a (size_at p3.objects q) n i) size form.form)
-          (subst (λ t. IsWritten L (bytes_from t.bytes q.offset) a h.size i (bytes_from text (a - inputs.map.text) h.size)) same h.written))
+          (subst (λ t. IsWritten L q (bytes_from t.bytes q.offset) a h.size i (bytes_from text (a - inputs.map.text) h.size)) same h.written))
       of q a s item (OneGroup g) at is form h =
           let first = group_op inputs none q g form.is in
           let one : Op first.0 ≡ item = cc (sym first.1 ∙ is) in

@@ -5,7 +5,7 @@ use Rattle.std.specs.Prelude.{◌||◌}
 use Rattle.std.proofs.lemmas.Bool.{and_from, and_parts, cond-false, cond-true, le-leb, leb-true, or_cases, or_from, or_left, or_right}
 use Rattle.std.proofs.lemmas.List.{length-replicate}
 use Rattle.std.proofs.lemmas.List.Elements.{All-cons, All-nil}
-use Rattle.zc_base.specs.MemMap.{IsMap}
+use Rattle.zc_base.specs.MemMap.{IsMap, data_limit}
 use Rattle.zc_base.specs.declared.mem_map.MemMap.{MemMap}
 use Rattle.elf32_read.specs.Segments.{SegmentData}
 use Rattle.elf32_write.specs.Loadable.{segments}
@@ -39,7 +39,7 @@ pub record AreLaidOut (p : Program) (parts : Parts) : Type 0 where
   pub data_at : parts.data_at ≡ p.map.data_low
   pub short : length parts.text ≤ 0x9_0000
   pub size : length p.bytes ≡ length parts.data_bytes + parts.zero
-  pub room : length parts.data_bytes + parts.zero ≤ 0x40_0000
+  pub room : length parts.data_bytes + parts.zero ≤ data_limit p.map
   pub text_are : AreBytes parts.text
   pub data_are : AreBytes parts.data_bytes
 
@@ -125,9 +125,9 @@ module _ (p : Program) (parts : Parts) (out : AreLaidOut p parts) where
       let at = out.data_at in
       let stack = length_blank {X = ℕ} stack_size 0 in
       ⊎_elim
-      (λ d. let b = bounds data_extent a n d in (omega (arith, b.0, at, map.code), omega (arith, b.1, size, room, at, map.data_room, map.stack)))
+      (λ d. let b = bounds data_extent a n d in (omega (arith, b.0, at, map.code), omega (arith, b.1, size, room, at, map.below, map.stack)))
       (λ rest. ⊎_elim
-      (λ k. let b = bounds stack_extent a n k in (omega (arith, b.0, map.code, map.data_room, map.stack), omega (arith, b.1, stack, map.stack)))
+      (λ k. let b = bounds stack_extent a n k in (omega (arith, b.0, map.code, map.below), omega (arith, b.1, stack, map.stack)))
       (λ (none : false ≡ true). absurd cc)
       (or_cases (spans stack_extent a n) false rest))
       (or_cases (spans data_extent a n) (spans stack_extent a n || false) h)
@@ -147,7 +147,7 @@ module _ (p : Program) (parts : Parts) (out : AreLaidOut p parts) where
       let high : a + 1 ≤ parts.text_at + length words = ⊎_elim (λ t. leb-true (a + 1) (parts.text_at + length words) (and_parts (leb parts.text_at a) (leb (a + 1) (parts.text_at + length words)) t).1) (λ f. absurd cc) (or_cases (spans (record { kind = Text; at = parts.text_at; size = length words }) a 1) false h) in
       let below : a < parts.data_at = omega (arith, high, size, short, at, data_at, map.code) in
       or_from (spans data_extent a 1) _ (spans_before data_extent a 1 below)
-      (or_from (spans stack_extent a 1) false (spans_before stack_extent a 1 (omega (arith, below, data_at, map.stack, map.data_room))) refl)
+      (or_from (spans stack_extent a 1) false (spans_before stack_extent a 1 (omega (arith, below, data_at, map.below))) refl)
 
   -- an address of data lies in the segment of data
   pub data_lies : (a : ℕ) → memory.data_low ≤ a → a < data_high p → lies_in is_segment (extents_of (loaded_core image).memory) a 1 ≡ true
@@ -171,12 +171,12 @@ module _ (p : Program) (parts : Parts) (out : AreLaidOut p parts) where
       let most = out.room in
       let at = out.text_at in
       let data_at = out.data_at in (
-        omega (arith, text_size, short, at, map.code, map.data_room, map.top),
+        omega (arith, text_size, short, at, map.code, map.room),
         All-cons (Apart text_extent) data_extent (stack_extent ∷ []) (omega (arith, text_size, short, at, data_at, map.code))
-            (All-cons (Apart text_extent) stack_extent [] (omega (arith, text_size, short, at, map.code, map.data_room, map.stack)) (All-nil (Apart text_extent))),
+            (All-cons (Apart text_extent) stack_extent [] (omega (arith, text_size, short, at, map.code, map.below)) (All-nil (Apart text_extent))),
         (
-          omega (arith, data_size, most, data_at, map.data_room, map.top),
-          All-cons (Apart data_extent) stack_extent [] (omega (arith, data_size, most, data_at, map.data_room, map.stack)) (All-nil (Apart data_extent)),
+          omega (arith, data_size, most, data_at, map.room),
+          All-cons (Apart data_extent) stack_extent [] (omega (arith, data_size, most, data_at, map.below)) (All-nil (Apart data_extent)),
           (omega (arith, size, map.stack, map.top), All-nil (Apart stack_extent), tt),
         ),
       )

@@ -1,5 +1,5 @@
 -- What is written for an item, by what it is: the number of bytes, and that they are what the item asks for.
-use Rattle.std.proofs.Common.{◌≡◌, ℕ, ℤ, ◌+◌, ◌^◌, ◌<◌, ◌≤◌, ◌⊎◌, inl, inr, Bool, List, ◌++◌, length, Option, Some, None, true, false, refl, sym, ap, ◌∙◌, subst, arith, take, drop}
+use Rattle.std.proofs.Common.{◌≡◌, ℕ, ℤ, ◌+◌, ◌^◌, ◌<◌, ◌≤◌, ◌⊎◌, inl, inr, Bool, List, ◌++◌, length, Option, Some, true, false, refl, sym, ap, ◌∙◌, subst, arith, take, drop}
 use Rattle.std.specs.Prelude.{IsTrue, ◌||◌}
 use Rattle.std.specs.Option.{option_map}
 use Rattle.std.proofs.lemmas.List.{take-append-drop}
@@ -29,7 +29,7 @@ use Rattle.zc_decode.specs.declared.short.Short.TheVariants.{Base}
 use Rattle.zc_encode.specs.Halves.{encoded16}
 use Rattle.zca_zcb_pass.specs.Forms.{HasEffectOf}
 use Rattle.zc_link.specs.Copied.{bytes_from}
-use Rattle.zc_link.specs.LaidOut.{HasBranchSize, HasCallSize, HasForm, HasSize}
+use Rattle.zc_link.specs.LaidOut.{HasBranchSize, HasCallSize, HasForm, HasOwnHalf, HasSize}
 use Rattle.zc_link.specs.Standing.{HasOwnSize, HasValue, HasWay, IsHalfHere, ItemStands, SpellsCall, SpellsWay, StandsHere, WrittenHere, is_lower, is_patched}
 use Rattle.zc_link.specs.Meant.{meant, way_on}
 use Rattle.zc_link.specs.TextLayout.{TextLayout}
@@ -81,17 +81,17 @@ module _ (L : TextLayout) (code : List ℕ) (q : Place) (item : Item) (a n : ℕ
   abbrev Here : List ℕ → Type 0
   Here bytes = WrittenHere L code q (OneItem item) a n bytes
 
-  made : (bytes : List ℕ) → AreSized n bytes → IsWritten L own a n item bytes → Here bytes
+  made : (bytes : List ℕ) → AreSized n bytes → IsWritten L q own a n item bytes → Here bytes
   made bytes sized written = record { long = sized.0; written = written; octets = sized.1 }
 
   -- an ALIGN's padding
   pub align_written : (k : ℕ) → item ≡ Align k → Here (padding n)
   align_written k is =
-      made (padding n) (length-padding n here.even, padding_are n) (subst (λ i. IsWritten L own a n i (padding n)) (sym is) refl)
+      made (padding n) (length-padding n here.even, padding_are n) (subst (λ i. IsWritten L q own a n i (padding n)) (sym is) refl)
 
   -- what is copied unread
   copied :
-      (m : ℕ) (bytes : List ℕ) → n ≡ m → size ≡ m → IsWritten L own a n item bytes → bytes ≡ own m → AreBytes code
+      (m : ℕ) (bytes : List ℕ) → n ≡ m → size ≡ m → IsWritten L q own a n item bytes → bytes ≡ own m → AreBytes code
       → Here bytes
   copied m bytes takes sized written are octets =
       made bytes (
@@ -104,28 +104,28 @@ module _ (L : TextLayout) (code : List ℕ) (q : Place) (item : Item) (a n : ℕ
     pub raw_written : (w : ℕ) → item ≡ Raw w → bytes ≡ own 4 → Here bytes
     raw_written w is are =
         copied 4 bytes (subst (HasForm L.address a size n) is here.form) (subst (λ i. HasOwnSize i size) is here.size)
-        (subst (λ i. IsWritten L own a n i bytes) (sym is) are) are octets
+        (subst (λ i. IsWritten L q own a n i bytes) (sym is) are) are octets
 
     pub short_written : (h : ℕ) → item ≡ RawShort h → bytes ≡ own 2 → Here bytes
     short_written h is are =
         copied 2 bytes (subst (HasForm L.address a size n) is here.form) (subst (λ i. HasOwnSize i size) is here.size)
-        (subst (λ i. IsWritten L own a n i bytes) (sym is) are) are octets
+        (subst (λ i. IsWritten L q own a n i bytes) (sym is) are) are octets
 
     pub pair_written : (w v : ℕ) → item ≡ RawPair w v → bytes ≡ own 8 → Here bytes
     pair_written w v is are =
         copied 8 bytes (subst (HasForm L.address a size n) is here.form) (subst (λ i. HasOwnSize i size) is here.size)
-        (subst (λ i. IsWritten L own a n i bytes) (sym is) are) are octets
+        (subst (λ i. IsWritten L q own a n i bytes) (sym is) are) are octets
 
   -- ---- one word
 
   -- a word that is the instruction of the item here
   pub word_written :
       (j : Item) (i : Instr) (word : ℕ) → item ≡ j
-      → ((bytes : List ℕ) → SpellsMeant L a n j bytes → IsWritten L own a n j bytes) → meant L.address it a j ≡ Some i
+      → ((bytes : List ℕ) → SpellsMeant L a n j bytes → IsWritten L q own a n j bytes) → meant L.address it a j ≡ Some i
       → n ≡ 4 → word < 2 ^ 32 → decoded word ≡ Some i → Here (word_bytes word)
   word_written j i word is row means four small spells =
       made (word_bytes word) (sym four, word_are word)
-      (subst (λ k. IsWritten L own a n k (word_bytes word)) (sym is)
+      (subst (λ k. IsWritten L q own a n k (word_bytes word)) (sym is)
       (row (word_bytes word)
       (record { instr = i; is = means; spelled = inl (four, record { word = word; small = small; are = refl; spells = spells }) })))
 
@@ -148,12 +148,12 @@ module _ (L : TextLayout) (code : List ℕ) (q : Place) (item : Item) (a n : ℕ
     pub branch_written :
         (d : ℤ) (bytes : List ℕ) → ((b : ℕ) → L.address to ≡ Some b → d ≡ as_signed (way a b)) → IsBranchSpelled n bytes op first second d → Here bytes
     branch_written d bytes far spelled =
-        made bytes (branch_sized n bytes op first second d spelled) (subst (λ i. IsWritten L own a n i bytes) (sym is) (by spelled))
+        made bytes (branch_sized n bytes op first second d spelled) (subst (λ i. IsWritten L q own a n i bytes) (sym is) (by spelled))
       where
         same : d ≡ as_signed (way a branch_stands.address)
         same = far branch_stands.address branch_stands.listed
 
-        by : IsBranchSpelled n bytes op first second d → IsWritten L own a n (Branch op first second to) bytes
+        by : IsBranchSpelled n bytes op first second d → IsWritten L q own a n (Branch op first second to) bytes
         by (inl one) =
             inl (record { instr = instr.Branch op first second d; is = leads_by (instr.Branch op first second) to branch_stands.address d branch_stands.listed same; spelled = one })
         by (inr long) =
@@ -168,7 +168,7 @@ module _ (L : TextLayout) (code : List ℕ) (q : Place) (item : Item) (a n : ℕ
     jump_written d bytes far spelled =
         let same = far jump_stands.address jump_stands.listed in
         made bytes (spelled_sized n bytes (instr.Jal rd d) spelled)
-        (subst (λ i. IsWritten L own a n i bytes) (sym is)
+        (subst (λ i. IsWritten L q own a n i bytes) (sym is)
         (record { instr = instr.Jal rd d; is = leads_by (instr.Jal rd) to jump_stands.address d jump_stands.listed same; spelled = spelled }))
 
   module _ (rd temp : ℕ) (to : Place) (is : item ≡ Call rd temp to) where
@@ -185,7 +185,7 @@ module _ (L : TextLayout) (code : List ℕ) (q : Place) (item : Item) (a n : ℕ
     call_jump_written d bytes far spelled =
         let same = far call_stands.address call_stands.listed in
         made bytes (spelled_sized n bytes (instr.Jal rd d) spelled)
-        (subst (λ i. IsWritten L own a n i bytes) (sym is)
+        (subst (λ i. IsWritten L q own a n i bytes) (sym is)
         (inl (record { instr = instr.Jal rd d; is = leads_by (instr.Jal rd) to call_stands.address d call_stands.listed same; spelled = spelled })))
 
     -- a call as its two words
@@ -195,7 +195,7 @@ module _ (L : TextLayout) (code : List ℕ) (q : Place) (item : Item) (a n : ℕ
     call_written bytes eight upper lower =
         let both : bytes ≡ take 4 bytes ++ drop 4 bytes = sym (take-append-drop 4 bytes) in
         made bytes (both_sized n bytes (take 4 bytes) (drop 4 bytes) _ _ eight both upper lower)
-        (subst (λ i. IsWritten L own a n i bytes) (sym is)
+        (subst (λ i. IsWritten L q own a n i bytes) (sym is)
         (inr (
           eight,
           (
@@ -237,7 +237,7 @@ module _ (L : TextLayout) (code : List ℕ) (q : Place) (item : Item) (a n : ℕ
     op_written word small long spells =
         let four = four_long in
         let w : SpellsWord (word_bytes word) i = record { word = word; small = small; are = refl; spells = spells } in
-        made (word_bytes word) (sym four, word_are word) (subst (λ j. IsWritten L own a n j (word_bytes word)) (sym is) (either L.keeps_halfwords (four, w)))
+        made (word_bytes word) (sym four, word_are word) (subst (λ j. IsWritten L q own a n j (word_bytes word)) (sym is) (either (L.keeps_halfwords q) (four, w)))
       where
         either : (b : Bool) → (n ≡ 4) × SpellsWord (word_bytes word) i → IsOpWritten b own n i (word_bytes word)
         either true w = inl w
@@ -337,7 +337,7 @@ module _ (L : TextLayout) (code : List ℕ) (q : Place) (item : Item) (a n : ℕ
     word_target t is taken =
         let k = subst Known is stands in
         made (word_bytes word) (sym four, word_are word)
-        (subst (λ j. IsWritten L own a n j (word_bytes word)) (sym is) (word, taken, refl))
+        (subst (λ j. IsWritten L q own a n j (word_bytes word)) (sym is) (word, taken, refl))
 
   -- but an instruction without relocation these have four bytes
   patched_four : (i : Item) → ((j : Instr) → i ≡ Op j → ⊥) → is_patched i ≡ true → HasOwnSize i size → size ≡ 4
@@ -359,17 +359,17 @@ module _ (L : TextLayout) (code : List ℕ) (q : Place) (item : Item) (a n : ℕ
     unfixed (inr has) = absurd cc
 
     -- the halfword that was found before the layout
-    pub half_written : (half : ℕ) → IsHalfHere L.keeps_halfwords size item (Some half) → Here (half_bytes half)
-    half_written half found = made (half_bytes half) (sym two, half_are half) (by item patched here.form found.2)
+    pub half_written : (half : ℕ) → L.keeps_halfwords q ≡ false → IsHalfHere item half → Here (half_bytes half)
+    half_written half short_form found = made (half_bytes half) (sym two, half_are half) (by item patched here.form found.1)
       where
         short :
             (i : Instr) → ((j : Instr) → Some i ≡ Some j → (encoded16 (Base j) ≡ Some half) × HasEffectOf j half) → IsSpelled n (half_bytes half) i
-        short i each = let got = each i refl in inr (two, record { half = half; small = found.1; are = refl; first = got.0; same = got.1 })
+        short i each = let got = each i refl in inr (two, record { half = half; small = found.0; are = refl; first = got.0; same = got.1 })
 
         by :
             (i : Item) → is_patched i ≡ true → HasForm L.address a size n i
-            → ((j : Instr) → fixed_instr i ≡ Some j → (encoded16 (Base j) ≡ Some half) × HasEffectOf j half) → IsWritten L own a n i (half_bytes half)
-        by (Op i) p form each = subst (λ b. IsOpWritten b own n i (half_bytes half)) (sym found.0) (short i each)
+            → ((j : Instr) → fixed_instr i ≡ Some j → (encoded16 (Base j) ≡ Some half) × HasEffectOf j half) → IsWritten L q own a n i (half_bytes half)
+        by (Op i) p form each = subst (λ b. IsOpWritten b own n i (half_bytes half)) (sym short_form) (short i each)
         by (Hi i (Number x)) p form each = record { instr = with_upper i (hi20_of x); is = refl; spelled = short (with_upper i (hi20_of x)) each }
         by (Hi i (Absent x)) p form each = record { instr = with_upper i (hi20_of x); is = refl; spelled = short (with_upper i (hi20_of x)) each }
         by (Hi i (Code to)) p form each = unfixed form
@@ -384,11 +384,8 @@ module _ (L : TextLayout) (code : List ℕ) (q : Place) (item : Item) (a n : ℕ
         by i p form each = absurd cc
 
     -- or its own bytes
-    abbrev IsOwn : Item → Type 0
-    IsOwn i = (j : Instr) → fixed_instr i ≡ Some j → (size ≡ 2) × (i ≡ Op j)
-
-    pub own_written : (bytes : List ℕ) → bytes ≡ own 2 → AreBytes code → IsHalfHere L.keeps_halfwords size item None → Here bytes
-    own_written bytes are octets found = by item refl patched here.form found.1
+    pub own_written : (bytes : List ℕ) → bytes ≡ own 2 → AreBytes code → L.keeps_halfwords q ≡ true → HasOwnHalf size item → Here bytes
+    own_written bytes are octets keeps found = by item refl patched here.form found
       where
         half : ℕ
         half = half_in code q.offset
@@ -402,12 +399,12 @@ module _ (L : TextLayout) (code : List ℕ) (q : Place) (item : Item) (a n : ℕ
             let copies : IsCopied own bytes i =
             record { copies = are; half = half; small = half_small code q.offset octets; are = halved; spelled = normal.spelled; spells = normal.spells; normal = normal.normal } in
             made bytes (ap length halved ∙ sym two, subst AreBytes (sym halved) (half_are half))
-            (subst (λ x. IsWritten L own a n x bytes) (sym is) (subst (λ b. IsOpWritten b own n i bytes) (sym found.0) (inr (two, copies))))
+            (subst (λ x. IsWritten L q own a n x bytes) (sym is) (subst (λ b. IsOpWritten b own n i bytes) (sym keeps) (inr (two, copies))))
 
-        other : {X : Type 0} → (i : Item) (j : Instr) → fixed_instr i ≡ Some j → ((k : Instr) → i ≡ Op k → ⊥) → IsOwn i → X
+        other : {X : Type 0} → (i : Item) (j : Instr) → fixed_instr i ≡ Some j → ((k : Instr) → i ≡ Op k → ⊥) → HasOwnHalf size i → X
         other i j fixed unlike each = absurd (unlike j (each j fixed).1)
 
-        by : (i : Item) → item ≡ i → is_patched i ≡ true → HasForm L.address a size n i → IsOwn i → Here bytes
+        by : (i : Item) → item ≡ i → is_patched i ≡ true → HasForm L.address a size n i → HasOwnHalf size i → Here bytes
         by (Op i) is p form each = op i is (each i refl).0
         by (Hi i (Number x)) is p form each = other (Hi i (Number x)) (with_upper i (hi20_of x)) refl (λ k same. cc) each
         by (Hi i (Absent x)) is p form each = other (Hi i (Absent x)) (with_upper i (hi20_of x)) refl (λ k same. cc) each

@@ -16,7 +16,7 @@ use Rattle.zc_link.specs.TextLayout.{TextLayout}
 
 -- an address is small
 pub address_small : (L : TextLayout) → IsMap L.inputs.map → IsLaidOut L → (q : Place) (a : ℕ) → L.address q ≡ Some a → a < 2 ^ 32
-address_small L is_map laid q a is = omega (arith, laid.high q a is, laid.short, is_map.code, is_map.data_room, is_map.top)
+address_small L is_map laid q a is = omega (arith, laid.high q a is, laid.short, is_map.code, is_map.room)
 
 module _ (L : TextLayout) (laid : IsLaidOut L) where
   -- where an item starts at a place with an address, something is written

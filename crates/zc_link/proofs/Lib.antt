@@ -69,6 +69,7 @@ pub mod GroupBytes
 pub mod FrontLaws
 pub mod Grows
 pub mod Faultless
+pub mod FitsChip
 pub mod ItemUnits
 pub mod PlaceNumbers
 pub mod PlainReach

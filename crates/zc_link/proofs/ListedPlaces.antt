@@ -236,7 +236,7 @@ module _ (L : TextLayout) (none : gather_fault L.inputs ≡ None) (map : IsMap L
         object = omega (arith, few, inside);
         section = omega (arith, sections, within);
         offset = omega (arith, offset_inside is.section two.1 whole is.target, whole.short);
-        address = omega (arith, high, short, map.code, map.data_room, map.top);
+        address = omega (arith, high, short, map.code, map.room);
       }
     where
       offset_inside : (s : SectionParts) → is_code_section s ≡ true → IsWhole s → (starts_on s q.offset ≡ true) ⊎ (q.offset ≡ length s.bytes) → q.offset ≤ length s.bytes

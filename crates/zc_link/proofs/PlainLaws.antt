@@ -30,7 +30,7 @@ use Rattle.sym_machine.specs.Conditions.{is_solid}
 use Rattle.shrink_layout.specs.Halves.{fixed_instr}
 use Rattle.shrink_layout.specs.Pieces.{is_short}
 use Rattle.shrink_layout.specs.Units.{CodeUnit, OneGroup, OneItem, OneSite}
-use Rattle.zc_link.specs.LaidOut.{IsLaidOut, LiesAt, ListsLeaders, code_end_after, text_end}
+use Rattle.zc_link.specs.LaidOut.{HasOwnHalf, IsLaidOut, LiesAt, ListsLeaders, code_end_after, text_end}
 use Rattle.zc_link.specs.Pace.{bytes_between}
 use Rattle.zc_link.specs.Standing.{HasOwnSize, IsReady}
 use Rattle.zc_link.specs.TextLayout.{TextLayout, behind, plain_layout, size_in}
@@ -94,7 +94,7 @@ module _ (inputs : Inputs) (ready : IsReady inputs) where
       let one = bounds q a from in
       let two = bounds to b there in
       let map = ready.is_map in
-      way_jumps a b (omega (arith, one.few, map.code, map.data_room, map.top)) (omega (arith, two.few, map.code, map.data_room, map.top))
+      way_jumps a b (omega (arith, one.few, map.code, map.room)) (omega (arith, two.few, map.code, map.room))
       (omega (arith, two.few, one.low)) (omega (arith, one.few, two.low)) (omega (arith, one.words)) (omega (arith, two.words))
 
   -- a branch is in range, since otherwise there would be a fault; so are branches and jumps of two bytes
@@ -104,7 +104,7 @@ module _ (inputs : Inputs) (ready : IsReady inputs) where
         let one = bounds q a from in
         let two = bounds to b there in
         let map = ready.is_map in
-        way_distance a b (omega (arith, one.few, map.code, map.data_room, map.top)) (omega (arith, two.few, map.code, map.data_room, map.top))
+        way_distance a b (omega (arith, one.few, map.code, map.room)) (omega (arith, two.few, map.code, map.room))
         (omega (arith, two.few, one.low)) (omega (arith, one.few, two.low))
 
     -- the instruction of two bytes at the place
@@ -178,9 +178,7 @@ module _ (inputs : Inputs) (ready : IsReady inputs) where
   lies q a (OneSite slot) unit at = absurd (no_site (item_at p q) slot unit)
 
   -- an item in two bytes whose instruction is known before the layout has two bytes of its own
-  pub copied_alone :
-      (q : Place) (item : Item) → item_at p q ≡ Some item → size_in L q ≡ 2 → (i : Instr) → fixed_instr item ≡ Some i
-      → (size_at p.objects q ≡ 2) × (item ≡ Op i)
+  copied_alone : (q : Place) (item : Item) → item_at p q ≡ Some item → size_in L q ≡ 2 → HasOwnHalf (size_at p.objects q) item
   copied_alone q item is two = by (A q) refl
     where
       -- what has another size of its own takes another
@@ -204,7 +202,7 @@ module _ (inputs : Inputs) (ready : IsReady inputs) where
       of a at (RawShort half) own next size i fixed = absurd (none-some i fixed)
       of a at (RawPair first second) own next size i fixed = absurd (none-some i fixed)
 
-      by : (o : Option ℕ) → A q ≡ o → (i : Instr) → fixed_instr item ≡ Some i → (size_at p.objects q ≡ 2) × (item ≡ Op i)
+      by : (o : Option ℕ) → A q ≡ o → HasOwnHalf (size_at p.objects q) item
       by None at = absurd (cc (ap (λ o. bytes_between o (A (behind L q))) at, two))
       by (Some a) at =
           of a at item (size_at p.objects q) (ap A (behind_is q) ∙ next_address inputs none q item a is at)
@@ -259,6 +257,7 @@ module _ (inputs : Inputs) (ready : IsReady inputs) where
         high = λ q a at. let b = bounds q a at in omega (arith, b.high, plain_end_is);
         short = omega (arith, plain_end_is, plain_end-fits inputs none);
         each = lies;
+        kept = λ q item keeps unit two. copied_alone q item (item_unit p q item unit) two;
         begins = begins;
         distinct = distinct;
       }

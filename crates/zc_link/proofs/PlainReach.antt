@@ -1,16 +1,16 @@
 -- The branches of inputs without a fault reach in the plain layout, and the branches and jumps of 2 bytes do in these.
 use Rattle.std.proofs.Common.{◌≡◌, ℕ, pos, ◌-ℤ◌, [], ◌∷◌, ◌++◌, map, Some, None, true, false, cond, refl, sym, ap, ◌∙◌, subst}
-use Rattle.std.specs.Prelude.{not}
+use Rattle.std.specs.Prelude.{not, ◌||◌}
 use Rattle.std.specs.List.{find, flat_map}
 use Rattle.std.specs.Option.{option_map_or}
-use Rattle.std.proofs.lemmas.Bool.{not-false}
+use Rattle.std.proofs.lemmas.Bool.{not-false, or_parts}
 use Rattle.zc_base.specs.declared.place.Place.{Place}
 use Rattle.psabi_reloc.specs.Reaches.{branch_reach, short_branch_reach, short_jump_reach}
 use Rattle.psabi_sym.specs.Inputs.{Inputs, ParsedInputs, parsed}
 use Rattle.psabi_sym.specs.Indexed.{sections_before}
 use Rattle.block_cut.specs.declared.item.Item.{Item}
 use Rattle.block_cut.specs.declared.item.Item.TheVariants.{Branch, Jump}
-use Rattle.block_cut.specs.Faults.{distance_between, first_fault, is_far, is_out_of_reach, range_fault, reaches, way_place}
+use Rattle.block_cut.specs.Faults.{distance_between, first_fault, is_far, is_out_of_reach, leaves_fixed, range_fault, reaches, way_place}
 use Rattle.block_cut.specs.Items.{all_places, item_at, place_of, places_of, size_at, starts_in}
 use Rattle.block_cut.specs.PlainLayout.{plain_address}
 use Rattle.rv_decode.specs.declared.instr.BranchOp.{BranchOp}
@@ -45,10 +45,12 @@ module _ (inputs : Inputs) (none : first_fault inputs ≡ None) where
       let own : find test (places_of l) ≡ None = find_flat test places_of (sections_before p.objects q.object q.section) cut.rest l all in
       let mine : find test (map (place_of l) (starts_in s)) ≡ None = ap (λ c. find test (cond c (map (place_of l) (starts_in s)) [])) (sym two.1) ∙ own in
       let here : is_out_of_reach p q ≡ false = find_among test (place_of l) (starts_in s) q.offset mine found.start in
+      let both : (is_far p q size i to || leaves_fixed p q to) ≡ false =
+      (λ j. option_map_or (λ t. is_far p q size i t || leaves_fixed p q t) (sym way j) false)
+      ∙ (λ j. option_map_or (λ x. option_map_or (λ t. is_far p q size x t || leaves_fixed p q t) (way_place size x) false) (sym is j) false) ∙ here in
       let far : not (reaches size i (pos b -ℤ pos a)) ≡ false =
       (λ j. option_map_or (λ d. not (reaches size i d)) (distance_between (sym from j) (sym there j)) false)
-      ∙ (λ j. option_map_or (is_far p q size i) (sym way j) false)
-      ∙ (λ j. option_map_or (λ x. option_map_or (is_far p q size x) (way_place size x) false) (sym is j) false) ∙ here in
+      ∙ (or_parts (is_far p q size i to) (leaves_fixed p q to) both).0 in
       not-false (reaches size i (pos b -ℤ pos a)) far
 
   module _ (q to : Place) (a b : ℕ) (from : plain_address p q ≡ Some a) (there : plain_address p to ≡ Some b) where

@@ -10,6 +10,7 @@ use Rattle.zc_base.specs.Places.{is_before}
 use Rattle.zc_base.specs.declared.place.Place.{Place}
 use Rattle.elf32_read.specs.Parts.{ObjectParts}
 use Rattle.psabi_sym.specs.Faults.{gather_fault}
+use Rattle.psabi_sym.specs.Fixed.{is_fixed_at}
 use Rattle.psabi_sym.specs.Inputs.{Inputs, parsed}
 use Rattle.block_cut.specs.Faults.{first_fault}
 use Rattle.block_cut.specs.Items.{after_items, is_start_at, item_at, size_at}
@@ -22,21 +23,22 @@ use Rattle.shrink_layout.specs.declared.piece.Piece.{Piece}
 use Rattle.shrink_layout.specs.declared.piece.Piece.TheVariants.{Fixed, WithOthers}
 use Rattle.shrink_layout.specs.Halves.{fixed_instr}
 use Rattle.shrink_layout.specs.Forms.{HasAlignment, IsForm, form_reaches, target, width}
-use Rattle.shrink_layout.specs.Pieces.{group_size, instr_size, is_short, piece_number_at, piece_of, pieces_of, slot_at, unit_at, unit_piece}
+use Rattle.shrink_layout.specs.Pieces.{group_size, instr_size, is_short, is_short_on, item_piece_at, piece_number_at, pieces_of, slot_at, unit_at, unit_piece}
 use Rattle.shrink_layout.specs.Settled.{settled_address, settled_addresses, settled_end, settled_sizes}
 use Rattle.frame_match.specs.declared.group.Group.{Group}
 use Rattle.frame_match.specs.declared.role.Role.TheVariants.{Inside}
 use Rattle.shrink_layout.specs.Units.{CodeUnit, OneGroup, OneItem, OneSite, is_within, jump_of, rest_instr, unit_items}
 use Rattle.shrink_layout.proofs.AddressLaws.{fits_at, form_at, next_address}
+use Rattle.shrink_layout.proofs.ChipLaws.{short_on-short}
 use Rattle.shrink_layout.proofs.NumberLaws.{item_target, number_most, unit_there}
-use Rattle.shrink_layout.proofs.GroupAddresses.{behind_address, group_ends}
+use Rattle.shrink_layout.proofs.GroupAddresses.{behind_address, group_ends, unit_address}
 use Rattle.shrink_layout.proofs.OrderLaws.{number_rises_past}
 use Rattle.shrink_layout.proofs.PlaceAddressLaws.{address_nowhere, start_some, unit_written}
 use Rattle.shrink_layout.proofs.RolePlaces.{inside_unlisted, leader_listed, listed_target}
 use Rattle.shrink_layout.proofs.UnitLaws.{found_start, role_found, unit_group, unit_item, unit_site}
 use Rattle.shrink_layout.proofs.PremiseLaws.{all_aligned}
 use Rattle.rv_decode.specs.declared.instr.Instr.{Instr}
-use Rattle.zc_link.specs.LaidOut.{IsLaidOut, LiesAt, ListsLeaders, text_end, linked_by}
+use Rattle.zc_link.specs.LaidOut.{HasOwnHalf, IsLaidOut, LiesAt, ListsLeaders, text_end, linked_by}
 use Rattle.zc_link.specs.Standing.{IsReady, ItemStands}
 use Rattle.zc_link.specs.TextLayout.{behind, size_in, zc_layout}
 use Rattle.zc_link.proofs.Faultless.{start_listed}
@@ -44,8 +46,8 @@ use Rattle.zc_link.proofs.GroupItems.{inside_role}
 use Rattle.zc_link.proofs.ItemUnits.{single_inside}
 use Rattle.zc_link.proofs.SlotLaws.{slot_leads}
 use Rattle.zc_link.proofs.SizedPieces.{size_is}
-use Rattle.zc_link.proofs.Standing.{gathered, item_stands}
-use Rattle.zc_link.proofs.SettledLawsForms.{IsNear, has_form, known_short, width_some}
+use Rattle.zc_link.proofs.Standing.{gathered, item_own, item_stands}
+use Rattle.zc_link.proofs.SettledLawsForms.{IsNear, has_form, known_short_on, own_half, width_some}
 use Rattle.zc_link.proofs.SettledLawsPlaces.{address, address_rises, end_settled, forms, settled, settled_begins, settled_even, settled_few, settled_here, settled_high, settled_listed, settled_low, settled_short}
 
 -- where a jump or a call leads
@@ -95,18 +97,18 @@ module _ (inputs : Inputs) (faultless : first_fault inputs ≡ None) (is_map : I
   -- the piece of a unit: its form, and where it ends
   record IsPiece (q : Place) (u : CodeUnit) : Type 0 where
     pub within : piece_number_at objects q < length pieces
-    pub there : (d : Piece) → get_or pieces (piece_number_at objects q) d ≡ unit_piece objects (Some u)
-    pub form : IsForm (unit_piece objects (Some u)) (slice_index sizes (piece_number_at objects q))
+    pub there : (d : Piece) → get_or pieces (piece_number_at objects q) d ≡ unit_piece (parsed inputs) q (Some u)
+    pub form : IsForm (unit_piece (parsed inputs) q (Some u)) (slice_index sizes (piece_number_at objects q))
     pub ends :
         at_number (piece_number_at objects q + 1)
-        ≡ at_number (piece_number_at objects q) + width (unit_piece objects (Some u)) (slice_index sizes (piece_number_at objects q)) (at_number (piece_number_at objects q))
+        ≡ at_number (piece_number_at objects q) + width (unit_piece (parsed inputs) q (Some u)) (slice_index sizes (piece_number_at objects q)) (at_number (piece_number_at objects q))
 
   piece_is : (q : Place) (u : CodeUnit) → unit_at (parsed inputs) slots q ≡ Some u → IsPiece q u
   piece_is q u is =
       let n = piece_number_at objects q in
       let got = unit_there inputs none slots q u is in
-      let within = slice_get_within pieces n (unit_piece objects (Some u)) got in
-      let there : (d : Piece) → get_or pieces n d ≡ unit_piece objects (Some u) = λ d. get_or_from_slice_get pieces n (unit_piece objects (Some u)) d got in
+      let within = slice_get_within pieces n (unit_piece (parsed inputs) q (Some u)) got in
+      let there : (d : Piece) → get_or pieces n d ≡ unit_piece (parsed inputs) q (Some u) = λ d. get_or_from_slice_get pieces n (unit_piece (parsed inputs) q (Some u)) d got in
       record {
         within = within;
         there = there;
@@ -136,7 +138,7 @@ module _ (inputs : Inputs) (faultless : first_fault inputs ≡ None) (is_map : I
       let here = near q a got in
       let n = piece_number_at objects q in
       let size = slice_index sizes n in
-      let p = piece_of objects item in
+      let p = item_piece_at (parsed inputs) q item in
       let there = own.there (Fixed 0) in
       let fits : form_reaches p size (at_number n) (at_number (target p)) ≡ true =
       ap (λ r. form_reaches r size (at_number n) (at_number (target r))) (sym there)
@@ -147,20 +149,42 @@ module _ (inputs : Inputs) (faultless : first_fault inputs ≡ None) (is_map : I
         is = (unit_item (parsed inputs) (slot_at (parsed inputs) slots) q item is).1;
         size = width p size a;
         next = ap A (behind_is q (OneItem item) is) ∙ behind_address inputs none slots q (OneItem item) is ∙ ap Some own.ends ∙ ap (λ x. Some (x + width p size x)) here.number;
-        form = has_form objects A at_number inputs.map.text (omega (arith, is_map.code, is_map.data_room, is_map.top)) near a here.even here.low here.few
-            (size_at objects q) item size aligned own.form reach;
+        form = has_form (parsed inputs) A at_number inputs.map.text (omega (arith, is_map.code, is_map.room)) near a here.even here.low here.few
+            q item size aligned own.form reach;
         inside = single_inside (zc_layout inputs slots) q;
       }
 
-  -- in two bytes it has a short form, if its instruction is known before the layout
-  pub item_short :
-      (q : Place) (a : ℕ) (item : Item) (i : Instr) → unit_at (parsed inputs) slots q ≡ Some (OneItem item) → A q ≡ Some a
-      → size_in (zc_layout inputs slots) q ≡ 2 → fixed_instr item ≡ Some i → is_short i ≡ true
+  -- it takes the bytes of its piece
+  item_width :
+      (q : Place) (a : ℕ) (item : Item) → unit_at (parsed inputs) slots q ≡ Some (OneItem item) → A q ≡ Some a
+      → size_in (zc_layout inputs slots) q ≡ width (item_piece_at (parsed inputs) q item) (slice_index sizes (piece_number_at objects q)) a
   unfolding lies settled_addresses
-  item_short q a item i is got two known =
+  item_width q a item is got =
       let at = lies q a item is got in
-      known_short objects item i (slice_index sizes (piece_number_at objects q)) a known (piece_is q (OneItem item) is).form
-      (sym (size_is (zc_layout inputs slots) q a at.size got at.next) ∙ two)
+      size_is (zc_layout inputs slots) q a at.size got at.next
+
+  -- in two bytes it has a short form that the chip has, if its instruction is known before the layout and its section isn't fixed
+  pub item_short_on :
+      (q : Place) (a : ℕ) (item : Item) (i : Instr) → is_fixed_at (parsed inputs) q.object q.section ≡ false
+      → unit_at (parsed inputs) slots q ≡ Some (OneItem item) → A q ≡ Some a
+      → size_in (zc_layout inputs slots) q ≡ 2 → fixed_instr item ≡ Some i → is_short_on inputs.map.extensions i ≡ true
+  item_short_on q a item i free is got two known =
+      known_short_on (parsed inputs) q item i (slice_index sizes (piece_number_at objects q)) a free known (piece_is q (OneItem item) is).form
+      (sym (item_width q a item is got) ∙ two)
+
+  pub item_short :
+      (q : Place) (a : ℕ) (item : Item) (i : Instr) → is_fixed_at (parsed inputs) q.object q.section ≡ false
+      → unit_at (parsed inputs) slots q ≡ Some (OneItem item) → A q ≡ Some a
+      → size_in (zc_layout inputs slots) q ≡ 2 → fixed_instr item ≡ Some i → is_short i ≡ true
+  item_short q a item i free is got two known = short_on-short inputs.map.extensions i (item_short_on q a item i free is got two known)
+
+  -- in a fixed section it has two bytes of its own
+  item_kept :
+      (q : Place) (a : ℕ) (item : Item) → is_fixed_at (parsed inputs) q.object q.section ≡ true
+      → unit_at (parsed inputs) slots q ≡ Some (OneItem item) → A q ≡ Some a → size_in (zc_layout inputs slots) q ≡ 2 → HasOwnHalf (size_at objects q) item
+  item_kept q a item fixed is got two =
+      own_half (parsed inputs) q item (slice_index sizes (piece_number_at objects q)) a fixed (piece_is q (OneItem item) is).form
+      (sym (item_width q a item is got) ∙ two)
 
   -- a group lies up to the place after it, and the places inside it have no addresses
   group_lies : (q : Place) (a : ℕ) (g : Group) → unit_at (parsed inputs) slots q ≡ Some (OneGroup g) → A q ≡ Some a → LiesAt (zc_layout inputs slots) q a (OneGroup g)
@@ -178,6 +202,9 @@ module _ (inputs : Inputs) (faultless : first_fault inputs ≡ None) (is_map : I
               address_nowhere (parsed inputs) slots r (inside_unlisted inputs none r (ap is_within inner)),
             );
       }
+
+  ready : IsReady inputs
+  ready = record { faultless = faultless; is_map = is_map }
 
   -- the places where a basic block begins have addresses
   leaders : ListsLeaders (parsed inputs) A
@@ -208,9 +235,6 @@ module _ (inputs : Inputs) (faultless : first_fault inputs ≡ None) (is_map : I
         form = refl;
         inside = single_inside (zc_layout inputs slots) q;
       }
-    where
-      ready : IsReady inputs
-      ready = record { faultless = faultless; is_map = is_map }
 
   settled_lies : (q : Place) (a : ℕ) (u : CodeUnit) → unit_at (parsed inputs) slots q ≡ Some u → A q ≡ Some a → LiesAt (zc_layout inputs slots) q a u
   settled_lies q a (OneItem item) unit got = lies q a item unit got
@@ -225,7 +249,7 @@ module _ (inputs : Inputs) (faultless : first_fault inputs ≡ None) (is_map : I
     pub is : item_at (parsed inputs) q ≡ Some item
     pub unit : CodeUnit
     pub written : unit_at (parsed inputs) slots q ≡ Some unit
-    pub some : (size a : ℕ) → IsForm (unit_piece objects (Some unit)) size → 0 < width (unit_piece objects (Some unit)) size a
+    pub some : (size a : ℕ) → IsForm (unit_piece (parsed inputs) q (Some unit)) size → 0 < width (unit_piece (parsed inputs) q (Some unit)) size a
 
   solid_found : (q : Place) (a : ℕ) → is_solid (item_at (parsed inputs) q) ≡ true → A q ≡ Some a → IsSolid q
   solid_found q a solid at = by (item_at (parsed inputs) q) refl solid
@@ -240,7 +264,7 @@ module _ (inputs : Inputs) (faultless : first_fault inputs ≡ None) (is_map : I
       unit_of : (item : Item) → item_at (parsed inputs) q ≡ Some item → is_solid (Some item) ≡ true → (u : CodeUnit) → unit_at (parsed inputs) slots q ≡ Some u → IsSolid q
       unit_of item is solid (OneItem i) unit =
           let same : item ≡ i = same_Some item i (sym is ∙ (unit_item (parsed inputs) (slot_at (parsed inputs) slots) q i unit).1) in
-          record { item = item; is = is; unit = OneItem i; written = unit; some = λ size a form. width_some objects i size a (ap (λ x. is_solid (Some x)) (sym same) ∙ solid) form }
+          record { item = item; is = is; unit = OneItem i; written = unit; some = λ size a form. width_some (parsed inputs) q i size a (ap (λ x. is_solid (Some x)) (sym same) ∙ solid) (item_own inputs none ready A leaders q i (is ∙ ap Some same)) form }
       unit_of item is solid (OneGroup g) unit = record { item = item; is = is; unit = OneGroup g; written = unit; some = some_bytes g }
       unit_of item is solid (OneSite n) unit = record { item = item; is = is; unit = OneSite n; written = unit; some = λ size a form. omega (arith, form) }
 
@@ -302,6 +326,9 @@ module _ (inputs : Inputs) (faultless : first_fault inputs ≡ None) (is_map : I
         high = settled_high inputs none is_map slots few;
         short = settled_short inputs none is_map slots few;
         each = settled_lies inputs faultless is_map slots few;
+        kept = λ q item fixed unit two.
+            item_kept inputs faultless is_map slots few q (slice_index (settled_addresses (parsed inputs) slots) (piece_number_at (parsed inputs).objects q)) item fixed unit
+            (unit_address inputs none slots q (OneItem item) unit) two;
         begins = settled_begins inputs none is_map slots few;
         distinct = settled_distinct inputs faultless is_map slots few;
       }

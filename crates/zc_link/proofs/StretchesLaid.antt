@@ -121,7 +121,7 @@ module _ (L : TextLayout) (is_map : IsMap L.inputs.map) (laid : IsLaidOut L) (pr
       let low = laid.low q a at in
       let high = laid.high q a at in
       let short = laid.short in
-      (laid.even q a at, omega (arith, low, is_map.above), omega (arith, high, short, is_map.code, is_map.data_room, is_map.top))
+      (laid.even q a at, omega (arith, low, is_map.above), omega (arith, high, short, is_map.code, is_map.room))
 
   -- an item that is one instruction
   alone : (q : Place) (a n : ℕ) (bytes : List ℕ) (i : Instr) → HasRegisters i → A (next_at p.objects q) ≡ Some (a + n) → StandAt program parts out a bytes → IsSpelled n bytes i → AloneLaid program here q a i
@@ -209,7 +209,7 @@ module _ (L : TextLayout) (is_map : IsMap L.inputs.map) (laid : IsLaidOut L) (pr
     pub at : A q ≡ Some a
     pub next : A (next_at p.objects q) ≡ Some (a + n)
     pub stands : StandAt program parts out a bytes
-    pub written : IsWritten L own a n item bytes
+    pub written : IsWritten L q own a n item bytes
     pub short : (half : ℕ) → item ≡ RawShort half → (n ≡ 2) × (half < 2 ^ 16) × (bytes ≡ half_bytes half)
 
   -- the program has the objects' items
@@ -237,7 +237,7 @@ module _ (L : TextLayout) (is_map : IsMap L.inputs.map) (laid : IsLaidOut L) (pr
       → StretchLaid program here q a (stretch_of n (Some (OneItem (Branch op first second to))))
   branch_laid q a n op first second to bytes w = by w.written
     where
-      by : IsWritten L w.own a n (Branch op first second to) bytes → StretchLaid program here q a (stretch_of n (Some (OneItem (Branch op first second to))))
+      by : IsWritten L q w.own a n (Branch op first second to) bytes → StretchLaid program here q a (stretch_of n (Some (OneItem (Branch op first second to))))
       by (inl m) =
           subst (λ b. StretchLaid program here q a (cond b (LongOf op first second) Alone)) (sym (spelled_short n bytes m.instr m.spelled))
           (item_laid q a (Branch op first second to) w.is (one_laid q a n (Branch op first second to) bytes w.is w.next w.stands m))
@@ -250,7 +250,7 @@ module _ (L : TextLayout) (is_map : IsMap L.inputs.map) (laid : IsLaidOut L) (pr
   calling_laid : (q : Place) (a n rd temp : ℕ) (to : Place) (bytes : List ℕ) → WrittenAt q a n (Call rd temp to) bytes → StretchLaid program here q a (stretch_of n (Some (OneItem (Call rd temp to))))
   calling_laid q a n rd temp to bytes w = by w.written
     where
-      by : IsWritten L w.own a n (Call rd temp to) bytes → StretchLaid program here q a (stretch_of n (Some (OneItem (Call rd temp to))))
+      by : IsWritten L q w.own a n (Call rd temp to) bytes → StretchLaid program here q a (stretch_of n (Some (OneItem (Call rd temp to))))
       by (inl m) =
           subst (λ b. StretchLaid program here q a (cond b CallOf Alone)) (sym (spelled_short n bytes m.instr m.spelled))
           (item_laid q a (Call rd temp to) w.is (one_laid q a n (Call rd temp to) bytes w.is w.next w.stands m))
@@ -262,7 +262,7 @@ module _ (L : TextLayout) (is_map : IsMap L.inputs.map) (laid : IsLaidOut L) (pr
   -- an instruction without relocation is written as itself, or its halfword in the object is copied
   op_laid : (q : Place) (a n : ℕ) (i : Instr) (bytes : List ℕ) → WrittenAt q a n (Op i) bytes → OneLaid program here q a (Op i)
   unfolding alone half_at_address
-  op_laid q a n i bytes w = by L.keeps_halfwords w.written
+  op_laid q a n i bytes w = by (L.keeps_halfwords q) w.written
     where
       one : IsSpelled n bytes i → OneLaid program here q a (Op i)
       one sp = one_laid q a n (Op i) bytes w.is w.next w.stands (record { instr = i; is = refl; spelled = sp })

@@ -2,6 +2,7 @@
 -- two slots.
 use Rattle.std.specs.Prelude.{◌≡◌, ℕ, ◌+◌, ◌==◌, if◌then◌else◌, List, [], ◌∷◌, ◌++◌, replicate, Option, Some, None, Result, Ok, Err, true, refl, pos}
 use Rattle.std.proofs.Common.{arith}
+use Rattle.zc_base.specs.MemMap.{all_extensions}
 use Rattle.zc_base.specs.Fields.{word_bytes}
 use Rattle.zc_base.specs.declared.place.Place.{Place}
 use Rattle.rv_decode.specs.declared.instr.Instr.TheVariants.{Csrrw, Jal, Upper, WithImm}
@@ -41,7 +42,7 @@ program = record {
   item = λ q. items q.offset;
   next = λ q. record q { offset = q.offset + (if q.offset == 8 then 8 else 4) };
   entry = place_at 4;
-  map = record { text = 0x10000; data_low = 0x20000; stack_low = 0x30000; stack_high = 0x40000 };
+  map = record { text = 0x10000; data_low = 0x20000; stack_low = 0x30000; stack_high = 0x40000; extensions = all_extensions };
   bytes = [];
 }
 
@@ -59,7 +60,7 @@ image = record {
       (if q.offset == 4 then Some 0x10092 else
       (if q.offset == 8 then Some 0x10094 else
       (if q.offset == 16 then Some 0x10096 else None)));
-  map = record { text = 0x10000; data_low = 0x20000; stack_low = 0x30000; stack_high = 0x40000 };
+  map = record { text = 0x10000; data_low = 0x20000; stack_low = 0x30000; stack_high = 0x40000; extensions = all_extensions };
 }
 
 -- ---- what is fetched

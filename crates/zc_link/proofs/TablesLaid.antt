@@ -106,7 +106,7 @@ module _ (L : TextLayout) (program : Program) (parts : Parts) (out : AreLaidOut 
       record {
         low = omega arith;
         within = omega (arith, within, all);
-        small = omega (arith, within, all, short, map.code, map.data_room, map.top);
+        small = omega (arith, within, all, short, map.code, map.room);
       }
 
   -- a word of the stub that is an instruction is fetched
@@ -159,7 +159,7 @@ module _ (L : TextLayout) (program : Program) (parts : Parts) (out : AreLaidOut 
         let jump : a + 8 ≡ a + 4 + 4 = omega arith in
         record {
           whole = omega (arith, map.text_page);
-          small = omega (arith, map.code, map.data_room, map.top);
+          small = omega (arith, map.code, map.room);
           upper = stub_one a 0 (Upper Lui 5 (at / 2 ^ 12)) (omega (arith, start)) (omega arith) (ap (λ (n : ℕ). Some (Upper Lui 5 (n / 4096))) (sym start));
           sets = stub_one (a + 4) 1 (Csrrw 0 5) (omega (arith, start)) (omega arith) refl;
           distance = d;

@@ -25,7 +25,7 @@ use Rattle.shrink_layout.specs.Halves.{fixed_instr}
 use Rattle.shrink_layout.specs.Pieces.{group_size, is_short}
 use Rattle.shrink_layout.specs.Units.{CodeUnit, OneGroup, OneItem, OneSite, jump_of, unit_items}
 use Rattle.zc_link.specs.Front.{start_address}
-use Rattle.zc_link.specs.TextLayout.{TextLayout, behind, front_end}
+use Rattle.zc_link.specs.TextLayout.{TextLayout, behind, front_end, size_in}
 use Rattle.zc_link.specs.Values.{way}
 
 -- ---- forms
@@ -100,6 +100,10 @@ UnitForm A a own n (OneSite slot) = n ≡ 2
 
 -- ---- layouts
 
+-- an item's instruction has no relocation, and two bytes in its object, if it is known before the layout
+abbrev pub HasOwnHalf : (own : ℕ) → Item → Type 0
+HasOwnHalf own item = (i : Instr) → fixed_instr item ≡ Some i → (own ≡ 2) × (item ≡ Op i)
+
 -- a place inside a group: an item starts there, and it has no address
 abbrev pub HasNoAddress : TextLayout → Place → Type 0
 HasNoAddress L q = (is_start_at (parsed L.inputs).objects q ≡ true) × (L.address q ≡ None)
@@ -146,6 +150,10 @@ pub record IsLaidOut (L : TextLayout) : Type 0 where
   pub short : text_end L ≤ L.inputs.map.text + 0x9_0000
   -- what is written lies between its place and the place after it
   pub each : (q : Place) (a : ℕ) (u : CodeUnit) → L.unit q ≡ Some u → L.address q ≡ Some a → LiesAt L q a u
+  -- where halfwords are kept, an instruction that is known before the layout is written in two bytes only if these can be kept
+  pub kept :
+      (q : Place) (item : Item) → L.keeps_halfwords q ≡ true → L.unit q ≡ Some (OneItem item) → size_in L q ≡ 2
+      → HasOwnHalf (size_at (parsed L.inputs).objects q) item
   -- a section begins no earlier than those before it end
   pub begins :
       (o i : ℕ) (s : SectionParts) → section_at (parsed L.inputs).objects o i ≡ Some s → is_code_section s ≡ true

@@ -17,4 +17,5 @@ pub mod LaidOut
 pub mod Written
 pub mod Codes
 pub mod Standing
+pub mod Supported
 pub mod Links

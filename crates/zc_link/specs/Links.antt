@@ -12,8 +12,9 @@ use Rattle.pick_check.specs.declared.saving.Saving.{Saving}
 use Rattle.jumptable_pick.specs.Picked.{picked}
 use Rattle.jumptable_pick.specs.Slots.{slot_places}
 use Rattle.block_cut.specs.PlainLayout.{plain_counts, plain_end}
+use Rattle.shrink_layout.specs.FixedSections.{KeepsFixed}
 use Rattle.shrink_layout.specs.Pieces.{is_unaligned}
-use Rattle.shrink_layout.specs.Savings.{savings_of}
+use Rattle.shrink_layout.specs.Savings.{table_savings}
 use Rattle.shrink_layout.specs.Settled.{settled_counts, settled_end}
 use Rattle.shrink_layout.specs.Table.{IsLaidBehind}
 use Rattle.sym_machine.specs.Objects.{program_of}
@@ -24,6 +25,7 @@ use Rattle.zc_link.specs.Pace.{pace_of}
 use Rattle.zc_link.specs.Places.{listed_address}
 use Rattle.zc_link.specs.Preserves.{Preserves, aligns_of}
 use Rattle.zc_link.specs.IsSimulation.{IsPaced, IsSimulation}
+use Rattle.zc_link.specs.Supported.{FitsChip}
 use Rattle.moved_runs.specs.Leads.{IsNamed}
 use Rattle.zc_link.specs.TextLayout.{TextLayout, plain_layout, stretch_in, zc_layout}
 use Rattle.zc_link.specs.Written.{GapsAreZero, HoldsFront, HoldsPlace}
@@ -80,7 +82,7 @@ slots_of link = slot_places link.savings link.certificate.slots
 
 -- the table is the one that is picked for what it could save, and its certificate shows that none saves more
 pub record HasBestTable (inputs : Inputs) (link : Link) : Type 0 where
-  pub savings : link.savings ≡ savings_of (parsed inputs)
+  pub savings : link.savings ≡ table_savings (parsed inputs)
   pub is_picked : link.certificate ≡ picked link.savings
   pub accepted : IsAccepted link.savings link.certificate
   pub best : NoneSavesMore link.savings link.certificate.net
@@ -96,18 +98,20 @@ pub record IsPlainLink (inputs : Inputs) (link : Link) : Type 0 where
   pub plain : link.plain ≡ plain_counts (parsed inputs)
   pub zc : link.zc ≡ plain_counts (parsed inputs)
 
--- the layout after a table of these slots is settled; if there is no ALIGN, and no code aligned above 4 bytes, the text is
--- shorter than without the table, by at least `net` bytes
+-- the layout after a table of these slots is settled; if there is no ALIGN, no code aligned above 4 bytes and no fixed section,
+-- the text is shorter than without the table, by at least `net` bytes
 pub record IsShortest (inputs : Inputs) (slots : List (Option Place)) (net : ℕ) : Type 0 where
   pub laid : IsLaidBehind (parsed inputs) slots
   pub saves : IsTrue (is_unaligned (parsed inputs)) → settled_end (parsed inputs) slots + net ≤ settled_end (parsed inputs) []
 
--- the link that makes code smaller: its image has the settled layout behind the best table; and what the plain layout and this one
--- count
+-- the link that makes code smaller: its image has the settled layout behind the best table, in which fixed sections keep their
+-- distances, and needs no extension that the chip lacks; and what the plain layout and this one count
 pub record IsZcLink (inputs : Inputs) (link : Link) : Type 0 where
   pub table : HasBestTable inputs link
   pub layout : IsShortest inputs (slots_of link) link.certificate.net
+  pub fixed : KeepsFixed (parsed inputs) (zc_layout inputs (slots_of link)).address
   pub image : IsImageOf (zc_layout inputs (slots_of link)) 1 (settled_end (parsed inputs) (slots_of link)) link.elf
   pub open image use *
+  pub supported : FitsChip (zc_layout inputs (slots_of link)) image.parts.text
   pub plain : link.plain ≡ plain_counts (parsed inputs)
   pub zc : link.zc ≡ settled_counts (parsed inputs) (slots_of link)

@@ -1,7 +1,6 @@
 -- The image does what the program does: said of the two as records, and of the files of the objects and of the image.
-use Rattle.std.specs.Prelude.{◌≡◌, ℕ, ◌+◌, ◌*◌, ◌<◌, ◌≤◌, ◌⊎◌, Bool, false, List, All, filter, length, IsSome, Some, Ok}
+use Rattle.std.specs.Prelude.{◌≡◌, ℕ, ◌+◌, ◌*◌, ◌<◌, ◌≤◌, ◌⊎◌, false, List, All, filter, length, IsSome, Some, Ok}
 use Rattle.std.specs.Option.{option_map_or}
-use Rattle.zc_base.specs.declared.place.Place.{Place}
 use Rattle.interrupt_plan.specs.Plan.{Entry, IsPlan}
 use Rattle.rv_decode.specs.Devices.{AreOutside, Device}
 use Rattle.rv_decode.specs.State.{ZcCore, ZcState}

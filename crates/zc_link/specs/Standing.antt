@@ -123,12 +123,10 @@ HasOwnSize (RawShort copied) own = own ≡ 2
 HasOwnSize (RawPair first second) own = own ≡ 8
 HasOwnSize other own = own ≡ 4
 
--- the halfword of an instruction that is known before the layout, which has the same effect; none if the layout keeps the
--- halfwords of the objects, and the object has one for the item
-abbrev pub IsHalfHere : Bool → (own : ℕ) → Item → Option ℕ → Type 0
-IsHalfHere keeps own item None = (keeps ≡ true) × ((i : Instr) → fixed_instr item ≡ Some i → (own ≡ 2) × (item ≡ Op i))
-IsHalfHere keeps own item (Some half) =
-    (keeps ≡ false) × (half < 2 ^ 16) × ((i : Instr) → fixed_instr item ≡ Some i → (encoded16 (Base i) ≡ Some half) × HasEffectOf i half)
+-- the halfword of an instruction that is known before the layout, which has the same effect
+abbrev pub IsHalfHere : Item → ℕ → Type 0
+IsHalfHere item half =
+    (half < 2 ^ 16) × ((i : Instr) → fixed_instr item ≡ Some i → (encoded16 (Base i) ≡ Some half) × HasEffectOf i half)
 
 -- an item is at a place of code with these bytes, in which it lies, and is written by itself at an address in n bytes
 pub record StandsHere (L : TextLayout) (code : List ℕ) (q : Place) (item : Item) (a n : ℕ) : Type 0 where
@@ -167,7 +165,7 @@ HasHalf short = HasNoWord short × IsTrue (is_some (encoded16 short))
 -- these bytes are what is written at a place as one unit
 pub record WrittenHere (L : TextLayout) (code : List ℕ) (q : Place) (u : CodeUnit) (a n : ℕ) (bytes : List ℕ) : Type 0 where
   pub long : length bytes ≡ n
-  pub written : UnitWritten L (bytes_from code q.offset) a n u bytes
+  pub written : UnitWritten L q (bytes_from code q.offset) a n u bytes
   pub octets : (k : ℕ) → slice_index bytes k < 256
 
 -- an item starts at a place of a section of code with these bytes; `number` says which section among all that is, and which of

@@ -1,7 +1,8 @@
 -- A layout of the text: what is written where.
-use Rattle.std.specs.Prelude.{ℕ, ◌+◌, List, [], Bool, true, false, Option}
+use Rattle.std.specs.Prelude.{ℕ, ◌+◌, List, [], Bool, true, Option}
 use Rattle.std.specs.Option.{option_map, option_map_or}
 use Rattle.zc_base.specs.declared.place.Place.{Place}
+use Rattle.psabi_sym.specs.Fixed.{is_fixed_at}
 use Rattle.psabi_sym.specs.Inputs.{Inputs, parsed}
 use Rattle.block_cut.specs.Items.{after_items, item_at}
 use Rattle.block_cut.specs.PlainLayout.{plain_address}
@@ -10,14 +11,14 @@ use Rattle.shrink_layout.specs.Settled.{settled_address}
 use Rattle.shrink_layout.specs.Units.{CodeUnit, OneItem, front_size, unit_items}
 use Rattle.zc_link.specs.Pace.{Stretch, bytes_between, stretch_of}
 
--- the objects, the addresses of places, what is written at a place in one piece, whether an instruction without relocation keeps
--- the halfword that the object has for it, and the slots of the table with which the text begins, each a hole or the place that
--- it leads to; without slots there is no table
+-- the objects, the addresses of places, what is written at a place in one piece, whether an instruction without relocation at a
+-- place keeps the halfword that the object has for it, and the slots of the table with which the text begins, each a hole or the
+-- place that it leads to; without slots there is no table
 pub record TextLayout : Type 0 where
   pub inputs : Inputs
   pub address : Place → Option ℕ
   pub unit : Place → Option CodeUnit
-  pub keeps_halfwords : Bool
+  pub keeps_halfwords : Place → Bool
   pub slots : List (Option Place)
 
 -- code as it is: each item by itself
@@ -26,7 +27,7 @@ plain_layout inputs = record {
   inputs = inputs;
   address = plain_address (parsed inputs);
   unit = λ q. option_map OneItem (item_at (parsed inputs) q);
-  keeps_halfwords = true;
+  keeps_halfwords = λ q. true;
   slots = [];
 }
 
@@ -36,7 +37,7 @@ zc_layout inputs slots = record {
   inputs = inputs;
   address = settled_address (parsed inputs) slots;
   unit = unit_at (parsed inputs) slots;
-  keeps_halfwords = false;
+  keeps_halfwords = λ q. is_fixed_at (parsed inputs) q.object q.section;
   slots = slots;
 }
 

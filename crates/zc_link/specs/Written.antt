@@ -124,18 +124,19 @@ pub record IsLongCall (rd temp w : ℕ) (bytes : List ℕ) : Type 0 where
 abbrev pub WithWay : (Place → Option ℕ) → ℕ → Place → (ℕ → Type 0) → Type 0
 WithWay A a to P = (b : ℕ) × (A to ≡ Some b) × P (way a b)
 
--- these n bytes are what is written for an item at an address; `own` gives the first bytes that the object has for it
-abbrev pub IsWritten : TextLayout → (own : ℕ → List ℕ) → (a n : ℕ) → Item → List ℕ → Type 0
-IsWritten L own a n (Op i) bytes = IsOpWritten L.keeps_halfwords own n i bytes
-IsWritten L own a n (Branch op one two to) bytes =
+-- these n bytes are what is written for an item of a place at an address; `own` gives the first bytes that the object has for it
+abbrev pub IsWritten : TextLayout → Place → (own : ℕ → List ℕ) → (a n : ℕ) → Item → List ℕ → Type 0
+IsWritten L q own a n (Op i) bytes = IsOpWritten (L.keeps_halfwords q) own n i bytes
+IsWritten L q own a n (Branch op one two to) bytes =
     SpellsMeant L a n (Branch op one two to) bytes ⊎ ((n ≡ 8) × WithWay L.address a to (λ w. IsLongBranch op one two (as_signed w) bytes))
-IsWritten L own a n (Call rd temp to) bytes = SpellsMeant L a n (Call rd temp to) bytes ⊎ ((n ≡ 8) × WithWay L.address a to (λ w. IsLongCall rd temp w bytes))
-IsWritten L own a n (Align k) bytes = bytes ≡ padding n
-IsWritten L own a n (Word t) bytes = (x : ℕ) × (target_value L.address t ≡ Some x) × (bytes ≡ word_bytes x)
-IsWritten L own a n (Raw word) bytes = bytes ≡ own 4
-IsWritten L own a n (RawShort half) bytes = bytes ≡ own 2
-IsWritten L own a n (RawPair first second) bytes = bytes ≡ own 8
-IsWritten L own a n item bytes = SpellsMeant L a n item bytes
+IsWritten L q own a n (Call rd temp to) bytes =
+    SpellsMeant L a n (Call rd temp to) bytes ⊎ ((n ≡ 8) × WithWay L.address a to (λ w. IsLongCall rd temp w bytes))
+IsWritten L q own a n (Align k) bytes = bytes ≡ padding n
+IsWritten L q own a n (Word t) bytes = (x : ℕ) × (target_value L.address t ≡ Some x) × (bytes ≡ word_bytes x)
+IsWritten L q own a n (Raw word) bytes = bytes ≡ own 4
+IsWritten L q own a n (RawShort half) bytes = bytes ≡ own 2
+IsWritten L q own a n (RawPair first second) bytes = bytes ≡ own 8
+IsWritten L q own a n item bytes = SpellsMeant L a n item bytes
 
 -- ---- groups
 
@@ -155,10 +156,10 @@ IsGroupWritten n g bytes = ((g.rest ≡ 0) × SpellsHalf bytes g.kind) ⊎ ((0 <
 -- ---- units
 
 -- what is written at a place in n bytes
-abbrev pub UnitWritten : TextLayout → (own : ℕ → List ℕ) → (a n : ℕ) → CodeUnit → List ℕ → Type 0
-UnitWritten L own a n (OneItem i) bytes = IsWritten L own a n i bytes
-UnitWritten L own a n (OneGroup g) bytes = IsGroupWritten n g bytes
-UnitWritten L own a n (OneSite slot) bytes = SpellsHalf bytes (TableJump slot)
+abbrev pub UnitWritten : TextLayout → Place → (own : ℕ → List ℕ) → (a n : ℕ) → CodeUnit → List ℕ → Type 0
+UnitWritten L q own a n (OneItem i) bytes = IsWritten L q own a n i bytes
+UnitWritten L q own a n (OneGroup g) bytes = IsGroupWritten n g bytes
+UnitWritten L q own a n (OneSite slot) bytes = SpellsHalf bytes (TableJump slot)
 
 -- ---- text
 
@@ -171,7 +172,7 @@ pub record HoldsUnit (L : TextLayout) (text : List ℕ) (e : Place × ℕ) (u : 
   pub section : SectionParts
   pub here : code_at (parsed L.inputs).objects e.0 ≡ Some section
   pub written :
-      UnitWritten L (bytes_from section.bytes e.0.offset) e.1 size u (bytes_from text (e.1 - L.inputs.map.text) size)
+      UnitWritten L e.0 (bytes_from section.bytes e.0.offset) e.1 size u (bytes_from text (e.1 - L.inputs.map.text) size)
 
 abbrev pub HoldsPlace : TextLayout → List ℕ → Place × ℕ → Type 0
 HoldsPlace L text e = (u : CodeUnit) → L.unit e.0 ≡ Some u → HoldsUnit L text e u

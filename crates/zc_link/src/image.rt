@@ -2,6 +2,7 @@
 
 ghost use Rattle.std.specs.Prelude.{◌≡◌, ◌+◌, ◌-◌, ◌<◌, ◌≤◌, ◌^◌, IfOk, length, slice_index, ℕ};
 ghost use Rattle.elf32_write.specs.Image.{NumbersFit, image_bytes};
+ghost use Rattle.zc_base.specs.MemMap.{data_limit};
 ghost use Rattle.psabi_sym.specs.Data.{data_end, data_file_end};
 ghost use Rattle.psabi_sym.specs.Inputs.{parsed};
 ghost use Rattle.zc_link.specs.ImageParts.{image_data};
@@ -66,7 +67,7 @@ fn data_bytes<L: Layout>(alloc: Global, layout: &L) -> Result<Vec<u8>, AllocErro
 fn zeros_after(objects: &Objects, bytes: &[u8]) -> u32
     requires { length bytes.now ≡ data_file_end (parsed objects.now) - objects.now.map.data_low }
     ensures value { result ≡ data_end (parsed objects.now) - data_file_end (parsed objects.now) }
-    ensures most { data_end (parsed objects.now) ≤ objects.now.map.data_low + 0x40_0000 }
+    ensures most { data_end (parsed objects.now) ≤ objects.now.map.data_low + data_limit objects.now.map }
     ensures range { (k : ℕ) → slice_index bytes.now k < 2 ^ 8 }
 {
     objects.data_end() - (objects.map().data_low + bytes.len() as u32)

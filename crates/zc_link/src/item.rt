@@ -136,19 +136,21 @@ fn item_word<L: Layout>(layout: &L, start: ItemStart, item: Item) -> u32
     }
 }
 
-// The two bytes of an item whose instruction is known before the layout: its short form, if the layout writes short
-// forms, or else the object's own.
+// The two bytes of an item whose instruction is known before the layout: the object's own if they are kept, or else its
+// short form.
 fn short_code<'a, L: Layout>(layout: &L, start: ItemStart<'a>, item: Item) -> Code<'a>
     requires stands { StandsHere (L.layout layout.now) start.code.now start.at item start.address 2 }
     requires number { IsPlaceNumber (parsed (L.layout layout.now).inputs).objects start.at start.number }
+    requires keeps { (L.layout layout.now).keeps_halfwords start.at ≡ start.keeps }
     requires patched { is_patched item ≡ true }
     ensures { WrittenHere (L.layout layout.now) start.entry.code.now start.entry.at (OneItem item)
         start.entry.address 2 (code_bytes result) }
 {
-    match layout.half_at(start.number) {
-        Some(half) => Code::Half(half),
-        None => Code::Own(own_bytes(start.code, start.at.offset as usize, 2)),
+    layout.recall_laid_out();
+    if start.keeps {
+        return Code::Own(own_bytes(start.code, start.at.offset as usize, 2));
     }
+    Code::Half(layout.half_at(start.number))
 }
 
 // The halfword of an instruction that has one.
@@ -219,6 +221,7 @@ pub fn item_code<'a, L: Layout>(layout: &L, start: ItemStart<'a>, size: u32, ite
     requires stands { StandsHere (L.layout layout.now) start.code.now start.at item start.address size }
     requires own { own_size_at (parsed (L.layout layout.now).inputs).objects start.at ≡ start.own }
     requires number { IsPlaceNumber (parsed (L.layout layout.now).inputs).objects start.at start.number }
+    requires keeps { (L.layout layout.now).keeps_halfwords start.at ≡ start.keeps }
     ensures { WrittenHere (L.layout layout.now) start.entry.code.now start.entry.at (OneItem item)
         start.entry.address size (code_bytes result) }
 {

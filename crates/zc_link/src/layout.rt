@@ -1,7 +1,7 @@
 // Layouts of code, as links see them.
 
-ghost use Rattle.std.specs.Prelude.{◌≡◌, [], ℕ, OnOk, Some, true};
-ghost use Rattle.block_cut.specs.Items.{is_start_at, is_target_at, item_at, size_at as own_size_at};
+ghost use Rattle.std.specs.Prelude.{◌≡◌, [], ℕ, OnOk, Some, false, true};
+ghost use Rattle.block_cut.specs.Items.{is_start_at, is_target_at, item_at};
 ghost use Rattle.block_cut.specs.Places.{IsPlaceNumber};
 ghost use Rattle.block_cut.specs.declared.item.Item.{Item};
 ghost use Rattle.frame_match.specs.Invariants.Marks.{HasItem};
@@ -74,14 +74,19 @@ pub trait Layout {
             → IsPlaceNumber (parsed (layout self.now).inputs).objects q number
             → IsSiteHalf ((layout self.now).unit q) result };
 
+    /// Whether instructions without relocation keep the halfwords that the object has for them, in this section of this
+    /// object. It takes constant time.
+    fn keeps_halfwords(&self, object: u16, section: u16) -> bool
+        ensures { (offset : ℕ) → (layout self.now).keeps_halfwords
+            (record { object = object; section = section; offset = offset }) ≡ result };
+
     /// The halfword of an item that is written by itself in two bytes and whose instruction doesn't depend on addresses, by
-    /// where its place stands among all; none if these are the item's own two bytes.
-    fn half_at(&self, number: PlaceNumber) -> Option<u16>
+    /// where its place stands among all, if it isn't kept.
+    fn half_at(&self, number: PlaceNumber) -> u16
         requires { HasPlace (parsed (layout self.now).inputs).objects number }
         ensures { (q : Place) (item : Item) → (layout self.now).unit q ≡ Some (OneItem item)
             → IsPlaceNumber (parsed (layout self.now).inputs).objects q number → size_in (layout self.now) q ≡ 2
-            → IsHalfHere (layout self.now).keeps_halfwords
-            (own_size_at (parsed (layout self.now).inputs).objects q) item result };
+            → (layout self.now).keeps_halfwords q ≡ false → IsHalfHere item result };
 
     /// Begins a text with what comes before the first section. It takes time linear in the slots of the table.
     fn add_front(&self, text: &mut Vec<u8>) -> Result<(), AllocError>
@@ -132,10 +137,13 @@ impl Layout for Cut {
         None
     }
 
-    fn half_at(&self, _number: PlaceNumber) -> Option<u16> {
-        // The cut is ready for a link, so an instruction takes two bytes only if it has two.
-        self.recall_laid_out();
-        None
+    fn keeps_halfwords(&self, _object: u16, _section: u16) -> bool {
+        true
+    }
+
+    fn half_at(&self, _number: PlaceNumber) -> u16 {
+        // Each halfword is kept.
+        0
     }
 
     fn add_front(&self, _text: &mut Vec<u8>) -> Result<(), AllocError> {
@@ -183,10 +191,14 @@ impl Layout for Settled {
         Settled::site_half(self, number)
     }
 
-    fn half_at(&self, number: PlaceNumber) -> Option<u16> {
+    fn keeps_halfwords(&self, object: u16, section: u16) -> bool {
+        self.planned().cut().objects().is_fixed(object, section)
+    }
+
+    fn half_at(&self, number: PlaceNumber) -> u16 {
         // What takes two bytes has a halfword.
         self.recall_laid_out();
-        Some(Settled::half_at(self, number))
+        Settled::half_at(self, number)
     }
 
     fn add_front(&self, text: &mut Vec<u8>) -> Result<(), AllocError> {

@@ -77,11 +77,14 @@ impl Text {
         let section = cut.objects().section(k);
         let places = cut.places(k);
         let start = cut.objects().map().text;
+        let object = section.object();
+        let index = section.index();
+        let keeps = layout.keeps_halfwords(object, index);
         for i in 0..places.len() {
             let place = &places[i];
             let at = Place {
-                object: section.object(),
-                section: section.index(),
+                object,
+                section: index,
                 offset: place.offset,
             };
             let address = start + self.text.len() as u32;
@@ -97,6 +100,7 @@ impl Text {
                         number,
                         code: section.bytes(),
                         own: place.size,
+                        keeps,
                         address,
                     };
                     if let Some(code) = unit_code(layout, begins, item) {

@@ -21,6 +21,7 @@ use frame_match::role::Role;
 pub fn unit_code<'a, L: Layout>(layout: &L, start: ItemStart<'a>, item: Item) -> Option<Code<'a>>
     requires starts { StartsHere (L.layout layout.now) start.number start.code.now start.at item }
     requires own { own_size_at (parsed (L.layout layout.now).inputs).objects start.at ≡ start.own }
+    requires keeps { (L.layout layout.now).keeps_halfwords start.at ≡ start.keeps }
     requires address { (b : ℕ) → (L.layout layout.now).address start.at ≡ Some b → start.address ≡ b }
     ensures inside { IfNone result ((L.layout layout.now).address start.entry.at ≡ None) }
     ensures written { IfSome result (λ code.
@@ -38,6 +39,7 @@ pub fn unit_code<'a, L: Layout>(layout: &L, start: ItemStart<'a>, item: Item) ->
 fn site_or_item_code<'a, L: Layout>(layout: &L, start: ItemStart<'a>, item: Item) -> Code<'a>
     requires starts { StartsHere (L.layout layout.now) start.number start.code.now start.at item }
     requires own { own_size_at (parsed (L.layout layout.now).inputs).objects start.at ≡ start.own }
+    requires keeps { (L.layout layout.now).keeps_halfwords start.at ≡ start.keeps }
     requires unit { IsRoleUnit ((L.layout layout.now).unit start.at) (Some item) Role.Alone }
     requires address { (L.layout layout.now).address start.at ≡ Some start.address }
     ensures { UnitHere (L.layout layout.now) start.entry.code.now start.entry.at start.entry.address
@@ -54,6 +56,7 @@ fn site_or_item_code<'a, L: Layout>(layout: &L, start: ItemStart<'a>, item: Item
 fn item_by_itself<'a, L: Layout>(layout: &L, start: ItemStart<'a>, item: Item) -> Code<'a>
     requires starts { StartsHere (L.layout layout.now) start.number start.code.now start.at item }
     requires own { own_size_at (parsed (L.layout layout.now).inputs).objects start.at ≡ start.own }
+    requires keeps { (L.layout layout.now).keeps_halfwords start.at ≡ start.keeps }
     requires unit { (L.layout layout.now).unit start.at ≡ Some (OneItem item) }
     requires address { (L.layout layout.now).address start.at ≡ Some start.address }
     ensures { UnitHere (L.layout layout.now) start.entry.code.now start.entry.at start.entry.address

@@ -1,6 +1,6 @@
 // The link of objects that makes their code smaller.
 
-ghost use Rattle.std.specs.Prelude.{◌≡◌, ◌≤◌, [], None, IfOk, IfErr, length};
+ghost use Rattle.std.specs.Prelude.{◌≡◌, ◌≤◌, [], All, None, IfOk, IfErr, length};
 ghost use Rattle.block_cut.specs.Faults.{first_fault};
 ghost use Rattle.jumptable_pick.specs.Picked.{picked};
 ghost use Rattle.jumptable_pick.specs.Slots as slots;
@@ -8,7 +8,7 @@ ghost use Rattle.pick_check.specs.Best.{NoneSavesMore};
 ghost use Rattle.pick_check.specs.Certified.{IsAccepted};
 ghost use Rattle.psabi_sym.specs.Inputs.{parsed};
 ghost use Rattle.psabi_sym.specs.LinkFault.{IsRefusal};
-ghost use Rattle.shrink_layout.specs.Savings.{savings_of};
+ghost use Rattle.shrink_layout.specs.Savings.{HasFewSites, table_savings};
 ghost use Rattle.zc_link.specs.Invariants.Counted.{IsCountedImage};
 ghost use Rattle.zc_link.specs.LaidOut.{text_end};
 ghost use Rattle.zc_link.specs.Links.{IsImageOf, IsZcLink};
@@ -49,8 +49,9 @@ struct Counted {
 /// The link of the objects, or why they aren't linked. Pushes, pops and moves are written as one instruction
 /// (`frame_match::planned::plan` finds them), jumps and calls go through the table that saves most if one saves
 /// anything, and all else is written in the form that it has in the first round of sizes that fits. If there is no
-/// ALIGN, and no code aligned above 4 bytes, that is the shortest for these groups and this table. Beside the rounds it
-/// takes time near-linear in the size of the objects.
+/// ALIGN, no code aligned above 4 bytes and no fixed section, that is the shortest for these groups and this table.
+/// Fixed sections stay as they are, but for padding. Beside the rounds it takes time near-linear in the size of the
+/// objects.
 pub fn link_zc(alloc: Global, objects: Objects) -> Result<Linked, LinkFault>
     ensures faultless { IfOk result (λ _. first_fault objects ≡ None) }
     ensures link { IfOk result (λ linked. IsZcLink objects linked) }
@@ -104,16 +105,31 @@ fn joined(image: Counted, table: Table) -> Linked
     }
 }
 
+// What a table could save: nothing without Zcmt.
+fn savings_on(alloc: Global, first: &Settled) -> Result<Vec<Saving>, AllocError>
+    requires { first.now.slots ≡ [] }
+    ensures value { IfOk result (λ savings. savings.items ≡ table_savings (parsed first.now.inputs)) }
+    ensures few { IfOk result (λ savings. length savings.items ≤ 0x1_0000) }
+    ensures sites { IfOk result (λ savings. All HasFewSites savings.items) }
+{
+    let has_zcmt = first.planned().cut().objects().map().extensions.zcmt;
+    if has_zcmt {
+        first.savings(alloc)
+    } else {
+        Ok(Vec::new(alloc))
+    }
+}
+
 // What a table could save, and the certificate of the one that is picked.
 fn pick_table(alloc: Global, first: &Settled) -> Result<Table, AllocError>
     requires { first.now.slots ≡ [] }
-    ensures savings { IfOk result (λ table. table.savings.items ≡ savings_of (parsed first.now.inputs)) }
+    ensures savings { IfOk result (λ table. table.savings.items ≡ table_savings (parsed first.now.inputs)) }
     ensures few { IfOk result (λ table. length table.savings.items ≤ 0x1_0000) }
     ensures is_picked { IfOk result (λ table. table.certificate ≡ picked table.savings.items) }
     ensures accepted { IfOk result (λ table. IsAccepted table.savings.items table.certificate) }
     ensures best { IfOk result (λ table. NoneSavesMore table.savings.items table.certificate.net) }
 {
-    let savings = first.savings(alloc)?;
+    let savings = savings_on(alloc, first)?;
     let certificate = pick(alloc, &savings)?;
     Ok(Table {
         savings,
@@ -130,7 +146,7 @@ fn counted_image(
 ) -> Result<Counted, AllocError>
     requires faultless { first_fault first.inputs ≡ None }
     requires tableless { first.slots ≡ [] }
-    requires savings { savings.now ≡ savings_of (parsed first.inputs) }
+    requires savings { savings.now ≡ table_savings (parsed first.inputs) }
     requires accepted { IsAccepted savings.now certificate.now }
     ensures { IfOk result (IsCountedImage first.inputs (slots.slot_places savings.now certificate.now.slots)) }
 {
@@ -154,7 +170,7 @@ fn with_table(
 ) -> Result<Settled, AllocError>
     requires faultless { first_fault first.inputs ≡ None }
     requires tableless { first.slots ≡ [] }
-    requires savings { savings.now ≡ savings_of (parsed first.inputs) }
+    requires savings { savings.now ≡ table_savings (parsed first.inputs) }
     requires accepted { IsAccepted savings.now certificate.now }
     ensures same { IfOk result (λ settled. settled.inputs ≡ first.inputs) }
     ensures slots { IfOk result (λ settled. settled.slots ≡ slots.slot_places savings.now certificate.now.slots) }

@@ -45,15 +45,15 @@ module _ (g : given.Over) (c : After-len g) where
 
   -- its place
   abbrev here : Place
-  here = record { object = c.object.result; section = c.index.result; offset = c.index-places-i.result.offset }
+  here = record { object = c.object-object.result; section = c.index-index.result; offset = c.index-places-i.result.offset }
 
-  hand : AtHand L c.args.k i text places c.object.result c.index.result c.section-section.result.section.bytes c.index-places-i.result
+  hand : AtHand L c.args.k i text places c.object-object.result c.index-index.result c.section-section.result.section.bytes c.index-places-i.result
   hand =
       let asked = at_hand L none c.cut-cut.ensures.ready c.cut-cut.ensures.laid c.args.k i text places c.places-places.result.now c.section-section.result
       c.args.self.now.text.items c.args.self.now.places.items c.requires c.cut-cut.result.now c.objects.result.now c.cut-cut.ensures.same c.objects.ensures.same
       c.section-section.ensures c.places-places.ensures c.loop-i.invariant.after c.index-places-i.result c.index-places-i.is c.loop-i-test.true in
-      subst (λ x. AtHand L c.args.k i text places x c.index.result c.section-section.result.section.bytes c.index-places-i.result) (sym c.object.ensures)
-      (subst (λ x. AtHand L c.args.k i text places c.section-section.result.object x c.section-section.result.section.bytes c.index-places-i.result) (sym c.index.ensures) asked)
+      subst (λ x. AtHand L c.args.k i text places x c.index-index.result c.section-section.result.section.bytes c.index-places-i.result) (sym c.object-object.ensures)
+      (subst (λ x. AtHand L c.args.k i text places c.section-section.result.object x c.section-section.result.section.bytes c.index-places-i.result) (sym c.index-index.ensures) asked)
 
   few : i + 1 < 2 ^ 32
   few = (index_few L none c.cut-cut.ensures.ready c.cut-cut.ensures.laid c.args.k hand.section hand.at hand.code i text places hand.walks).1
