@@ -1,8 +1,8 @@
--- The program of objects starts quiet: their data have 4 MiB at most, and every map has room for these below the stack.
+-- The program of objects starts quiet: their data end at the stack's low end at the latest.
 use Rattle.std.proofs.Common.{◌≡◌, ℕ, ◌+◌, ◌-◌, ◌≤◌, List, [], ◌∷◌, ◌++◌, length, map, replicate, refl, ◌∙◌, arith, length-append}
 use Rattle.std.specs.List.{fold}
 use Rattle.std.proofs.lemmas.List.{length-map, length-replicate}
-use Rattle.zc_base.specs.MemMap.{IsMap}
+use Rattle.zc_base.specs.MemMap.{IsMap, data_limit}
 use Rattle.psabi_sym.specs.Contents.{data_contents}
 use Rattle.psabi_sym.specs.Data.{data_end, data_file_end}
 use Rattle.psabi_sym.specs.Inputs.{ParsedInputs}
@@ -39,11 +39,11 @@ module _ (inputs : ParsedInputs) where
   unfolding data_bytes
   length-data_bytes = length-words (unfilled_bytes inputs) (data_words inputs) ∙ length-unfilled
 
-  pub objects-quiet : IsMap inputs.map → data_end inputs ≤ inputs.map.data_low + 0x40_0000 → StartsQuiet (program_of inputs)
+  pub objects-quiet : IsMap inputs.map → data_end inputs ≤ inputs.map.data_low + data_limit inputs.map → StartsQuiet (program_of inputs)
   unfolding program_of
   objects-quiet is room =
       let size = length-data_bytes in
-      let below = is.data_room in
+      let below = is.below in
       let stack = is.stack in
       let top = is.top in
       starts-quiet (program_of inputs) (omega (arith, stack)) (omega (arith, top)) (omega (arith, size, below, stack, room, data_low-le inputs, data_file_end-le inputs))

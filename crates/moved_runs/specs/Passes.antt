@@ -34,7 +34,7 @@ home_of object s = if s.home == 0 then None else slice_get object.sections s.hom
 
 -- the inputs with other files
 abbrev pub with_files : Inputs → List (List ℕ) → Inputs
-with_files inputs files = record { files = files; map = inputs.map }
+with_files inputs files = record { files = files; map = inputs.map; fixed = inputs.fixed }
 
 -- a symbol is in a section of its object, a number by itself (ABS, 0xFFF1), or common; a local one isn't undefined
 pub record IsHomed (object : ObjectParts) (s : SymbolParts) : Type 0 where
@@ -102,7 +102,8 @@ ArePassesFrom pass n [] (r ∷ rs) = ⊥
 ArePassesFrom pass n (g ∷ gs) [] = ⊥
 ArePassesFrom pass n (g ∷ gs) (r ∷ rs) = IsPassOf pass n g r × ArePassesFrom pass (n + 1) gs rs
 
--- and of all, with the same map of memory
+-- and of all, with the same map of memory and the same names of sections that stay as they were compiled
 pub record ArePassed (pass : Pass) (given result : ParsedInputs) : Type 0 where
   pub objects : ArePassesFrom pass 0 given.objects result.objects
   pub map : result.map ≡ given.map
+  pub fixed : result.fixed ≡ given.fixed

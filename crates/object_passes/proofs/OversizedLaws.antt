@@ -16,7 +16,7 @@ use Rattle.elf32_read.specs.declared.fault.Fault.TheVariants.{NotElf, Truncated,
 use Rattle.elf32_write.specs.ObjectFile.{object_bytes, object_size, section_total}
 use Rattle.elf32_write.proofs.FileHeaderBack.{count_back, header_size_back, length-object_bytes, magic_back}
 use Rattle.elf32_write.proofs.SoundWords.{words_back}
-use Rattle.psabi_sym.specs.Faults.{are_too_large, count_fault, fault_from, first_some, gather_fault, most_objects, name_fault, object_code, object_data, sum_fault, sums_of}
+use Rattle.psabi_sym.specs.Faults.{are_too_large, count_fault, fault_from, first_some, gather_fault, most_objects, name_fault, object_code, object_data, room_fault, sum_fault, sums_of}
 use Rattle.psabi_sym.specs.Inputs.{Inputs, parsed}
 use Rattle.psabi_sym.proofs.Gathered.{all_none, readable}
 use Rattle.block_cut.specs.Faults.{entry_fault, first_fault, range_fault, relocs_fault}
@@ -242,17 +242,17 @@ module _ (inputs : Inputs) (pass : Pass) (none : first_fault inputs ≡ None) (f
   pub gather-oversized : (i : ℕ) → first_oversized objects ≡ Some i → gather_fault (with_files inputs files) ≡ Some (i, TooLarge)
   unfolding gather_fault
   gather-oversized i is =
-      (λ j. option_or (few j) (option_or (first-fault-from 0 objects judged j) (option_or (sum_fault files) names))) ∙ by (first_large objects) refl is
+      (λ j. option_or (few j) (option_or (first-fault-from 0 objects judged j) (option_or (sum_fault files) rest))) ∙ by (first_large objects) refl is
     where
-      names : Option (ℕ × Fault)
-      names = first_some (name_fault (parsed (with_files inputs files)) ∷ [])
+      rest : Option (ℕ × Fault)
+      rest = first_some (name_fault (parsed (with_files inputs files)) ∷ room_fault (parsed (with_files inputs files)) ∷ [])
 
       by : (o : Option ℕ) → first_large objects ≡ o → option_or o (find (passes_sum objects) (range_with_len 0 (length objects))) ≡ Some i
-          → option_or (option_map {U = ℕ × Fault} (λ i. (i, TooLarge)) (first_large objects)) (option_or (sum_fault files) names) ≡ Some (i, TooLarge)
-      by (Some k) large h = ap (λ o. option_or (option_map {U = ℕ × Fault} (λ i. (i, TooLarge)) o) (option_or (sum_fault files) names)) (large ∙ h)
+          → option_or (option_map {U = ℕ × Fault} (λ i. (i, TooLarge)) (first_large objects)) (option_or (sum_fault files) rest) ≡ Some (i, TooLarge)
+      by (Some k) large h = ap (λ o. option_or (option_map {U = ℕ × Fault} (λ i. (i, TooLarge)) o) (option_or (sum_fault files) rest)) (large ∙ h)
       by None large h =
-          ap (λ o. option_or (option_map {U = ℕ × Fault} (λ i. (i, TooLarge)) o) (option_or (sum_fault files) names)) large
-          ∙ ap (λ o. option_or o names) (sum-is large ∙ ap (option_map {U = ℕ × Fault} (λ i. (i, TooLarge))) h)
+          ap (λ o. option_or (option_map {U = ℕ × Fault} (λ i. (i, TooLarge)) o) (option_or (sum_fault files) rest)) large
+          ∙ ap (λ o. option_or o rest) (sum-is large ∙ ap (option_map {U = ℕ × Fault} (λ i. (i, TooLarge))) h)
 
 -- the first object that is too large is the first fault of the result
 pub oversized-broken : (inputs : Inputs) (pass : Pass) (i : ℕ) → first_fault inputs ≡ None → IsFitPass pass (parsed inputs).objects → first_oversized (passed_objects pass (parsed inputs).objects) ≡ Some i

@@ -109,4 +109,5 @@ passed-of pass marks inputs numbers files none read =
       objects = passes-from pass marks 0 inputs.files files (λ k file at. readable inputs k file all.gathered at)
           (λ k i. let zero : 0 + k ≡ k = omega arith in ap (λ m. pass.number m i) zero ∙ numbers k i) read;
       map = refl;
+      fixed = refl;
     }

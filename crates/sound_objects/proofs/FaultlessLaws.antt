@@ -1,4 +1,4 @@
--- Sound inputs have no fault: none of their files, their sums, their names, their relocations, their start and their branches has one.
+-- Sound inputs have no fault: none of their files, their sums, their names, their data, their relocations, their start and their branches has one.
 use Rattle.std.proofs.Common.{◌≡◌, ℕ, suc, ◌+◌, List, [], ◌∷◌, length, get_or, map, take, Bool, true, false, cond, Some, None, refl, sym, ap, subst, ◌∙◌, arith, eqb, eq-eqb}
 use Rattle.std.specs.Prelude.{All, ◌||◌, nat_lt}
 use Rattle.std.specs.List.{find, range_with_len}
@@ -15,6 +15,7 @@ use Rattle.elf32_read.specs.Parts.{is_code_section, object_parts}
 use Rattle.psabi_sym.specs.Faults.{are_too_large, fault_from, gather_fault, most_objects, object_code, object_data, sum_fault, sums_of}
 use Rattle.psabi_sym.specs.Indexed.{IndexedSection, all_sections}
 use Rattle.psabi_sym.specs.Inputs.{Inputs, parsed}
+use Rattle.psabi_sym.proofs.Gathered.{has_room}
 use Rattle.block_cut.specs.Faults.{first_fault, is_out_of_reach, reloc_fault, relocs_fault, section_fault}
 use Rattle.block_cut.specs.Items.{all_places, place_of, places_of, starts_in}
 use Rattle.block_cut.proofs.FaultLaws.{no_fault}
@@ -58,7 +59,8 @@ module _ (inputs : Inputs) (sound : IsWellFormed inputs) where
       λ j. option_or (cond (count j) (Some (most_objects, TooLarge)) None)
       (option_or (no_file 0 inputs.files sound.readable j)
       (option_or (no_sum inputs.files sound.small j)
-      (option_or (option_or (no_duplicate (parsed inputs).objects sound.single j) (option_or (no_undefined (parsed inputs) sound.defined j) None)) None)))
+      (option_or (option_or (no_duplicate (parsed inputs).objects sound.single j) (option_or (no_undefined (parsed inputs) sound.defined j) None))
+      (option_or (has_room (parsed inputs) sound.room j) None))))
 
   no_reloc : relocs_fault (parsed inputs) ≡ None
   unfolding relocs_fault

@@ -1,6 +1,6 @@
 -- Branches that reach: those of a short section, and those of a section that has none.
-use Rattle.std.proofs.Common.{◌≡◌, ℕ, suc, ◌+◌, ◌-◌, ◌%◌, ◌≤◌, inl, inr, pos, negsuc, ◌+ℤ◌, ◌-ℤ◌, List, length, true, false, Option, Some, None, refl, sym, ap, subst, ◌∙◌, arith, eqb, ltb, eq-eqb}
-use Rattle.std.specs.Prelude.{All, ◌&&◌, not}
+use Rattle.std.proofs.Common.{◌≡◌, ℕ, suc, ◌+◌, ◌-◌, ◌%◌, ◌≤◌, inl, inr, pos, negsuc, ◌+ℤ◌, ◌-ℤ◌, List, length, Bool, true, false, Option, Some, None, refl, sym, ap, subst, ◌∙◌, arith, eqb, ltb, eq-eqb}
+use Rattle.std.specs.Prelude.{All, ◌&&◌, ◌||◌, not}
 use Rattle.std.specs.List.{sum_by}
 use Rattle.std.specs.Option.{option_map_or}
 use Rattle.std.proofs.Math.IntN.{+ℤ-neg_ℤ_cancel, +ℤ_comm}
@@ -11,11 +11,12 @@ use Rattle.zc_base.specs.declared.place.Place.{Place}
 use Rattle.elf32_read.specs.Parts.{ObjectParts, SectionParts, is_code_section}
 use Rattle.elf32_read.specs.declared.reloc.Reloc.{Reloc}
 use Rattle.psabi_sym.specs.Faults.{gather_fault, reloc_room}
+use Rattle.psabi_sym.specs.Fixed.{is_fixed_at}
 use Rattle.psabi_sym.specs.Indexed.{IndexedSection, sections_before}
 use Rattle.psabi_sym.specs.Inputs.{Inputs, ParsedInputs, parsed}
 use Rattle.psabi_reloc.specs.Kinds.{kind_of}
 use Rattle.psabi_reloc.specs.Reaches.{branch_reach}
-use Rattle.block_cut.specs.Faults.{distance_between, is_out_of_reach}
+use Rattle.block_cut.specs.Faults.{distance_between, is_out_of_reach, leaves_fixed}
 use Rattle.block_cut.proofs.ReachLaws.{branch_place, is_far_branch, out_plain}
 use Rattle.block_cut.proofs.SizeLaws.{words_at}
 use Rattle.block_cut.specs.Items.{code_at, item_at, item_in, item_under, place_of, raw_in, size_at, size_on, starts_on, target_of}
@@ -65,20 +66,33 @@ near_reach a b one two low high = elim (cases_lt b a) [
 
 -- ---- items
 
+and_false : (b : Bool) → (b && false) ≡ false
+and_false true = refl
+and_false false = refl
+
 module _ (inputs : ParsedInputs) (q : Place) (i : Item) (is : item_at inputs q ≡ Some i) (words : size_at inputs.objects q % 4 ≡ 0) where
+  -- whether a branch misses a place
+  abbrev misses : Place → Bool
+  misses to = is_far_branch inputs q to || leaves_fixed inputs q to
+
   -- whether what has no 2 bytes is out of reach, by where it leads if it is a branch
-  out_is : (o : Option Place) → branch_place i ≡ o → is_out_of_reach inputs q ≡ option_map_or (is_far_branch inputs q) o false
-  out_is o leads = out_plain inputs q i is (λ e. omega (arith, e, words)) ∙ ap (λ x. option_map_or (is_far_branch inputs q) x false) leads
+  out_is : (o : Option Place) → branch_place i ≡ o → is_out_of_reach inputs q ≡ option_map_or misses o false
+  out_is o leads = out_plain inputs q i is (λ e. omega (arith, e, words)) ∙ ap (λ x. option_map_or misses x false) leads
 
   -- what leads nowhere isn't out of reach
   no_branch_near : branch_place i ≡ None → is_out_of_reach inputs q ≡ false
   no_branch_near no_branch = out_is None no_branch
 
-  -- nor is what leads to a place that is near if both have addresses
-  led_near : (to : Place) → branch_place i ≡ Some to → ((a b : ℕ) → plain_address inputs q ≡ Some a → plain_address inputs to ≡ Some b → branch_reach (pos b -ℤ pos a) ≡ true)
+  -- nor is what leads to a place of its own section that is near if both have addresses
+  led_near : (to : Place) → branch_place i ≡ Some to → to.object ≡ q.object → to.section ≡ q.section → ((a b : ℕ) → plain_address inputs q ≡ Some a → plain_address inputs to ≡ Some b → branch_reach (pos b -ℤ pos a) ≡ true)
       → is_out_of_reach inputs q ≡ false
-  led_near to leads near = out_is (Some to) leads ∙ by (plain_address inputs q) (plain_address inputs to) refl refl
+  led_near to leads object section near = out_is (Some to) leads ∙ (λ j. by (plain_address inputs q) (plain_address inputs to) refl refl j || stays j)
     where
+      stays : leaves_fixed inputs q to ≡ false
+      stays =
+          (λ j. is_fixed_at inputs q.object q.section && not (eq-eqb q.object to.object (sym object) j && eq-eqb q.section to.section (sym section) j))
+          ∙ and_false (is_fixed_at inputs q.object q.section)
+
       by : (x y : Option ℕ) → plain_address inputs q ≡ x → plain_address inputs to ≡ y → option_map_or (λ d. not (branch_reach d)) (distance_between x y) false ≡ false
       by None y one two = refl
       by (Some a) None one two = refl
@@ -180,7 +194,7 @@ module _ (inputs : Inputs) (none : gather_fault inputs ≡ None) (is_map : IsMap
       by : LeadsIn (place_of l n) (branch_place (item_in (parsed inputs) l.section (place_of l n))) → is_out_of_reach (parsed inputs) (place_of l n) ≡ false
       by (Nowhere no_branch) = no_branch_near (parsed inputs) (place_of l n) (item_in (parsed inputs) l.section (place_of l n)) is words no_branch
       by (To to leads object section) =
-          led_near (parsed inputs) (place_of l n) (item_in (parsed inputs) l.section (place_of l n)) is words to leads
+          led_near (parsed inputs) (place_of l n) (item_in (parsed inputs) l.section (place_of l n)) is words to leads object section
           (λ a b one two. both_near (place_of l n) to l.section a b (code_here (parsed inputs) l has code n) object section short.room one two)
 
 -- a short section of parts that are written

@@ -1,6 +1,6 @@
 -- The files of parts: they read as the parts, with section 0 and symbol 0 before and what is added behind, and are sound if what is
 -- said of the parts holds.
-use Rattle.std.proofs.Common.{◌≡◌, ℕ, zero, suc, ◌+◌, ◌<◌, List, [], ◌∷◌, ◌++◌, length, map, true, false, Option, Some, None, slice_get, refl, sym, ap, subst, ◌∙◌, arith}
+use Rattle.std.proofs.Common.{◌≡◌, ℕ, zero, suc, ◌+◌, ◌<◌, ◌≤◌, List, [], ◌∷◌, ◌++◌, length, map, true, false, Option, Some, None, slice_get, refl, sym, ap, subst, ◌∙◌, arith}
 use Rattle.std.specs.Prelude.{◌||◌, All}
 use Rattle.std.specs.List.{list_any, sum_by}
 use Rattle.std.specs.Option.{option_and_then, option_map}
@@ -21,11 +21,12 @@ use Rattle.elf32_write.proofs.FileHeaderBack.{length-object_bytes}
 use Rattle.elf32_write.proofs.ObjectBack.{object_back}
 use Rattle.elf32_write.proofs.SoundBack.{sound_readable, sound_writable}
 use Rattle.elf32_write.proofs.SoundParts.{AreSoundParts}
-use Rattle.psabi_sym.specs.Data.{role_of}
+use Rattle.psabi_sym.specs.Data.{data_end, role_of}
 use Rattle.psabi_sym.specs.Faults.{code_room, common_room, data_room, gather_fault, object_code, object_data}
 use Rattle.psabi_sym.specs.Indexed.{IndexedSection, symbol_at}
 use Rattle.psabi_sym.specs.Inputs.{ParsedInputs, parsed}
 use Rattle.psabi_sym.proofs.PartLaws.{section_count_is, section_got}
+use Rattle.psabi_sym.proofs.RoomLaws.{data_end-sums}
 use Rattle.block_cut.specs.Faults.{first_fault}
 use Rattle.block_cut.specs.Items.{entry_in}
 use Rattle.block_cut.specs.Whole.{IsWhole}
@@ -58,7 +59,7 @@ all_read (p ∷ parts) all =
     λ i. head i ∷ tail i
 
 pub parsed_is : (memory : MemMap) (parts : List ObjectParts) → All CanBeWritten parts → parsed (inputs_of_parts memory parts) ≡ objects_of memory parts
-parsed_is memory parts all = λ i. record { objects = all_read parts all i; map = memory }
+parsed_is memory parts all = λ i. record { objects = all_read parts all i; map = memory; fixed = [] }
 
 -- ---- sums
 
@@ -104,8 +105,11 @@ given_room room none p can =
 code_is : (p : ObjectParts) → CanBeWritten p → object_code (object_parts (object_bytes p)) ≡ parts_code p
 code_is p can = ap object_code (reads_as p can) ∙ given_room code_room dropped_code p can
 
+read_data : (p : ObjectParts) → CanBeWritten p → object_data (read_of p) ≡ parts_data p
+read_data p can = ap (λ n. n + sum_by common_room p.symbols) (given_room data_room dropped_data p can)
+
 data_is : (p : ObjectParts) → CanBeWritten p → object_data (object_parts (object_bytes p)) ≡ parts_data p
-data_is p can = ap object_data (reads_as p can) ∙ ap (λ n. n + sum_by common_room p.symbols) (given_room data_room dropped_data p can)
+data_is p can = ap object_data (reads_as p can) ∙ read_data p can
 
 -- sums over files are sums over parts
 sum_same : (f : List ℕ → ℕ) (g : ObjectParts → ℕ) → ((p : ObjectParts) → CanBeWritten p → f (object_bytes p) ≡ g p) → (parts : List ObjectParts) → All CanBeWritten parts
@@ -119,6 +123,21 @@ sum_same f g same (p ∷ parts) all =
       same p (All-head CanBeWritten p parts all),
       sum_same f g same parts (All-tail CanBeWritten p parts all),
     )
+
+-- data of files end no higher than the sums of the parts say
+sum_read : (parts : List ObjectParts) → All CanBeWritten parts → sum_by object_data (map read_of parts) ≡ sum_by parts_data parts
+sum_read [] all = refl
+sum_read (p ∷ parts) all =
+    omega (
+      arith,
+      sum_by-cons object_data (read_of p) (map read_of parts),
+      sum_by-cons parts_data p parts,
+      read_data p (All-head CanBeWritten p parts all),
+      sum_read parts (All-tail CanBeWritten p parts all),
+    )
+
+pub parts_end : (memory : MemMap) (parts : List ObjectParts) → All CanBeWritten parts → data_end (objects_of memory parts) ≤ memory.data_low + sum_by parts_data parts + 96
+parts_end memory parts all = omega (arith, data_end-sums (objects_of memory parts), sum_read parts all)
 
 -- ---- sections and symbols
 
@@ -217,6 +236,7 @@ are_faultless memory parts sound = well_formed_faultless (inputs_of_parts memory
   };
   single = subst (λ (i : ParsedInputs). AreSingle i.objects) (sym is) sound.single;
   defined = subst HaveDefinitions (sym is) sound.defined;
+  room = subst (λ (i : ParsedInputs). data_end i ≤ i.map.stack_low) (sym is) sound.room;
   relocs = subst AllRelocsAreRight (sym is) sound.relocs;
   entry = sound.entry;
   entry_found = subst (λ (i : ParsedInputs). entry_in i ≡ Some sound.entry) (sym is) sound.entry_found;

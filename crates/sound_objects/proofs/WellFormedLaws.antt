@@ -15,7 +15,7 @@ use Rattle.psabi_sym.specs.Faults.{are_too_large, duplicate_fault, fault_from, s
 use Rattle.psabi_sym.specs.Indexed.{IndexedSection, all_sections}
 use Rattle.psabi_sym.specs.Inputs.{Inputs, ParsedInputs, parsed}
 use Rattle.psabi_sym.proofs.FaultLaws.{neither}
-use Rattle.psabi_sym.proofs.Gathered.{all_none}
+use Rattle.psabi_sym.proofs.Gathered.{all_none, data_below}
 use Rattle.block_cut.specs.Faults.{first_fault, is_out_of_reach, reloc_fault, relocs_fault, section_fault}
 use Rattle.block_cut.specs.Items.{all_places, place_of, places_of, starts_in}
 use Rattle.block_cut.proofs.FaultLaws.{faultless}
@@ -92,6 +92,7 @@ faultless_well_formed inputs none =
       small = small_all inputs.files gathered.sums;
       single = no_duplicate_single (parsed inputs).objects names.0;
       defined = no_undefined_defined (parsed inputs) (neither (undefined_fault (parsed inputs)) None names.1).0;
+      room = data_below (parsed inputs) gathered.room;
       relocs = λ l has. relocs_right (parsed inputs) l has is.relocs;
       entry = is.entry;
       entry_found = is.entry_found;

@@ -1,14 +1,16 @@
 -- The files of parts, and what it takes for them to have none of the faults, said of the parts.
-use Rattle.std.specs.Prelude.{◌≡◌, ◌≤◌, ◌<◌, ◌+◌, ◌^◌, ℕ, List, ◌∷◌, ◌++◌, length, map, All, Some, None}
+use Rattle.std.specs.Prelude.{◌≡◌, ◌≤◌, ◌<◌, ◌+◌, ◌^◌, ℕ, List, [], ◌∷◌, ◌++◌, length, map, All, Some, None}
 use Rattle.std.specs.List.{sum_by}
+use Rattle.zc_base.specs.Options.{options_in}
 use Rattle.zc_base.specs.declared.mem_map.MemMap.{MemMap}
 use Rattle.zc_base.specs.declared.place.Place.{Place}
 use Rattle.elf32_read.specs.Parts.{ObjectParts}
 use Rattle.elf32_write.specs.ObjectFile.{object_bytes, object_size}
 use Rattle.elf32_write.specs.Ranges.{IsPartsSized}
 use Rattle.elf32_write.specs.Writable.{IsWritable, added_parts, in_object, null_part, null_symbol_part}
+use Rattle.psabi_sym.specs.Data.{data_end}
 use Rattle.psabi_sym.specs.Faults.{code_room, common_room, data_room, gather_fault, most_objects}
-use Rattle.psabi_sym.specs.Inputs.{Inputs, ParsedInputs}
+use Rattle.psabi_sym.specs.Inputs.{Inputs, ParsedInputs, inputs_in}
 use Rattle.psabi_sym.specs.declared.sums.Sums.{Sums}
 use Rattle.block_cut.specs.Items.{entry_in}
 use Rattle.sound_objects.specs.WellFormed.{AllBranchesReach, AllRelocsAreRight, HaveDefinitions, AreSingle, AreSmall}
@@ -21,9 +23,9 @@ pub record CanBeWritten (p : ObjectParts) : Type 0 where
   pub flags : p.flags < 2 ^ 32
   pub sized : IsPartsSized p.sections p.symbols
 
--- the files of parts, in order, and a map
+-- the files of parts, in order, and a map alone
 abbrev pub inputs_of_parts : MemMap → List ObjectParts → Inputs
-inputs_of_parts memory parts = record { files = map object_bytes parts; map = memory }
+inputs_of_parts memory parts = inputs_in (options_in memory) (map object_bytes parts)
 
 -- what a file of parts reads as: section 0 and symbol 0 come first, and the sections that are added last
 abbrev pub read_of : ObjectParts → ObjectParts
@@ -35,7 +37,7 @@ read_of p = record {
 
 -- what the files read as
 abbrev pub objects_of : MemMap → List ObjectParts → ParsedInputs
-objects_of memory parts = record { objects = map read_of parts; map = memory }
+objects_of memory parts = record { objects = map read_of parts; map = memory; fixed = [] }
 
 -- ---- sums
 
@@ -63,6 +65,7 @@ pub record AreWellFormed (memory : MemMap) (parts : List ObjectParts) : Type 0 w
   pub small : AreSmall (parts_sums parts)
   pub single : AreSingle (map read_of parts)
   pub defined : HaveDefinitions (objects_of memory parts)
+  pub room : data_end (objects_of memory parts) ≤ memory.stack_low
   pub relocs : AllRelocsAreRight (objects_of memory parts)
   pub entry : Place
   pub entry_found : entry_in (objects_of memory parts) ≡ Some entry

@@ -3,6 +3,7 @@ use Rattle.std.specs.Prelude.{◌≡◌, ◌≤◌, ◌+◌, ℕ, true, false, L
 use Rattle.zc_base.specs.declared.place.Place.{Place}
 use Rattle.elf32_read.specs.Object.{object_fault}
 use Rattle.elf32_read.specs.Parts.{ObjectParts, is_code_section}
+use Rattle.psabi_sym.specs.Data.{data_end}
 use Rattle.psabi_sym.specs.Faults.{gather_fault, is_used, most_objects, sums_of}
 use Rattle.psabi_sym.specs.Indexed.{IndexedSection, IndexedSymbol, section_at, symbol_at}
 use Rattle.psabi_sym.specs.Inputs.{Inputs, ParsedInputs, parsed}
@@ -74,14 +75,16 @@ AllBranchesReach inputs =
 -- ---- the whole
 
 -- inputs without a fault. The objects are few, each can be read, and together they are small. No name has two strong
--- definitions, and each that is needed has a definition. Relocations are right, and the program starts where an item
--- does. Branches reach; here it may be assumed that the objects can be gathered, as the laws of addresses do
+-- definitions, and each that is needed has a definition. Data end below the stack. Relocations are right, and the
+-- program starts where an item does. Branches reach; here it may be assumed that the objects can be gathered, as the
+-- laws of addresses do
 pub record IsWellFormed (inputs : Inputs) : Type 0 where
   pub few : length inputs.files ≤ most_objects
   pub readable : All (λ file. object_fault file ≡ None) inputs.files
   pub small : AreSmall (sums_of inputs.files)
   pub single : AreSingle (parsed inputs).objects
   pub defined : HaveDefinitions (parsed inputs)
+  pub room : data_end (parsed inputs) ≤ inputs.map.stack_low
   pub relocs : AllRelocsAreRight (parsed inputs)
   pub entry : Place
   pub entry_found : entry_in (parsed inputs) ≡ Some entry

@@ -4,4 +4,4 @@ use Rattle.object_passes.proofs.FileLaws.{gather_first}
 use Rattle.object_passes.proofs.judge.cut_files.Goals as goal
 
 pub returns-in-Err-clause-err : goal.returns-in-Err-clause-err
-returns-in-Err-clause-err c = gather_first (inputs_in c.args.map (contents_of c.args.files.now)) c.in-Err.fault c.in-Err.ensures.err
+returns-in-Err-clause-err c = gather_first (inputs_in c.args.options.now (contents_of c.args.files.now)) c.in-Err.fault c.in-Err.ensures.err
