@@ -2,13 +2,15 @@
 use Rattle.std.proofs.Common.{◌≡◌, ℕ, List, [], ◌∷◌, length, refl, sym, ap, ◌∙◌, Bool, true, false, cond, Option, Some, None, slice_get, get_or, subst}
 use Rattle.std.specs.Prelude.{◌&&◌, ◌||◌, not, All, Contains}
 use Rattle.std.specs.Option.{option_and_then, option_map_or, option_or}
+use Rattle.std.proofs.lemmas.Bool.{and_parts}
 use Rattle.std.proofs.lemmas.List.Elements.{All-from_get_or, All-nil, Contains-get_or}
 use Rattle.std.proofs.lemmas.Option.{slice_get-get_or}
 use Rattle.zc_base.specs.declared.place.Place.{Place}
-use Rattle.elf32_read.specs.Parts.{SectionParts, is_kept_section}
+use Rattle.elf32_read.specs.Parts.{SectionParts, is_code_section, is_kept_section}
 use Rattle.elf32_read.specs.declared.fault.Fault.{Fault}
 use Rattle.elf32_read.specs.declared.fault.Fault.TheVariants.{BadTarget, LoPair, RelocKind, RelocPlace}
 use Rattle.elf32_read.specs.declared.reloc.Reloc.{Reloc}
+use Rattle.psabi_sym.specs.Fixed.{is_fixed, is_fixed_at}
 use Rattle.psabi_sym.specs.Inputs.{ParsedInputs}
 use Rattle.psabi_sym.specs.Indexed.{section_at}
 use Rattle.psabi_sym.specs.Resolve.{name_target}
@@ -24,7 +26,7 @@ use Rattle.block_cut.proofs.FaultLaws.{section_fine}
 use Rattle.block_cut.proofs.ListedLaws.{listed}
 use Rattle.block_cut.proofs.WholeLaws.{code_is_section}
 use Rattle.block_cut.specs.Resolved.{asks}
-use Rattle.section_gc.specs.Kept.{AreNeeded, Needed, Start, Data, Referred}
+use Rattle.section_gc.specs.Kept.{AreNeeded, Needed, Start, Data, Fixed, Referred}
 use Rattle.section_gc.proofs.Closed.{IsClosed, IsKeptThere}
 use Rattle.section_gc.proofs.ResolveLaws.{IsNeededTarget}
 
@@ -96,11 +98,24 @@ module _ (inputs : ParsedInputs) (fine : relocs_fault inputs ≡ None) where
   not-quiet : (r : Reloc) → is_ignored (kind_of r.kind) ≡ false → asks r ≡ true
   not-quiet r h = ap not h
 
+  -- what is fixed is kept code
+  fixed-there : (o i : ℕ) → is_fixed_at inputs o i ≡ true → IsKeptThere inputs o i
+  fixed-there o i = by (section_at inputs.objects o i) refl
+    where
+      by : (s : Option SectionParts) → section_at inputs.objects o i ≡ s → option_map_or (is_fixed inputs.fixed) s false ≡ true → IsKeptThere inputs o i
+      by None at h = absurd cc
+      by (Some s) at h = record {
+        section = s;
+        at = at;
+        kept = (and_parts (is_kept_section s) _ (and_parts (is_code_section s) _ h).0).0;
+      }
+
   -- ---- what is needed is kept
 
   pub needed-there : (o i : ℕ) → Needed inputs o i → IsKeptThere inputs o i
   needed-there o i (Start p e) = started-there p (start-place (name_target inputs start_name) p e).1
   needed-there o i (Data x y s at kept plain) = record { section = s; at = at; kept = kept }
+  needed-there o i (Fixed x y fixed) = fixed-there x y fixed
   needed-there o i (Referred from j to need refers) = target-there to (leads-to refers.its)
     where
       leads-to : Contains refers.section.relocs refers.reloc → is_target_at inputs.objects to ≡ true

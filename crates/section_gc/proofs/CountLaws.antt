@@ -186,5 +186,5 @@ has-room inputs marks k l counts none at code before =
     }
 
 -- whether a section is code, by its row
-pub row-code : (r : SectionRow) (l : IndexedSection) (b : Bool) → r ≡ section_row l → b ≡ is_code_role r.role → is_code_section l.section ≡ b
-row-code r l b row is = sym (code_is l.section) ∙ ap (λ (r : SectionRow). is_code_role r.role) (sym row) ∙ sym is
+pub row-code : (names : List (List ℕ)) (r : SectionRow) (l : IndexedSection) (b : Bool) → r ≡ section_row names l → b ≡ is_code_role r.role → is_code_section l.section ≡ b
+row-code names r l b row is = sym (code_is l.section) ∙ ap (λ (r : SectionRow). is_code_role r.role) (sym row) ∙ sym is

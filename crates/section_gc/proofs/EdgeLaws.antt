@@ -9,13 +9,12 @@ use Rattle.std.proofs.lemmas.Option.{slice_get_within}
 use Rattle.zc_base.specs.declared.place.Place.{Place}
 use Rattle.elf32_read.specs.Parts.{ObjectParts}
 use Rattle.elf32_write.proofs.Relocated.{enumerate_from-append}
-use Rattle.psabi_sym.specs.Data.{role_of}
 use Rattle.psabi_sym.specs.Indexed.{IndexedSection, IsSectionNumber, all_sections, section_at}
 use Rattle.psabi_sym.specs.declared.target.Target.{Target}
 use Rattle.psabi_sym.specs.declared.target.Target.TheVariants.{Code}
 use Rattle.psabi_sym.proofs.SectionNumbers.{before_number}
 use Rattle.block_cut.proofs.TakeLaws.{take_next}
-use Rattle.section_gc.specs.Graph.{data_nodes_from, is_data_role, node_of, nodes_at, target_nodes}
+use Rattle.section_gc.specs.Graph.{is_root, node_of, nodes_at, root_nodes_from, target_nodes}
 
 -- ---- nodes
 
@@ -60,33 +59,34 @@ map-more g f xs k x old new v at before more one =
     ∙ sym (map-append f (take k xs) (x ∷ []))
     ∙ ap (map f) (sym (take_next xs k x at))
 
--- the nodes of data, with that of one more section if it is data
-pub data-more : (ls : List IndexedSection) (k : ℕ) (l : IndexedSection) → slice_get ls k ≡ Some l → data_nodes_from 0 (take (k + 1) ls) ≡ data_nodes_from 0 (take k ls) ++ cond (is_data_role (role_of l.section)) (k ∷ []) []
-data-more ls k l at =
+-- the nodes that are needed by themselves, with that of one more section if it is such
+pub roots-more : (fixed : List (List ℕ)) (ls : List IndexedSection) (k : ℕ) (l : IndexedSection) → slice_get ls k ≡ Some l
+    → root_nodes_from fixed 0 (take (k + 1) ls) ≡ root_nodes_from fixed 0 (take k ls) ++ cond (is_root fixed l.section) (k ∷ []) []
+roots-more fixed ls k l at =
     let within = slice_get_within ls k l at in
     let short : 0 + length (take k ls) ≡ k = omega (arith, length-take-le k ls (omega (arith, within))) in
-    ap (λ xs. map (λ (e : ℕ × IndexedSection). e.0) (filter is_data xs))
+    ap (λ xs. map (λ (e : ℕ × IndexedSection). e.0) (filter is_among xs))
     (ap (enumerate_from 0) (take_next ls k l at) ∙ enumerate_from-append 0 (take k ls) (l ∷ []) ∙ ap (λ n. enumerate_from 0 (take k ls) ++ (n, l) ∷ []) short)
-    ∙ ap (map (λ (e : ℕ × IndexedSection). e.0)) (filter-append is_data (enumerate_from 0 (take k ls)) ((k, l) ∷ []))
-    ∙ map-append (λ (e : ℕ × IndexedSection). e.0) (filter is_data (enumerate_from 0 (take k ls))) (filter is_data ((k, l) ∷ []))
-    ∙ ap (λ xs. data_nodes_from 0 (take k ls) ++ xs) (by (is_data_role (role_of l.section)))
+    ∙ ap (map (λ (e : ℕ × IndexedSection). e.0)) (filter-append is_among (enumerate_from 0 (take k ls)) ((k, l) ∷ []))
+    ∙ map-append (λ (e : ℕ × IndexedSection). e.0) (filter is_among (enumerate_from 0 (take k ls))) (filter is_among ((k, l) ∷ []))
+    ∙ ap (λ xs. root_nodes_from fixed 0 (take k ls) ++ xs) (by (is_root fixed l.section))
   where
-    is_data : ℕ × IndexedSection → Bool
-    is_data e = is_data_role (role_of e.1.section)
+    is_among : ℕ × IndexedSection → Bool
+    is_among e = is_root fixed e.1.section
 
     by : (b : Bool) → map (λ (e : ℕ × IndexedSection). e.0) (cond b ((k, l) ∷ []) []) ≡ cond b (k ∷ []) []
     by true = refl
     by false = refl
 
 -- a root is added, or none is
-pub root-added : (ls : List IndexedSection) (k : ℕ) (l : IndexedSection) (first old new : List ℕ) → slice_get ls k ≡ Some l → is_data_role (role_of l.section) ≡ true → old ≡ first ++ data_nodes_from 0 (take k ls)
-    → new ≡ old ++ k ∷ [] → new ≡ first ++ data_nodes_from 0 (take (k + 1) ls)
-root-added ls k l first old new at its before more =
-    more ∙ ap (λ l. l ++ k ∷ []) before ∙ append_assoc first (data_nodes_from 0 (take k ls)) (k ∷ [])
-    ∙ ap (λ l. first ++ l) (sym (data-more ls k l at ∙ ap (λ b. data_nodes_from 0 (take k ls) ++ cond b (k ∷ []) []) its))
+pub root-added : (fixed : List (List ℕ)) (ls : List IndexedSection) (k : ℕ) (l : IndexedSection) (first old new : List ℕ) → slice_get ls k ≡ Some l → is_root fixed l.section ≡ true → old ≡ first ++ root_nodes_from fixed 0 (take k ls)
+    → new ≡ old ++ k ∷ [] → new ≡ first ++ root_nodes_from fixed 0 (take (k + 1) ls)
+root-added fixed ls k l first old new at its before more =
+    more ∙ ap (λ l. l ++ k ∷ []) before ∙ append_assoc first (root_nodes_from fixed 0 (take k ls)) (k ∷ [])
+    ∙ ap (λ l. first ++ l) (sym (roots-more fixed ls k l at ∙ ap (λ b. root_nodes_from fixed 0 (take k ls) ++ cond b (k ∷ []) []) its))
 
-pub root-passed : (ls : List IndexedSection) (k : ℕ) (l : IndexedSection) (first old : List ℕ) → slice_get ls k ≡ Some l → is_data_role (role_of l.section) ≡ false → old ≡ first ++ data_nodes_from 0 (take k ls)
-    → old ≡ first ++ data_nodes_from 0 (take (k + 1) ls)
-root-passed ls k l first old at other before =
+pub root-passed : (fixed : List (List ℕ)) (ls : List IndexedSection) (k : ℕ) (l : IndexedSection) (first old : List ℕ) → slice_get ls k ≡ Some l → is_root fixed l.section ≡ false → old ≡ first ++ root_nodes_from fixed 0 (take k ls)
+    → old ≡ first ++ root_nodes_from fixed 0 (take (k + 1) ls)
+root-passed fixed ls k l first old at other before =
     before
-    ∙ ap (λ l. first ++ l) (sym (data-more ls k l at ∙ ap (λ b. data_nodes_from 0 (take k ls) ++ cond b (k ∷ []) []) other ∙ append-nil (data_nodes_from 0 (take k ls))))
+    ∙ ap (λ l. first ++ l) (sym (roots-more fixed ls k l at ∙ ap (λ b. root_nodes_from fixed 0 (take k ls) ++ cond b (k ∷ []) []) other ∙ append-nil (root_nodes_from fixed 0 (take k ls))))

@@ -1,10 +1,10 @@
 -- The sections whose nodes are reached are those that are needed.
 use Rattle.std.proofs.Common.{◌≡◌, ℕ, zero, suc, ◌+◌, ◌<◌, ◌⊎◌, inl, inr, List, [], ◌∷◌, ◌++◌, length, map, filter, get_or, refl, sym, ap, ◌∙◌, subst, arith, Bool, true, false, cond, Option, Some, None, slice_get}
-use Rattle.std.specs.Prelude.{not, All, Contains, Vec}
+use Rattle.std.specs.Prelude.{◌||◌, not, All, Contains, Vec}
 use Rattle.std.specs.List.{enumerate_from, flat_map}
 use Rattle.std.specs.Option.{option_map, option_map_or, unwrap_or}
 use Rattle.std.specs.declared.alloc.Global.{Global}
-use Rattle.std.proofs.lemmas.Bool.{and_from, and_parts}
+use Rattle.std.proofs.lemmas.Bool.{and_from, and_parts, or_left, or_right}
 use Rattle.std.proofs.lemmas.List.{length-map}
 use Rattle.std.proofs.lemmas.List.Elements.{All-append, All-cons, All-nil, Contains-append_cases, Contains-append_left, Contains-append_right}
 use Rattle.std.proofs.lemmas.Option.{slice_get-map, slice_get_within}
@@ -13,6 +13,7 @@ use Rattle.elf32_read.specs.Parts.{SectionParts, is_code_section, is_kept_sectio
 use Rattle.elf32_read.specs.declared.reloc.Reloc.{Reloc}
 use Rattle.psabi_reloc.specs.Kinds.{kind_of}
 use Rattle.psabi_sym.specs.Data.{class_of, role_of}
+use Rattle.psabi_sym.specs.Fixed.{is_fixed, is_fixed_at}
 use Rattle.psabi_sym.specs.Indexed.{IndexedSection, all_sections, section_at}
 use Rattle.psabi_sym.specs.Inputs.{Inputs, ParsedInputs, parsed}
 use Rattle.psabi_sym.specs.declared.section_row.SectionRole.TheVariants as role
@@ -25,8 +26,8 @@ use Rattle.block_cut.specs.Items.{entry_in, entry_of, target_of}
 use Rattle.block_cut.specs.Relocs.{is_ignored}
 use Rattle.block_cut.specs.Resolved.{asks}
 use Rattle.reach.specs.Reach.{AreInside, Edge, MarksReached, Reached, Root, edges_of, mark_of}
-use Rattle.section_gc.specs.Graph.{data_nodes_from, is_data_role, has_mark, node_of, nodes_at, reloc_nodes, section_nodes, target_nodes}
-use Rattle.section_gc.specs.Kept.{AreNeeded, Data, Needed, Referred, Start}
+use Rattle.section_gc.specs.Graph.{is_data_role, is_root, has_mark, node_of, nodes_at, reloc_nodes, root_nodes_from, section_nodes, target_nodes}
+use Rattle.section_gc.specs.Kept.{AreNeeded, Data, Fixed, Needed, Referred, Start}
 use Rattle.section_gc.proofs.Closed.{IsKeptThere}
 use Rattle.section_gc.proofs.ClosedLaws.{needed-there}
 use Rattle.section_gc.proofs.EdgeLaws.{node-is}
@@ -79,43 +80,48 @@ kept-data : (s : SectionParts) → is_kept_section s ≡ true → is_code_sectio
 unfolding role_of
 kept-data s kept plain = (λ i. is_data_role (cond (plain i) role.Code (cond (kept i) (role.InClass (class_of s)) role.Dropped)))
 
-record IsDataNode (n : ℕ) (ls : List IndexedSection) (node : ℕ) : Type 0 where
+-- ---- sections that are needed by themselves
+
+record IsRootNode (fixed : List (List ℕ)) (n : ℕ) (ls : List IndexedSection) (node : ℕ) : Type 0 where
   k : ℕ
   node_is : node ≡ n + k
   section : IndexedSection
   at : slice_get ls k ≡ Some section
-  is_data : is_data_role (role_of section.section) ≡ true
+  by_itself : is_root fixed section.section ≡ true
 
-data-nodes : (n : ℕ) (ls : List IndexedSection) (node : ℕ) → Contains (data_nodes_from n ls) node → IsDataNode n ls node
-data-nodes n [] node its = absurd (none-contains node its)
-data-nodes n (l ∷ ls) node its = by (λ h. data-nodes (n + 1) ls node h) (is_data_role (role_of l.section)) refl its
-  where
-    later : IsDataNode (n + 1) ls node → IsDataNode n (l ∷ ls) node
-    later d = record { k = suc d.k; node_is = omega (arith, d.node_is); section = d.section; at = d.at; is_data = d.is_data }
+module _ (fixed : List (List ℕ)) where
+  -- the nodes of a section and of later ones, by whether it is needed by itself
+  abbrev with-first : Bool → ℕ → IndexedSection → List IndexedSection → List ℕ
+  with-first b n l ls =
+      map (λ (e : ℕ × IndexedSection). e.0) (cond b ((n, l) ∷ filter (λ e. is_root fixed e.1.section) (enumerate_from (n + 1) ls)) (filter (λ e. is_root fixed e.1.section) (enumerate_from (n + 1) ls)))
 
-    by : (Contains (data_nodes_from (n + 1) ls) node → IsDataNode (n + 1) ls node) → (b : Bool) → is_data_role (role_of l.section) ≡ b
-        → Contains (map (λ (e : ℕ × IndexedSection). e.0) (cond b ((n, l) ∷ filter (λ e. is_data_role (role_of e.1.section)) (enumerate_from (n + 1) ls)) (filter (λ e. is_data_role (role_of e.1.section)) (enumerate_from (n + 1) ls)))) node
-        → IsDataNode n (l ∷ ls) node
-    by rest false is its = later (rest its)
-    by rest true is its = first its.0 its.1 its.2
-      where
-        first : (j : ℕ) → j < length (n ∷ data_nodes_from (n + 1) ls) → get_or (n ∷ data_nodes_from (n + 1) ls) j node ≡ node → IsDataNode n (l ∷ ls) node
-        first zero lt same = record { k = 0; node_is = omega (arith, same); section = l; at = refl; is_data = is }
-        first (suc j) lt same = later (rest (j, omega (arith, lt), same))
+  root-nodes : (n : ℕ) (ls : List IndexedSection) (node : ℕ) → Contains (root_nodes_from fixed n ls) node → IsRootNode fixed n ls node
+  root-nodes n [] node its = absurd (none-contains node its)
+  root-nodes n (l ∷ ls) node its = by (λ h. root-nodes (n + 1) ls node h) (is_root fixed l.section) refl its
+    where
+      later : IsRootNode fixed (n + 1) ls node → IsRootNode fixed n (l ∷ ls) node
+      later d = record { k = suc d.k; node_is = omega (arith, d.node_is); section = d.section; at = d.at; by_itself = d.by_itself }
 
-data-among : (n : ℕ) (ls : List IndexedSection) (k : ℕ) (l : IndexedSection) → slice_get ls k ≡ Some l → is_data_role (role_of l.section) ≡ true → Contains (data_nodes_from n ls) (n + k)
-data-among n [] k l at is = absurd cc
-data-among n (m ∷ ls) zero l at is =
-    let same : m ≡ l = cc in
-    let is_data : is_data_role (role_of m.section) ≡ true = ap (λ (x : IndexedSection). is_data_role (role_of x.section)) same ∙ is in
-    let rest = filter (λ e. is_data_role (role_of e.1.section)) (enumerate_from (n + 1) ls) in
-    subst (λ b. Contains (map (λ (e : ℕ × IndexedSection). e.0) (cond b ((n, m) ∷ rest) rest)) (n + 0)) (sym is_data) (0, omega arith, omega arith)
-data-among n (m ∷ ls) (suc k) l at is = by (is_data_role (role_of m.section)) (subst (Contains (data_nodes_from (n + 1) ls)) (omega arith) (data-among (n + 1) ls k l at is))
-  where
-    by : (b : Bool) → Contains (data_nodes_from (n + 1) ls) (n + suc k)
-        → Contains (map (λ (e : ℕ × IndexedSection). e.0) (cond b ((n, m) ∷ filter (λ e. is_data_role (role_of e.1.section)) (enumerate_from (n + 1) ls)) (filter (λ e. is_data_role (role_of e.1.section)) (enumerate_from (n + 1) ls)))) (n + suc k)
-    by true its = Contains-append_right (n ∷ []) (data_nodes_from (n + 1) ls) (n + suc k) its
-    by false its = its
+      by : (Contains (root_nodes_from fixed (n + 1) ls) node → IsRootNode fixed (n + 1) ls node) → (b : Bool) → is_root fixed l.section ≡ b
+          → Contains (with-first b n l ls) node → IsRootNode fixed n (l ∷ ls) node
+      by rest false is its = later (rest its)
+      by rest true is its = first its.0 its.1 its.2
+        where
+          first : (j : ℕ) → j < length (n ∷ root_nodes_from fixed (n + 1) ls) → get_or (n ∷ root_nodes_from fixed (n + 1) ls) j node ≡ node → IsRootNode fixed n (l ∷ ls) node
+          first zero lt same = record { k = 0; node_is = omega (arith, same); section = l; at = refl; by_itself = is }
+          first (suc j) lt same = later (rest (j, omega (arith, lt), same))
+
+  root-among : (n : ℕ) (ls : List IndexedSection) (k : ℕ) (l : IndexedSection) → slice_get ls k ≡ Some l → is_root fixed l.section ≡ true → Contains (root_nodes_from fixed n ls) (n + k)
+  root-among n [] k l at is = absurd cc
+  root-among n (m ∷ ls) zero l at is =
+      let same : m ≡ l = cc in
+      let root : is_root fixed m.section ≡ true = ap (λ (x : IndexedSection). is_root fixed x.section) same ∙ is in
+      subst (λ b. Contains (with-first b n m ls) (n + 0)) (sym root) (0, omega arith, omega arith)
+  root-among n (m ∷ ls) (suc k) l at is = by (is_root fixed m.section) (subst (Contains (root_nodes_from fixed (n + 1) ls)) (omega arith) (root-among (n + 1) ls k l at is))
+    where
+      by : (b : Bool) → Contains (root_nodes_from fixed (n + 1) ls) (n + suc k) → Contains (with-first b n m ls) (n + suc k)
+      by true its = Contains-append_right (n ∷ []) (root_nodes_from fixed (n + 1) ls) (n + suc k) its
+      by false its = its
 
 -- ---- the graph
 
@@ -176,22 +182,21 @@ module _ (inputs : ParsedInputs) (graph : List (Vec ℕ Global)) (edges : map (�
       by (Some v) None e = absurd cc
       by (Some v) (Some l) e = let same : section_nodes inputs l ≡ v.items = cc in subst (All IsNode) same (all-inside l.object l.section.relocs)
 
-  data-inside : (n : ℕ) (ls : List IndexedSection) → All (λ k. k < n + length ls) (data_nodes_from n ls)
-  data-inside n [] = All-nil (λ k. k < n + 0)
-  data-inside n (l ∷ ls) = by (is_data_role (role_of l.section)) (subst (λ m. All (λ k. k < m) (data_nodes_from (n + 1) ls)) (omega arith) (data-inside (n + 1) ls))
+  roots-within : (n : ℕ) (ls : List IndexedSection) → All (λ k. k < n + length ls) (root_nodes_from inputs.fixed n ls)
+  roots-within n [] = All-nil (λ k. k < n + 0)
+  roots-within n (l ∷ ls) = by (is_root inputs.fixed l.section) (subst (λ m. All (λ k. k < m) (root_nodes_from inputs.fixed (n + 1) ls)) (omega arith) (roots-within (n + 1) ls))
     where
-      by : (b : Bool) → All (λ k. k < n + suc (length ls)) (data_nodes_from (n + 1) ls)
-          → All (λ k. k < n + suc (length ls)) (map (λ (e : ℕ × IndexedSection). e.0) (cond b ((n, l) ∷ filter (λ e. is_data_role (role_of e.1.section)) (enumerate_from (n + 1) ls)) (filter (λ e. is_data_role (role_of e.1.section)) (enumerate_from (n + 1) ls))))
-      by true rest = All-cons (λ k. k < n + suc (length ls)) n (data_nodes_from (n + 1) ls) (omega arith) rest
+      by : (b : Bool) → All (λ k. k < n + suc (length ls)) (root_nodes_from inputs.fixed (n + 1) ls) → All (λ k. k < n + suc (length ls)) (with-first inputs.fixed b n l ls)
+      by true rest = All-cons (λ k. k < n + suc (length ls)) n (root_nodes_from inputs.fixed (n + 1) ls) (omega arith) rest
       by false rest = rest
 
   abbrev pub roots : Place → List ℕ
-  roots entry = nodes_at inputs.objects entry.object entry.section ++ data_nodes_from 0 (all_sections inputs.objects)
+  roots entry = nodes_at inputs.objects entry.object entry.section ++ root_nodes_from inputs.fixed 0 (all_sections inputs.objects)
 
   pub roots-inside : (entry : Place) → All IsNode (roots entry)
   roots-inside entry =
-      All-append IsNode (nodes_at inputs.objects entry.object entry.section) (data_nodes_from 0 (all_sections inputs.objects)) (nodes-inside entry.object entry.section)
-      (subst (λ m. All (λ k. k < m) (data_nodes_from 0 (all_sections inputs.objects))) (let same : 0 + length (all_sections inputs.objects) ≡ length graph = omega (arith, nodes-are) in same) (data-inside 0 (all_sections inputs.objects)))
+      All-append IsNode (nodes_at inputs.objects entry.object entry.section) (root_nodes_from inputs.fixed 0 (all_sections inputs.objects)) (nodes-inside entry.object entry.section)
+      (subst (λ m. All (λ k. k < m) (root_nodes_from inputs.fixed 0 (all_sections inputs.objects))) (let same : 0 + length (all_sections inputs.objects) ≡ length graph = omega (arith, nodes-are) in same) (roots-within 0 (all_sections inputs.objects)))
 
   -- ---- what is reached is needed, and what is needed is reached
 
@@ -205,20 +210,29 @@ module _ (inputs : ParsedInputs) (graph : List (Vec ℕ Global)) (edges : map (�
         (sym (ap (λ b. cond b (target_nodes inputs.objects (target_of inputs o r)) []) (ap not asked) ∙ ap (target_nodes inputs.objects) leads))
         (nodes-there to.object to.section there.section there.at)
 
+    -- what is needed by itself is reached
+    rooted : (x y : ℕ) (s : SectionParts) → section_at inputs.objects x y ≡ Some s → is_root inputs.fixed s ≡ true → Reached graph (roots entry) (node_of inputs.objects x y)
+    rooted x y s at root =
+        let number = number_of_section inputs.objects x y s at in
+        let here = node-is inputs.objects number.0 (record { object = x; index = y; section = s }) number.1 in
+        let its = root-among inputs.fixed 0 (all_sections inputs.objects) number.0 (record { object = x; index = y; section = s }) number.1 root in
+        let same : 0 + number.0 ≡ node_of inputs.objects x y = omega (arith, here) in
+        Root (node_of inputs.objects x y)
+        (Contains-append_right (nodes_at inputs.objects entry.object entry.section) (root_nodes_from inputs.fixed 0 (all_sections inputs.objects)) (node_of inputs.objects x y) (subst (Contains (root_nodes_from inputs.fixed 0 (all_sections inputs.objects))) same its))
+
     reached : (o i : ℕ) → Needed inputs o i → Reached graph (roots entry) (node_of inputs.objects o i)
     reached o i (Start p e) =
         let same : entry ≡ p = cc (starts, e) in
         let there = needed-there inputs fine p.object p.section (Start p e) in
         subst (λ (q : Place). Reached graph (roots q) (node_of inputs.objects p.object p.section)) (sym same)
         (Root (node_of inputs.objects p.object p.section)
-        (Contains-append_left (nodes_at inputs.objects p.object p.section) (data_nodes_from 0 (all_sections inputs.objects)) (node_of inputs.objects p.object p.section) (nodes-there p.object p.section there.section there.at)))
-    reached o i (Data x y s at kept plain) =
-        let number = number_of_section inputs.objects x y s at in
-        let here = node-is inputs.objects number.0 (record { object = x; index = y; section = s }) number.1 in
-        let its = data-among 0 (all_sections inputs.objects) number.0 (record { object = x; index = y; section = s }) number.1 (kept-data s kept plain) in
-        let same : 0 + number.0 ≡ node_of inputs.objects x y = omega (arith, here) in
-        Root (node_of inputs.objects x y)
-        (Contains-append_right (nodes_at inputs.objects entry.object entry.section) (data_nodes_from 0 (all_sections inputs.objects)) (node_of inputs.objects x y) (subst (Contains (data_nodes_from 0 (all_sections inputs.objects))) same its))
+        (Contains-append_left (nodes_at inputs.objects p.object p.section) (root_nodes_from inputs.fixed 0 (all_sections inputs.objects)) (node_of inputs.objects p.object p.section) (nodes-there p.object p.section there.section there.at)))
+    reached o i (Data x y s at kept plain) = rooted x y s at (or_left (is_data_role (role_of s)) (is_fixed inputs.fixed s) (kept-data s kept plain))
+    reached o i (Fixed x y fixed) = by (section_at inputs.objects x y) refl fixed
+      where
+        by : (s : Option SectionParts) → section_at inputs.objects x y ≡ s → option_map_or (is_fixed inputs.fixed) s false ≡ true → Reached graph (roots entry) (node_of inputs.objects x y)
+        by None at h = absurd cc
+        by (Some s) at h = rooted x y s at (or_right (is_data_role (role_of s)) (is_fixed inputs.fixed s) h)
     reached o i (Referred x y to need refers) =
         let l : IndexedSection = record { object = x; index = y; section = refers.section } in
         let number = number_of_section inputs.objects x y refers.section refers.section_is in
@@ -243,20 +257,23 @@ module _ (inputs : ParsedInputs) (graph : List (Vec ℕ Global)) (edges : map (�
         by None its = absurd (none-contains k its)
         by (Some s) its = one-contains (node_of inputs.objects o i) k its
 
+    root-need : (l : IndexedSection) → section_at inputs.objects l.object l.index ≡ Some l.section → (b : Bool) → is_data_role (role_of l.section) ≡ b → (b || is_fixed inputs.fixed l.section) ≡ true → Needed inputs l.object l.index
+    root-need l at true is root = let kept = data-kept l.section is in Data l.object l.index l.section at kept.0 kept.1
+    root-need l at false is root = Fixed l.object l.index (ap (λ s. option_map_or (is_fixed inputs.fixed) s false) at ∙ root)
+
     root-needed : (k : ℕ) → Contains (roots entry) k → IsNeededNode k
-    root-needed k its = by (Contains-append_cases (nodes_at inputs.objects entry.object entry.section) (data_nodes_from 0 (all_sections inputs.objects)) k its)
+    root-needed k its = by (Contains-append_cases (nodes_at inputs.objects entry.object entry.section) (root_nodes_from inputs.fixed 0 (all_sections inputs.objects)) k its)
       where
-        by : Contains (nodes_at inputs.objects entry.object entry.section) k ⊎ Contains (data_nodes_from 0 (all_sections inputs.objects)) k → IsNeededNode k
+        by : Contains (nodes_at inputs.objects entry.object entry.section) k ⊎ Contains (root_nodes_from inputs.fixed 0 (all_sections inputs.objects)) k → IsNeededNode k
         by (inl its) = record { object = entry.object; index = entry.section; node_is = at-node entry.object entry.section k its; need = Start entry starts }
         by (inr its) =
-            let d = data-nodes 0 (all_sections inputs.objects) k its in
+            let d = root-nodes inputs.fixed 0 (all_sections inputs.objects) k its in
             let l = d.section in
-            let kept = data-kept l.section d.is_data in
             record {
               object = l.object;
               index = l.index;
               node_is = omega (arith, node-is inputs.objects d.k l d.at, d.node_is);
-              need = Data l.object l.index l.section (listed_at inputs.objects d.k l d.at) kept.0 kept.1;
+              need = root-need l (listed_at inputs.objects d.k l d.at) (is_data_role (role_of l.section)) refl d.by_itself;
             }
 
     record NodeFrom (o : ℕ) (r : Reloc) (k : ℕ) : Type 0 where
@@ -330,7 +347,7 @@ module _ (inputs : ParsedInputs) (graph : List (Vec ℕ Global)) (edges : map (�
 
 module _ (inputs : Inputs) (graph : List (Vec ℕ Global)) (nodes : List ℕ) (none : first_fault inputs ≡ None)
     (edges : map (λ (v : Vec ℕ Global). v.items) graph ≡ map (section_nodes (parsed inputs)) (all_sections (parsed inputs).objects))
-    (are : nodes ≡ nodes_at (parsed inputs).objects (entry_of (parsed inputs)).object (entry_of (parsed inputs)).section ++ data_nodes_from 0 (all_sections (parsed inputs).objects)) where
+    (are : nodes ≡ nodes_at (parsed inputs).objects (entry_of (parsed inputs)).object (entry_of (parsed inputs)).section ++ root_nodes_from inputs.fixed 0 (all_sections (parsed inputs).objects)) where
   pub nodes-within : All (λ k. k < length graph) nodes
   nodes-within = subst (All (λ k. k < length graph)) (sym are) (roots-inside (parsed inputs) graph edges (entry_of (parsed inputs)))
 

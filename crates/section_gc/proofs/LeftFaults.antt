@@ -16,19 +16,22 @@ use Rattle.elf32_read.specs.declared.fault.Fault.TheVariants.{Range, TooLarge}
 use Rattle.elf32_write.specs.ObjectFile.{object_bytes, object_size}
 use Rattle.elf32_write.specs.Writable.{IsObjectOf}
 use Rattle.elf32_write.proofs.FileHeaderBack.{length-object_bytes}
-use Rattle.psabi_sym.specs.Faults.{count_fault, duplicate_fault, fault_from, first_some, gather_fault, most_objects, undefined_fault}
+use Rattle.psabi_sym.specs.declared.data_class.DataClass.TheVariants.{Common}
+use Rattle.psabi_sym.specs.Faults.{count_fault, duplicate_fault, fault_from, first_some, gather_fault, most_objects, room_fault, undefined_fault}
 use Rattle.psabi_sym.specs.Inputs.{Inputs, parsed}
-use Rattle.psabi_sym.proofs.Gathered.{all_none}
+use Rattle.psabi_sym.proofs.Gathered.{all_none, data_below, has_room}
 use Rattle.psabi_sym.proofs.RangeLaws.{none_found_in_range}
 use Rattle.block_cut.specs.Faults.{first_fault, is_out_of_reach, range_fault}
 use Rattle.block_cut.specs.Items.{all_places}
 use Rattle.block_cut.proofs.FaultLaws.{faultless}
 use Rattle.moved_runs.specs.Passes.{renumbered, with_files}
+use Rattle.moved_runs.proofs.PassData.{class_end-same}
 use Rattle.object_passes.specs.Sizes.{first_large, first_oversized, passes_sum}
 use Rattle.object_passes.specs.Written.{without_marks}
 use Rattle.section_gc.specs.Cleaned.{cleaned, cleaned_object}
 use Rattle.section_gc.specs.Collected.{IsBreakage, collected_files}
 use Rattle.section_gc.specs.Kept.{AreNeeded}
+use Rattle.section_gc.proofs.CleaningLaws.{cleaning_of}
 use Rattle.section_gc.proofs.LeftFaultsNames.{duplicate-none, undefined-none}
 use Rattle.section_gc.proofs.LeftFaultsRelocs.{AreBare, IsBarePart, bare-file, entry-none, relocs-none}
 use Rattle.section_gc.proofs.LeftFaultsSums.{sums-none}
@@ -86,13 +89,21 @@ module _ (inputs : Inputs) (needed : ℕ → ℕ → Bool) (files : List (List �
         undefined-none needed (renumbered (parsed inputs).objects) (parsed inputs) (parsed (with_files inputs files)) c bare two.1,
       )
 
+  -- data end where they did, below the stack
+  room-fine : room_fault (parsed (with_files inputs files)) ≡ None
+  room-fine =
+      let all = faultless inputs none in
+      let end = class_end-same (cleaning_of inputs needed) (parsed inputs) (parsed (with_files inputs files)) (inputs-clean inputs needed files none are read) Common in
+      has_room (parsed (with_files inputs files)) (omega (arith, end, data_below (parsed inputs) (all_none inputs all.gathered).room))
+
   -- the result has no fault between objects
   gather-none : gather_fault (with_files inputs files) ≡ None
   unfolding gather_fault
   gather-none =
       let sums = sums-none inputs needed files none are read same-length short in
       let fine = read-none 0 (map without_marks (cleaned needed (parsed inputs).objects)) files read in
-      λ i. option_or (few i) (option_or (fine i) (option_or (sums i) (option_or (option_or (names-fine.0 i) (option_or (names-fine.1 i) None)) None)))
+      λ i. option_or (few i) (option_or (fine i) (option_or (sums i) (option_or (option_or (names-fine.0 i) (option_or (names-fine.1 i) None))
+      (option_or (room-fine i) None))))
 
   -- so a branch that doesn't reach is all that is left
   pub only-range : first_fault (with_files inputs files) ≡ option_or (range_fault (parsed (with_files inputs files))) None

@@ -153,8 +153,8 @@ symbol-by needed object s found other at =
 -- ---- for the code
 
 -- the role of a section, by its row
-pub row-role : (objects : List ObjectParts) (k : ℕ) (l m : IndexedSection) (r : SectionRow) → slice_get (all_sections objects) k ≡ Some l → slice_get (all_sections objects) k ≡ Some m → r ≡ section_row l → r.role ≡ role_of m.section
-row-role objects k l m r first second is =
+pub row-role : (names : List (List ℕ)) (objects : List ObjectParts) (k : ℕ) (l m : IndexedSection) (r : SectionRow) → slice_get (all_sections objects) k ≡ Some l → slice_get (all_sections objects) k ≡ Some m → r ≡ section_row names l → r.role ≡ role_of m.section
+row-role names objects k l m r first second is =
     let same : l ≡ m = cc (first, second) in
     ap (λ (r : SectionRow). r.role) is ∙ ap (λ (l : IndexedSection). role_of l.section) same
 

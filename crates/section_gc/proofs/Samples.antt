@@ -1,18 +1,20 @@
--- Two lists of objects: code that nothing names goes, and code that data name stays.
-use Rattle.std.proofs.Common.{◌≡◌, ℕ, zero, suc, ◌<◌, pos, List, [], ◌∷◌, length, refl, ap, arith, Bool, true, false, Some, subst, sym, get_or}
-use Rattle.std.specs.Prelude.{codes, Contains}
+-- Three lists of objects: code that nothing names goes, and code that data name, or that is fixed, stays.
+use Rattle.std.proofs.Common.{◌≡◌, ℕ, zero, suc, ◌<◌, pos, List, [], ◌∷◌, length, refl, ap, arith, Bool, true, false, Option, Some, None, subst, sym, get_or}
+use Rattle.std.specs.Prelude.{◌&&◌, codes, Contains}
+use Rattle.std.specs.Option.{option_map_or}
 use Rattle.zc_base.specs.MemMap.{standard_map}
 use Rattle.zc_base.specs.declared.place.Place.{Place}
 use Rattle.elf32_read.specs.Parts.{SectionParts, SymbolParts, is_code_section, is_kept_section}
 use Rattle.elf32_read.specs.declared.reloc.Reloc.{Reloc}
 use Rattle.elf32_write.specs.Writable.{null_part, null_symbol_part}
+use Rattle.psabi_sym.specs.Fixed.{is_fixed, is_fixed_at}
 use Rattle.psabi_sym.specs.Inputs.{ParsedInputs}
 use Rattle.psabi_sym.specs.Indexed.{all_sections, section_at}
 use Rattle.psabi_sym.specs.declared.target.Target.TheVariants.{Code}
 use Rattle.block_cut.specs.Items.{entry_in, target_of}
 use Rattle.section_gc.specs.Cleaned.{cleaned}
 use Rattle.section_gc.specs.Counts.{all_code, listed_bytes, needed_code}
-use Rattle.section_gc.specs.Kept.{AreNeeded, Needed, Start, Data, Referred, Refers}
+use Rattle.section_gc.specs.Kept.{AreNeeded, Needed, Start, Data, Fixed, Referred, Refers}
 
 -- ---- the objects
 
@@ -36,10 +38,10 @@ symbol : List ℕ → ℕ → ℕ → SymbolParts
 symbol name bind home = record { name = name; value = 0; size = 8; bind = bind; kind = 0; home = home }
 
 first : ParsedInputs
-first = record { objects = (record { flags = 0; sections = null_part ∷ comment ∷ text ∷ other ∷ []; symbols = null_symbol_part ∷ symbol (codes "_start") 1 2 ∷ symbol (codes "f") 1 3 ∷ symbol (codes "c") 0 1 ∷ [] }) ∷ []; map = standard_map }
+first = record { objects = (record { flags = 0; sections = null_part ∷ comment ∷ text ∷ other ∷ []; symbols = null_symbol_part ∷ symbol (codes "_start") 1 2 ∷ symbol (codes "f") 1 3 ∷ symbol (codes "c") 0 1 ∷ [] }) ∷ []; map = standard_map; fixed = [] }
 
 second : ParsedInputs
-second = record { objects = (record { flags = 0; sections = null_part ∷ comment ∷ text ∷ other ∷ words ∷ []; symbols = null_symbol_part ∷ symbol (codes "_start") 1 2 ∷ symbol (codes "f") 1 3 ∷ symbol (codes "c") 0 1 ∷ [] }) ∷ []; map = standard_map }
+second = record { objects = (record { flags = 0; sections = null_part ∷ comment ∷ text ∷ other ∷ words ∷ []; symbols = null_symbol_part ∷ symbol (codes "_start") 1 2 ∷ symbol (codes "f") 1 3 ∷ symbol (codes "c") 0 1 ∷ [] }) ∷ []; map = standard_map; fixed = [] }
 
 -- ---- what is needed of the first
 
@@ -79,10 +81,23 @@ sections-first (suc o) i s at = absurd cc
 none-of : (rs : List Reloc) (r : Reloc) → rs ≡ [] → Contains rs r → ⊥
 none-of rs r is its = let lt : its.0 < length rs = its.1 in let none = ap length is in omega (arith, lt, none)
 
+-- without names nothing is fixed
+none-fixed : (inputs : ParsedInputs) (o i : ℕ) → inputs.fixed ≡ [] → is_fixed_at inputs o i ≡ true → ⊥
+none-fixed inputs o i none h = by (section_at inputs.objects o i) (subst (λ names. option_map_or (is_fixed names) (section_at inputs.objects o i) false ≡ true) none h)
+  where
+    no-name : (b : Bool) → (b && false) ≡ true → ⊥
+    no-name true h = cc
+    no-name false h = cc
+
+    by : (s : Option SectionParts) → option_map_or (is_fixed []) s false ≡ true → ⊥
+    by None h = cc
+    by (Some s) h = no-name (is_code_section s) h
+
 needed-all-first : (o i : ℕ) → Needed first o i → needed-first o i ≡ true
-unfolding needed-first place
+unfolding first needed-first place
 needed-all-first o i (Start p e) = let same : place 2 ≡ p = let f = entry-first in cc in subst (λ (q : Place). needed-first q.object q.section ≡ true) same refl
 needed-all-first o i (Data x y s at kept plain) = absurd (let is = (sections-first x y s at).1 kept in cc)
+needed-all-first o i (Fixed x y h) = absurd (none-fixed first x y refl h)
 needed-all-first o i (Referred x y to need refers) = absurd (none-of refers.section.relocs refers.reloc (sections-first x y refers.section refers.section_is).0 refers.its)
 
 are-needed-first : AreNeeded first needed-first
@@ -155,13 +170,14 @@ one-of w r its = by its.0 its.1 its.2
     by (suc k) lt is = absurd (omega arith)
 
 needed-all-second : (o i : ℕ) → Needed second o i → needed-second o i ≡ true
-unfolding needed-second place words word
+unfolding second needed-second place words word
 needed-all-second o i (Start p e) = let same : place 2 ≡ p = let f = entry-second in cc in subst (λ (q : Place). needed-second q.object q.section ≡ true) same refl
 needed-all-second o i (Data x y s at kept plain) = by x y (sections-second x y s at)
   where
     by : (x y : ℕ) → Kinds s x y → needed-second x y ≡ true
     by x y (Bare a b none code) = absurd (let is = code kept in cc)
     by x y (Words is) = refl
+needed-all-second o i (Fixed x y h) = absurd (none-fixed second x y refl h)
 needed-all-second o i (Referred x y to need refers) = by x y (sections-second x y refers.section refers.section_is) refers.leads
   where
     by : (x y : ℕ) → Kinds refers.section x y → target_of second x refers.reloc ≡ Code to → needed-second to.object to.section ≡ true
@@ -185,4 +201,50 @@ are-needed-second = record { all = needed-all-second; only = only }
     only zero zero h = absurd cc
     only zero (suc zero) h = absurd cc
     only zero (suc (suc (suc (suc (suc i))))) h = absurd cc
+    only (suc o) i h = absurd cc
+
+-- ---- what is needed of the first if a name fixes its other code
+
+third : ParsedInputs
+third = record first { fixed = codes ".text.f" ∷ [] }
+
+needed-third : ℕ → ℕ → Bool
+needed-third zero (suc (suc zero)) = true
+needed-third zero (suc (suc (suc zero))) = true
+needed-third o i = false
+
+entry-third : entry_in third ≡ Some (place 2)
+unfolding third first text other comment symbol place Rattle.psabi_sym.specs.Resolve.name_definition Rattle.psabi_sym.specs.Indexed.all_symbols Rattle.psabi_sym.specs.Data.role_of Rattle.block_cut.specs.Items.starts_in Rattle.block_cut.specs.Relocs.reloc_on
+entry-third = refl
+
+fixed-third : is_fixed_at third 0 3 ≡ true
+unfolding third first text other comment
+fixed-third = refl
+
+fixed-needed : (o i : ℕ) → is_fixed_at third o i ≡ true → needed-third o i ≡ true
+unfolding third first text other comment needed-third
+fixed-needed zero zero h = absurd cc
+fixed-needed zero (suc zero) h = absurd cc
+fixed-needed zero (suc (suc zero)) h = refl
+fixed-needed zero (suc (suc (suc zero))) h = refl
+fixed-needed zero (suc (suc (suc (suc i)))) h = absurd cc
+fixed-needed (suc o) i h = absurd cc
+
+needed-all-third : (o i : ℕ) → Needed third o i → needed-third o i ≡ true
+unfolding third needed-third place
+needed-all-third o i (Start p e) = let same : place 2 ≡ p = let f = entry-third in cc in subst (λ (q : Place). needed-third q.object q.section ≡ true) same refl
+needed-all-third o i (Data x y s at kept plain) = absurd (let is = (sections-first x y s at).1 kept in cc)
+needed-all-third o i (Fixed x y h) = fixed-needed x y h
+needed-all-third o i (Referred x y to need refers) = absurd (none-of refers.section.relocs refers.reloc (sections-first x y refers.section refers.section_is).0 refers.its)
+
+are-needed-third : AreNeeded third needed-third
+unfolding needed-third place
+are-needed-third = record { all = needed-all-third; only = only }
+  where
+    only : (o i : ℕ) → needed-third o i ≡ true → Needed third o i
+    only zero (suc (suc zero)) h = Start (place 2) entry-third
+    only zero (suc (suc (suc zero))) h = Fixed 0 3 fixed-third
+    only zero zero h = absurd cc
+    only zero (suc zero) h = absurd cc
+    only zero (suc (suc (suc (suc i)))) h = absurd cc
     only (suc o) i h = absurd cc

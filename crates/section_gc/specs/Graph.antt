@@ -1,11 +1,12 @@
 -- The sections of objects as nodes of a graph: a section is the node of its number among all, and its edges lead to what it
 -- refers to.
-use Rattle.std.specs.Prelude.{ℕ, Bool, false, true, ◌&&◌, List, [], ◌∷◌, length, map, filter, if◌then◌else◌}
+use Rattle.std.specs.Prelude.{ℕ, Bool, false, true, ◌&&◌, ◌||◌, List, [], ◌∷◌, length, map, filter, if◌then◌else◌}
 use Rattle.std.specs.List.{enumerate_from, flat_map}
 use Rattle.std.specs.Option.{option_map_or}
-use Rattle.elf32_read.specs.Parts.{ObjectParts, is_kept_section}
+use Rattle.elf32_read.specs.Parts.{ObjectParts, SectionParts, is_kept_section}
 use Rattle.elf32_read.specs.declared.reloc.Reloc.{Reloc}
 use Rattle.psabi_sym.specs.Data.{role_of}
+use Rattle.psabi_sym.specs.Fixed.{is_fixed}
 use Rattle.psabi_sym.specs.Indexed.{IndexedSection, section_at, sections_before}
 use Rattle.psabi_sym.specs.Inputs.{ParsedInputs}
 use Rattle.psabi_sym.specs.declared.section_row.SectionRole.{SectionRole}
@@ -50,9 +51,13 @@ is_data_role role.Code = false
 is_data_role (role.InClass class) = true
 is_data_role role.Dropped = false
 
--- the nodes of sections of data, of those from a number on
-abbrev pub data_nodes_from : ℕ → List IndexedSection → List ℕ
-data_nodes_from n sections = map (λ e. e.0) (filter (λ e. is_data_role (role_of e.1.section)) (enumerate_from n sections))
+-- a section is needed by itself: it is data, or fixed
+abbrev pub is_root : List (List ℕ) → SectionParts → Bool
+is_root fixed s = is_data_role (role_of s) || is_fixed fixed s
+
+-- the nodes of such sections, of those from a number on
+abbrev pub root_nodes_from : List (List ℕ) → ℕ → List IndexedSection → List ℕ
+root_nodes_from fixed n sections = map (λ e. e.0) (filter (λ e. is_root fixed e.1.section) (enumerate_from n sections))
 
 -- ---- marks
 

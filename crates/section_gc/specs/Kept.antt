@@ -1,8 +1,9 @@
--- Which sections a program needs: the one that it starts in, all data, and what these refer to.
+-- Which sections a program needs: the one that it starts in, all data, those that are fixed, and what these refer to.
 use Rattle.std.specs.Prelude.{◌≡◌, ℕ, Bool, true, false, Contains, Some}
 use Rattle.zc_base.specs.declared.place.Place.{Place}
 use Rattle.elf32_read.specs.Parts.{SectionParts, is_code_section, is_kept_section}
 use Rattle.elf32_read.specs.declared.reloc.Reloc.{Reloc}
+use Rattle.psabi_sym.specs.Fixed.{is_fixed_at}
 use Rattle.psabi_sym.specs.Inputs.{ParsedInputs}
 use Rattle.psabi_sym.specs.Indexed.{section_at}
 use Rattle.psabi_sym.specs.declared.target.Target.TheVariants.{Code}
@@ -25,6 +26,7 @@ pub record Refers (inputs : ParsedInputs) (object index : ℕ) (to : Place) : Ty
 pub data Needed (inputs : ParsedInputs) : ℕ → ℕ → Type 0 where
   Start : (p : Place) → entry_in inputs ≡ Some p → Needed inputs p.object p.section
   Data : (o i : ℕ) (s : SectionParts) → section_at inputs.objects o i ≡ Some s → is_kept_section s ≡ true → is_code_section s ≡ false → Needed inputs o i
+  Fixed : (o i : ℕ) → is_fixed_at inputs o i ≡ true → Needed inputs o i
   Referred : (o i : ℕ) (to : Place) → Needed inputs o i → Refers inputs o i to → Needed inputs to.object to.section
 
 -- the sections that pass a test are those that are needed

@@ -21,7 +21,7 @@ use object_passes::judge::{cut_files, judge};
 use psabi_sym::objects::Objects;
 use std::alloc::Global;
 use std::marker::Model;
-use zc_base::mem_map::MemMap;
+use zc_base::link_options::LinkOptions;
 
 /// The files of objects without the code that nothing reaches, in the order of the given ones; how many of the given
 /// sections of code are kept of how many, and how many bytes these have of how many.
@@ -54,7 +54,9 @@ fn collected_files(
     alloc: Global,
     objects: &Objects,
     marks: &[bool],
+    options: &LinkOptions,
 ) -> Result<Vec<Vec<u8>>, GcFault>
+    requires options { objects.now ≡ inputs_in options.now objects.now.files }
     requires faultless { first_fault objects.now ≡ None }
     requires size { length marks.now ≡ length (all_sections (parsed objects.now).objects) }
     requires needed { AreNeeded (parsed objects.now) (needed_by objects.now marks.now) }
@@ -62,6 +64,8 @@ fn collected_files(
         IsCollected objects.now (needed_by objects.now marks.now) (contents_of files.items)) }
     ensures err { IfErr result (IsGcFault objects.now) }
 {
+    // The map of the objects, and so of the options, is one.
+    objects.recall_invariant();
     if let Some(index) = oversized_index(alloc, objects, marks)? {
         return Err(GcFault::Broken {
             index,
@@ -69,21 +73,27 @@ fn collected_files(
         });
     }
     let files = files_of(alloc, objects, marks)?;
-    match judge(alloc, &files, objects.map()) {
+    match judge(alloc, &files, options) {
         Ok(()) => Ok(files),
         Err(fault) => Err(GcFault::of_result(fault)),
     }
 }
 
 // The objects without the code that isn't marked, which isn't needed, or why they aren't to be had.
-fn collected(alloc: Global, objects: &Objects, marks: &[bool]) -> Result<Cleaned, GcFault>
+fn collected(
+    alloc: Global,
+    objects: &Objects,
+    marks: &[bool],
+    options: &LinkOptions,
+) -> Result<Cleaned, GcFault>
+    requires options { objects.now ≡ inputs_in options.now objects.now.files }
     requires faultless { first_fault objects.now ≡ None }
     requires size { length marks.now ≡ length (all_sections (parsed objects.now).objects) }
     requires needed { AreNeeded (parsed objects.now) (needed_by objects.now marks.now) }
     ensures ok { IfOk result (λ done. IsCollection objects.now done) }
     ensures err { IfErr result (IsGcFault objects.now) }
 {
-    let files = collected_files(alloc, objects, marks)?;
+    let files = collected_files(alloc, objects, marks, options)?;
     let counts = code_counts(objects, marks);
     Ok(Cleaned {
         objects: files,
@@ -95,23 +105,24 @@ fn collected(alloc: Global, objects: &Objects, marks: &[bool]) -> Result<Cleaned
 }
 
 // The objects that were cut without the code that nothing reaches, or why they aren't to be had.
-fn collect(alloc: Global, cut: &Cut) -> Result<Cleaned, GcFault>
+fn collect(alloc: Global, cut: &Cut, options: &LinkOptions) -> Result<Cleaned, GcFault>
+    requires { cut.now ≡ inputs_in options.now cut.now.files }
     ensures ok { IfOk result (λ done. IsCollection cut.now done) }
     ensures err { IfErr result (IsGcFault cut.now) }
 {
     let marks = needed_sections(alloc, cut)?;
-    collected(alloc, cut.objects(), &marks)
+    collected(alloc, cut.objects(), &marks, options)
 }
 
 /// The objects in these files without the sections of code that nothing reaches, or why they aren't to be had. It takes
 /// time near-linear in the files' bytes, sections, symbols and relocations.
-pub fn gc(alloc: Global, bytes: &[Vec<u8>], map: MemMap) -> Result<Cleaned, GcFault>
-    requires { IsMap map }
-    ensures ok { IfOk result (λ done. IsCollection (inputs_in map (contents_of bytes.now)) done) }
-    ensures err { IfErr result (IsGcFault (inputs_in map (contents_of bytes.now))) }
+pub fn gc(alloc: Global, bytes: &[Vec<u8>], options: &LinkOptions) -> Result<Cleaned, GcFault>
+    requires { IsMap options.now.map }
+    ensures ok { IfOk result (λ done. IsCollection (inputs_in options.now (contents_of bytes.now)) done) }
+    ensures err { IfErr result (IsGcFault (inputs_in options.now (contents_of bytes.now))) }
 {
-    match cut_files(alloc, bytes, map) {
-        Ok(cut) => collect(alloc, &cut),
+    match cut_files(alloc, bytes, options) {
+        Ok(cut) => collect(alloc, &cut, options),
         Err(fault) => Err(GcFault::of_given(fault)),
     }
 }

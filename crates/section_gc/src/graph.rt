@@ -1,15 +1,15 @@
 // The graph of sections: which sections the relocations of each lead to.
 
-ghost use Rattle.std.specs.Prelude.{◌≡◌, ◌++◌, IfOk, map};
+ghost use Rattle.std.specs.Prelude.{◌≡◌, ◌++◌, ◌||◌, IfOk, map};
 ghost use Rattle.psabi_sym.specs.Indexed.{all_sections};
 ghost use Rattle.psabi_sym.specs.Inputs.{parsed};
-ghost use Rattle.section_gc.specs.Graph.{data_nodes_from, is_data_role, nodes_at, reloc_nodes, section_nodes, target_nodes};
+ghost use Rattle.section_gc.specs.Graph.{is_data_role, nodes_at, reloc_nodes, root_nodes_from, section_nodes, target_nodes};
 
 use elf32_read::reloc::Reloc;
 use object_passes::relocs::asks;
 use psabi_sym::objects::Objects;
 use psabi_sym::section_ref::SectionRef;
-use psabi_sym::section_row::SectionRole;
+use psabi_sym::section_row::{SectionRole, SectionRow};
 use psabi_sym::target::Target;
 use std::alloc::{AllocError, Global};
 use zc_base::place::Place;
@@ -80,16 +80,23 @@ fn is_data(role: SectionRole) -> bool
     }
 }
 
-/// The nodes that are needed by themselves: the section that the program starts in, and all data.
+// Whether a section is needed by itself: it is data, or fixed.
+fn is_root(row: SectionRow) -> bool
+    ensures { result ≡ (is_data_role row.role || row.fixed) }
+{
+    is_data(row.role) || row.fixed
+}
+
+/// The nodes that are needed by themselves: the section that the program starts in, all data, and what is fixed.
 pub fn root_nodes(alloc: Global, objects: &Objects, entry: Place) -> Result<Vec<u32>, AllocError>
     ensures { IfOk result (λ nodes. nodes.items
         ≡ nodes_at (parsed objects.now).objects entry.object entry.section
-        ++ data_nodes_from 0 (all_sections (parsed objects.now).objects)) }
+        ++ root_nodes_from objects.now.fixed 0 (all_sections (parsed objects.now).objects)) }
 {
     let mut nodes = Vec::new(alloc);
     add_target(&mut nodes, objects, Target::Code(entry))?;
     for k in 0..objects.section_count() {
-        if is_data(objects.section_row(k).role) {
+        if is_root(objects.section_row(k)) {
             nodes.push(k)?;
         }
     }

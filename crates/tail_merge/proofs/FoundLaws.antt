@@ -17,7 +17,7 @@ use Rattle.tail_merge.proofs.HeldLaws.{items-held, new-length}
 use Rattle.tail_merge.proofs.ItemsLaws.{removed-apart}
 use Rattle.tail_merge.proofs.OffsetLaws.{ApartFrom}
 use Rattle.tail_merge.proofs.PlacedLaws.{down-at, down-in, down-past, floor}
-use Rattle.tail_merge.proofs.TailLaws.{IsRemovedTail, NoInnerLeader, removed-are}
+use Rattle.tail_merge.proofs.TailLaws.{IsRemovedTail, NoInnerLeader, removed-are, removed-cases}
 
 -- ---- where any offset moves
 
@@ -88,8 +88,7 @@ module _ (P : CodeItem → Type 0) where
       by best on also true false = also
 
   pub removed-items : (inputs : ParsedInputs) (l : IndexedSection) → All P (code_items inputs l) → All HasItems (removed_tails inputs l)
-  unfolding removed_tails
-  removed-items inputs l items = from-items [] [] (code_items inputs l) (All-nil (All P)) (All-nil P) items
+  removed-items inputs l items = removed-cases (All HasItems) inputs l (All-nil HasItems) (from-items [] [] (code_items inputs l) (All-nil (All P)) (All-nil P) items)
 
 -- ---- what is found
 

@@ -19,6 +19,7 @@ use Rattle.tail_merge.specs.Merged.{merged_bytes}
 use Rattle.tail_merge.proofs.OffsetLaws.{ApartFrom, Backward, Forward, longest-prefix, removed-end, some-items}
 use Rattle.tail_merge.proofs.ItemsLaws.{items-forward, removed-apart}
 use Rattle.tail_merge.proofs.PlacedLaws.{down-past, floor}
+use Rattle.tail_merge.proofs.TailLaws.{removed-cases}
 use Rattle.tail_merge.proofs.WrittenLaws.{IsHeld, merged-length}
 
 abbrev IsTwoOrFour : ℕ → Type 0
@@ -134,8 +135,9 @@ module _ (inputs : ParsedInputs) (l : IndexedSection) (code : is_code_section l.
   new-length = merged-length inputs l items-held ∙ ap (moved_down (removed_tails inputs l)) items-bytes
 
   pub removed-ends : All (λ (r : Removed). tail_end r ≤ length l.section.bytes) (removed_tails inputs l)
-  unfolding removed_tails
-  removed-ends = from-ends (length l.section.bytes) [] [] (code_items inputs l) 0 tt (items-forward inputs l) (All-weaker (IsHeld l.section) (λ (c : CodeItem). c.offset + c.size ≤ length l.section.bytes) (λ c h. h.within) (code_items inputs l) items-held)
+  removed-ends =
+      removed-cases (All (λ (r : Removed). tail_end r ≤ length l.section.bytes)) inputs l (All-nil (λ (r : Removed). tail_end r ≤ length l.section.bytes))
+      (from-ends (length l.section.bytes) [] [] (code_items inputs l) 0 tt (items-forward inputs l) (All-weaker (IsHeld l.section) (λ (c : CodeItem). c.offset + c.size ≤ length l.section.bytes) (λ c h. h.within) (code_items inputs l) items-held))
 
   -- a section's bytes are the given ones less those that its removed tails save
   pub bytes-saved : length (merged_bytes inputs l) + saved_bytes (removed_tails inputs l) ≡ length l.section.bytes

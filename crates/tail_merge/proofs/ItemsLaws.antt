@@ -10,6 +10,7 @@ use Rattle.block_cut.proofs.StartLaws.{Among, Here, There, among, is_among}
 use Rattle.tail_merge.specs.Tails.{CodeItem, Removed, bytes_of_all, code_item, code_items, ends_tail, longest_tail, removed_from, removed_tails, tail_end, tail_start}
 use Rattle.tail_merge.proofs.OffsetLaws.{ApartFrom, Backward, Forward, backward-take, from-apart, longest-prefix, removed-end, some-items, start_of}
 use Rattle.tail_merge.proofs.PlacedLaws.{IsClear}
+use Rattle.tail_merge.proofs.TailLaws.{removed-cases}
 
 -- ---- items of a section
 
@@ -27,8 +28,7 @@ items-forward inputs l = from-forward inputs l (length l.section.bytes) 0
 
 -- so the removed tails of a section lie one after another
 pub removed-apart : (inputs : ParsedInputs) (l : IndexedSection) → ApartFrom 0 (removed_tails inputs l)
-unfolding removed_tails
-removed-apart inputs l = from-apart [] [] (code_items inputs l) 0 0 (omega arith) tt refl (items-forward inputs l)
+removed-apart inputs l = removed-cases (ApartFrom 0) inputs l tt (from-apart [] [] (code_items inputs l) 0 0 (omega arith) tt refl (items-forward inputs l))
 
 -- ---- offsets that lie in no item
 
@@ -108,12 +108,12 @@ edges-clear d r (inl low) (inr high) = inr (inl (low, high))
 
 -- no item of a section straddles where a removed tail begins or ends
 pub items-clear : (inputs : ParsedInputs) (l : IndexedSection) → All (λ (d : CodeItem). All (IsClear d) (removed_tails inputs l)) (code_items inputs l)
-unfolding removed_tails
 items-clear inputs l =
     let items = code_items inputs l in
     let clean = all-clean 0 items (items-forward inputs l) in
-    let edges = from-edges items [] [] items 0 tt (items-forward inputs l) (All-nil (AreClean items)) clean in
-    λ k d lt. λ j r lj. edges-clear (get_or items k d) (get_or (removed_from [] [] items) j r) ((edges j r lj).0 k d lt) ((edges j r lj).1 k d lt)
+    let found = from-edges items [] [] items 0 tt (items-forward inputs l) (All-nil (AreClean items)) clean in
+    let edges = removed-cases (All (HasEdges items)) inputs l (All-nil (HasEdges items)) found in
+    λ k d lt. λ j r lj. edges-clear (get_or items k d) (get_or (removed_tails inputs l) j r) ((edges j r lj).0 k d lt) ((edges j r lj).1 k d lt)
 
 -- ---- the items of removed tails
 
@@ -151,8 +151,7 @@ from-items P hosts before (c ∷ cs) n b f done all =
 
 -- what holds of each item of a section holds of those of its removed tails
 pub removed-items : (P : CodeItem → Type 0) (inputs : ParsedInputs) (l : IndexedSection) → All P (code_items inputs l) → All (HasItems P) (removed_tails inputs l)
-unfolding removed_tails
-removed-items P inputs l all = from-items P [] [] (code_items inputs l) 0 tt (items-forward inputs l) (All-nil P) all
+removed-items P inputs l all = removed-cases (All (HasItems P)) inputs l (All-nil (HasItems P)) (from-items P [] [] (code_items inputs l) 0 tt (items-forward inputs l) (All-nil P) all)
 
 -- an offset in items that lie one after another lies in one of them
 pub item-around : (P : CodeItem → Type 0) (n : ℕ) (cs : List CodeItem) → Backward n cs → All P cs → (m : ℕ) → start_of n cs ≤ m → m < n → (c : CodeItem) × P c × (c.offset ≤ m) × (m < c.offset + c.size)

@@ -4,7 +4,7 @@ use Rattle.std.specs.Prelude.{◌≤◌, ◌+◌, ◌⊎◌, map}
 use Rattle.std.specs.List.{AllZip, find}
 use Rattle.std.specs.Option.{option_and_then, option_map, option_map_or}
 use Rattle.std.proofs.lemmas.Bool.{and_parts}
-use Rattle.zc_base.specs.MemMap.{IsMap}
+use Rattle.zc_base.specs.MemMap.{IsMap, data_limit}
 use Rattle.zc_base.specs.declared.place.Place.{Place}
 use Rattle.elf32_read.specs.Parts.{ObjectParts, SectionParts, is_code_section, is_kept_section}
 use Rattle.elf32_write.specs.Writable.{IsObjectOf}
@@ -337,7 +337,7 @@ module _ (inputs : Inputs) (none : first_fault inputs ≡ None) where
 
 -- ---- files of merged objects
 
-module _ (inputs : Inputs) (files : List (List ℕ)) (none : first_fault inputs ≡ None) (is : IsMap inputs.map) (room : data_end (parsed inputs) ≤ inputs.map.data_low + 0x40_0000)
+module _ (inputs : Inputs) (files : List (List ℕ)) (none : first_fault inputs ≡ None) (is : IsMap inputs.map) (room : data_end (parsed inputs) ≤ inputs.map.data_low + data_limit inputs.map)
     (read : AllZip IsObjectOf (map without_marks (merged (parsed inputs))) files) where
   quiet : StartsQuiet (program_of (parsed inputs))
   quiet = objects-quiet (parsed inputs) is room

@@ -7,10 +7,13 @@ use Rattle.std.proofs.lemmas.Bool.{cases_lt}
 use Rattle.std.proofs.lemmas.List.{get_or-map, length-map, take_all, take_more}
 use Rattle.std.proofs.lemmas.List.Elements.{All-nil}
 use Rattle.std.proofs.lemmas.List.Folds.{length-flat_map-take}
-use Rattle.std.proofs.lemmas.Option.{get_or_from_slice_get, slice_get_within}
+use Rattle.std.proofs.lemmas.Option.{get_or_from_slice_get, same_Some, slice_get_within}
 use Rattle.elf32_read.specs.Parts.{is_code_section}
-use Rattle.psabi_sym.specs.Inputs.{ParsedInputs}
+use Rattle.psabi_sym.specs.Fixed.{is_fixed}
+use Rattle.psabi_sym.specs.Inputs.{Inputs, ParsedInputs, parsed}
 use Rattle.psabi_sym.specs.Indexed.{IndexedSection, all_sections, section_at}
+use Rattle.psabi_sym.specs.Invariants.Rows.{section_row}
+use Rattle.psabi_sym.specs.declared.section_row.SectionRow.{SectionRow}
 use Rattle.rv_decode.specs.Immediates.{InRange}
 use Rattle.block_cut.specs.Items.{all_items, item_in, items_in, place_of, starts_in}
 use Rattle.block_cut.specs.Leaders.{is_leader_at}
@@ -107,22 +110,43 @@ no-list : {A B : Type 0} (f : A → B) (xs : List A) → map f xs ≡ [] → xs 
 no-list f [] is = refl
 no-list f (x ∷ xs) is = absurd cc
 
-pub tails-are : (inputs : ParsedInputs) (l : IndexedSection) (items : List TailItem) (tails : List RemovedTail) → items ≡ tail_items_of inputs l
+-- whether a section is fixed, by its row
+pub row-fixed : (inputs given : Inputs) (k : ℕ) (l m : IndexedSection) (row : SectionRow) → given ≡ inputs → slice_get (all_sections (parsed given).objects) k ≡ Some m
+    → row ≡ section_row given.fixed m → slice_get (all_sections (parsed inputs).objects) k ≡ Some l → is_fixed inputs.fixed l.section ≡ row.fixed
+row-fixed inputs given k l m row same there is at =
+    let also : l ≡ m = same_Some l m (sym at ∙ ap (λ i. slice_get (all_sections (parsed i).objects) k) (sym same) ∙ there) in
+    ap₂ (λ (i : Inputs) (s : IndexedSection). is_fixed i.fixed s.section) (sym same) also ∙ ap (λ (r : SectionRow). r.fixed) (sym is)
+
+-- none are removed from a fixed section
+pub tails-fixed : (inputs : ParsedInputs) (l : IndexedSection) (tails : List RemovedTail) → is_fixed inputs.fixed l.section ≡ true → tails ≡ [] → AreRemovedFrom inputs l tails
+unfolding removed_tails
+tails-fixed inputs l tails fixed none = record {
+  among = subst (All (IsAmong (code_items inputs l))) (sym none) (All-nil (IsAmong (code_items inputs l)));
+  are = ap (map (tail_among (code_items inputs l))) none ∙ sym (by (is_code_section l.section));
+}
+  where
+    by : (b : Bool) → cond b (removed_tails inputs l) [] ≡ []
+    by true = ap (λ f. cond f [] (removed_from [] [] (code_items inputs l))) fixed
+    by false = refl
+
+pub tails-are : (inputs : ParsedInputs) (l : IndexedSection) (items : List TailItem) (tails : List RemovedTail) → is_fixed inputs.fixed l.section ≡ false → items ≡ tail_items_of inputs l
     → ((cs : List CodeItem) → items ≡ map tail_item cs → All HasOwnWord cs → All (IsAmong cs) tails)
     → ((cs : List CodeItem) → items ≡ map tail_item cs → All HasOwnWord cs → map (tail_among cs) tails ≡ removed_from [] [] cs) → AreRemovedFrom inputs l tails
 unfolding removed_tails
-tails-are inputs l items tails are among found = by (is_code_section l.section) refl are
+tails-are inputs l items tails loose are among found = by (is_code_section l.section) refl are
   where
     by : (b : Bool) → is_code_section l.section ≡ b → items ≡ cond b (map tail_item (code_items inputs l)) [] → AreRemovedFrom inputs l tails
     by true code is = record {
       among = among (code_items inputs l) is (own-words inputs l);
-      are = found (code_items inputs l) is (own-words inputs l) ∙ sym (ap (λ b. cond b (removed_from [] [] (code_items inputs l)) []) code);
+      are =
+          found (code_items inputs l) is (own-words inputs l)
+          ∙ sym (ap₂ (λ b f. cond b (cond f [] (removed_from [] [] (code_items inputs l))) []) code loose);
     }
     by false code is =
         let none = no-list (tail_among []) tails (found [] is (All-nil HasOwnWord)) in
         record {
           among = subst (All (IsAmong (code_items inputs l))) (sym none) (All-nil (IsAmong (code_items inputs l)));
-          are = ap (map (tail_among (code_items inputs l))) none ∙ sym (ap (λ b. cond b (removed_from [] [] (code_items inputs l)) []) code);
+          are = ap (map (tail_among (code_items inputs l))) none ∙ sym (ap (λ b. cond b (removed_tails inputs l) []) code);
         }
 
 -- one more section

@@ -22,7 +22,7 @@ use Rattle.block_cut.specs.declared.item.Item.{Item}
 use Rattle.block_cut.specs.declared.item.Item.TheVariants as item
 use Rattle.block_cut.proofs.InstrLaws.{in_range_in, registers_in}
 use Rattle.tail_merge.specs.Tails.{CodeItem, Removed, code_item, code_items, goes_on, op_in_item, removed_from, removed_tails, same_op, stands_in_tail}
-use Rattle.tail_merge.proofs.TailLaws.{IsRemovedTail, IsRun, NoInnerLeader, removed-are}
+use Rattle.tail_merge.proofs.TailLaws.{IsRemovedTail, IsRun, NoInnerLeader, from-removed, removed-are, removed-cases}
 use Rattle.tail_merge.proofs.ItemsLaws.{items-forward}
 use Rattle.tail_merge.proofs.WrittenLaws.{IsHeld}
 use Rattle.tail_merge.proofs.HeldLaws.{items-held}
@@ -109,14 +109,14 @@ module _ (inputs : ParsedInputs) (l : IndexedSection) where
 
     -- ---- all removed tails
 
-    abbrev IsKeptItem : CodeItem → Type 0
-    IsKeptItem d = IsKept (removed_tails inputs l) d.offset
+    -- what is known of removed tails, of which these are all
+    abbrev AreKnown : List Removed → Type 0
+    AreKnown rs = Each (IsKnown IsItemOf (λ (d : CodeItem). IsKept rs d.offset) size-some) rs
 
-    pub all-known : Each (IsKnown IsItemOf IsKeptItem size-some) (removed_tails inputs l)
-    unfolding removed_tails
-    all-known =
+    found-known : AreKnown (removed_from [] [] (code_items inputs l))
+    found-known =
         let rs = removed_from [] [] (code_items inputs l) in
-        each-weaker (λ (r : Removed). IsHosted IsItemOf size-some same-stands [] rs r × IsRemovedTail r) (IsKnown IsItemOf IsKeptItem size-some)
+        each-weaker (λ (r : Removed). IsHosted IsItemOf size-some same-stands [] rs r × IsRemovedTail r) (IsKnown IsItemOf (λ (d : CodeItem). IsKept rs d.offset) size-some)
         (λ r both.
         let hosted = both.0 in
         let shared = both.1.0 in
@@ -131,7 +131,10 @@ module _ (inputs : ParsedInputs) (l : IndexedSection) where
           goes = λ c cs e. recursion_from_All (λ (d : CodeItem). stands_in_tail d ≡ true) cs (subst IsRun e shared.run).1;
         }) rs
         (each-both (IsHosted IsItemOf size-some same-stands [] rs) IsRemovedTail rs (all-hosted IsItemOf size-some same-stands (code_items inputs l) (items-forward inputs l) items-are)
-        (recursion_from_All IsRemovedTail rs (removed-are inputs l)))
+        (recursion_from_All IsRemovedTail rs (from-removed [] [] (code_items inputs l))))
+
+    pub all-known : AreKnown (removed_tails inputs l)
+    all-known = removed-cases AreKnown inputs l tt found-known
 
     -- what else is known: no basic block begins inside
     pub all-plain : Each (λ (r : Removed). NoInnerLeader r.tail) (removed_tails inputs l)

@@ -4,6 +4,7 @@ use Rattle.std.specs.Prelude.{◌&&◌, not, All}
 use Rattle.std.specs.List.{AllZip, fold}
 use Rattle.std.proofs.lemmas.Bool.{and_parts}
 use Rattle.std.proofs.lemmas.List.Elements.{All-cons, All-nil}
+use Rattle.psabi_sym.specs.Fixed.{is_fixed}
 use Rattle.psabi_sym.specs.Inputs.{ParsedInputs}
 use Rattle.psabi_sym.specs.Indexed.{IndexedSection}
 use Rattle.tail_merge.specs.Tails.{CodeItem, Removed, agreeing, bytes_of_all, code_items, ends_tail, longer_tail, longest_tail, removed_from, removed_tails, same_op, shared_tail, stands_in_tail}
@@ -102,7 +103,7 @@ longest-shared c cs hosts ends = longest-from c cs ends (record { tail = []; hos
 
 -- ---- all that are removed
 
-from-removed : (hosts : List (List CodeItem)) (before cs : List CodeItem) → All IsRemovedTail (removed_from hosts before cs)
+pub from-removed : (hosts : List (List CodeItem)) (before cs : List CodeItem) → All IsRemovedTail (removed_from hosts before cs)
 from-removed hosts before [] = All-nil IsRemovedTail
 from-removed hosts before (c ∷ cs) = by (from-removed hosts (c ∷ before) cs) (from-removed (hosts ++ (c ∷ before) ∷ []) (c ∷ before) cs) (ends_tail c) refl
   where
@@ -116,8 +117,16 @@ from-removed hosts before (c ∷ cs) = by (from-removed hosts (c ∷ before) cs)
     by on also false e = on
     by on also true e = ended on also e (ltb 4 (bytes_of_all (longest_tail (c ∷ before) hosts).tail)) refl
 
+-- what holds of no tails, and of those that are found in a section, holds of the removed ones
+pub removed-cases : (P : List Removed → Type 0) (inputs : ParsedInputs) (l : IndexedSection) → P [] → P (removed_from [] [] (code_items inputs l)) → P (removed_tails inputs l)
+unfolding removed_tails
+removed-cases P inputs l none found = by (is_fixed inputs.fixed l.section)
+  where
+    by : (b : Bool) → P (cond b [] (removed_from [] [] (code_items inputs l)))
+    by true = none
+    by false = found
+
 -- each removed tail of a section is a run that ends a tail, item by item the same as its host's, without a leader but at its start,
 -- and longer than the jump
 pub removed-are : (inputs : ParsedInputs) (l : IndexedSection) → All IsRemovedTail (removed_tails inputs l)
-unfolding removed_tails
-removed-are inputs l = from-removed [] [] (code_items inputs l)
+removed-are inputs l = removed-cases (All IsRemovedTail) inputs l (All-nil IsRemovedTail) (from-removed [] [] (code_items inputs l))

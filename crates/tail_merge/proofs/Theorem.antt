@@ -2,7 +2,7 @@
 use Rattle.std.proofs.Common.{◌≡◌, ℕ, List, map, None}
 use Rattle.std.specs.Prelude.{◌≤◌, ◌+◌}
 use Rattle.std.specs.List.{AllZip}
-use Rattle.zc_base.specs.MemMap.{IsMap}
+use Rattle.zc_base.specs.MemMap.{IsMap, data_limit}
 use Rattle.elf32_write.specs.Writable.{IsObjectOf}
 use Rattle.psabi_sym.specs.Data.{data_end}
 use Rattle.psabi_sym.specs.Inputs.{Inputs, parsed}
@@ -14,7 +14,7 @@ use Rattle.tail_merge.specs.Merging.{AreMerged, merged_files}
 use Rattle.tail_merge.proofs.Shares.{merged-runs, merged-shares, merged-uppers}
 
 -- what is written of each, and has no fault with the others, is what is promised
-pub are-merged : (inputs : Inputs) (files : List (List ℕ)) → first_fault inputs ≡ None → IsMap inputs.map → data_end (parsed inputs) ≤ inputs.map.data_low + 0x40_0000
+pub are-merged : (inputs : Inputs) (files : List (List ℕ)) → first_fault inputs ≡ None → IsMap inputs.map → data_end (parsed inputs) ≤ inputs.map.data_low + data_limit inputs.map
     → files ≡ merged_files inputs → AllZip IsObjectOf (map without_marks (merged (parsed inputs))) files → first_fault (with_files inputs files) ≡ None → AreMerged inputs files
 are-merged inputs files none is room files_are read fine = record {
   given_faultless = none;

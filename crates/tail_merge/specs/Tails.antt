@@ -6,6 +6,7 @@ use Rattle.rv_decode.specs.declared.instr.Instr.{Instr}
 use Rattle.rv_decode.specs.declared.instr.Instr.TheVariants as instr
 use Rattle.rv_decode.specs.declared.instr.UpperOp.TheVariants.{Lui, Auipc}
 use Rattle.rv_encode.specs.Words.{encoded}
+use Rattle.psabi_sym.specs.Fixed.{is_fixed}
 use Rattle.psabi_sym.specs.Inputs.{ParsedInputs}
 use Rattle.psabi_sym.specs.Indexed.{IndexedSection}
 use Rattle.block_cut.specs.Items.{item_in, place_of, size_on, starts_in}
@@ -104,8 +105,9 @@ removed_from hosts before (c ∷ cs) =
     else (let best = longest_tail (c ∷ before) hosts in
     if nat_lt 4 (bytes_of_all best.tail) then best ∷ removed_from hosts (c ∷ before) cs else removed_from (hosts ++ (c ∷ before) ∷ []) (c ∷ before) cs)
 
+-- those of a section: none of one that is fixed
 unfoldable pub removed_tails : ParsedInputs → IndexedSection → List Removed
-removed_tails inputs l = removed_from [] [] (code_items inputs l)
+removed_tails inputs l = if is_fixed inputs.fixed l.section then [] else removed_from [] [] (code_items inputs l)
 
 -- ---- where offsets go
 

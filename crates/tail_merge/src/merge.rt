@@ -21,7 +21,7 @@ use elf32_read::fault::Fault;
 use object_passes::judge::{cut_files, judge};
 use std::alloc::Global;
 use std::marker::Model;
-use zc_base::mem_map::MemMap;
+use zc_base::link_options::LinkOptions;
 
 /// The files of objects with equal tails shared, in the order of the given ones; how many tails were removed, and how
 /// many bytes of code the results have fewer.
@@ -50,8 +50,10 @@ fn merged_files(
     alloc: Global,
     cut: &Cut,
     tables: &[Vec<MovedTail>],
+    options: &LinkOptions,
 ) -> Result<Vec<Vec<u8>>, MergeFault>
-    requires { AreAllMoved (parsed cut.now) (tables_of tables.now) }
+    requires options { cut.now ≡ inputs_in options.now cut.now.files }
+    requires tables { AreAllMoved (parsed cut.now) (tables_of tables.now) }
     ensures ok { IfOk result (λ files. AreMerged cut.now (contents_of files.items)) }
     ensures fewer { IfOk result (λ files.
         bytes_of_code (parsed (with_files cut.now (contents_of files.items))).objects + byte_count (parsed cut.now)
@@ -67,20 +69,21 @@ fn merged_files(
         });
     }
     let files = files_of(alloc, cut, tables)?;
-    match judge(alloc, &files, cut.objects().map()) {
+    match judge(alloc, &files, options) {
         Ok(()) => Ok(files),
         Err(fault) => Err(MergeFault::of_result(fault)),
     }
 }
 
 // The objects that were cut with equal tails shared, or why they aren't to be had.
-fn merge_cut(alloc: Global, cut: &Cut) -> Result<Merged, MergeFault>
+fn merge_cut(alloc: Global, cut: &Cut, options: &LinkOptions) -> Result<Merged, MergeFault>
+    requires { cut.now ≡ inputs_in options.now cut.now.files }
     ensures ok { IfOk result (λ done. IsMerging cut.now done) }
     ensures err { IfErr result (IsMergeFault cut.now) }
 {
     let tails = all_removed_tails(alloc, cut)?;
     let tables = all_tables(alloc, cut, &tails)?;
-    let objects = merged_files(alloc, cut, &tables)?;
+    let objects = merged_files(alloc, cut, &tables, options)?;
     let counts = removed_counts(cut, &tables);
     Ok(Merged {
         objects,
@@ -91,13 +94,13 @@ fn merge_cut(alloc: Global, cut: &Cut) -> Result<Merged, MergeFault>
 
 /// The objects in these files with equal ends of functions shared, or why they aren't to be had. It takes time
 /// near-linear in the files' bytes, items, symbols and relocations.
-pub fn merge(alloc: Global, bytes: &[Vec<u8>], map: MemMap) -> Result<Merged, MergeFault>
-    requires { IsMap map }
-    ensures ok { IfOk result (λ done. IsMerging (inputs_in map (contents_of bytes.now)) done) }
-    ensures err { IfErr result (IsMergeFault (inputs_in map (contents_of bytes.now))) }
+pub fn merge(alloc: Global, bytes: &[Vec<u8>], options: &LinkOptions) -> Result<Merged, MergeFault>
+    requires { IsMap options.now.map }
+    ensures ok { IfOk result (λ done. IsMerging (inputs_in options.now (contents_of bytes.now)) done) }
+    ensures err { IfErr result (IsMergeFault (inputs_in options.now (contents_of bytes.now))) }
 {
-    match cut_files(alloc, bytes, map) {
-        Ok(cut) => merge_cut(alloc, &cut),
+    match cut_files(alloc, bytes, options) {
+        Ok(cut) => merge_cut(alloc, &cut, options),
         Err(fault) => Err(MergeFault::of_given(fault)),
     }
 }

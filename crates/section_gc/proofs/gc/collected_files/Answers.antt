@@ -2,10 +2,11 @@ use Rattle.std.proofs.Common.{◌∙◌, sym, ap, ap₂, subst}
 use Rattle.std.specs.Prelude.{map}
 use Rattle.std.specs.List.{AllZip}
 use Rattle.elf32_write.specs.Writable.{IsObjectOf}
-use Rattle.psabi_sym.specs.Inputs.{Inputs, inputs_in, parsed}
+use Rattle.psabi_sym.specs.Inputs.{Inputs, parsed}
 use Rattle.psabi_sym.specs.LinkFault.{IsRefusal}
 use Rattle.psabi_sym.specs.Objects.{contents_of}
 use Rattle.block_cut.specs.Faults.{first_fault}
+use Rattle.moved_runs.specs.Passes.{with_files}
 use Rattle.object_passes.specs.Written.{without_marks}
 use Rattle.object_passes.proofs.OversizedLaws.{oversized-broken}
 use Rattle.section_gc.specs.Cleaned.{cleaned}
@@ -38,7 +39,7 @@ returns-in-Err-clause-err c =
     c.of_result.ensures inputs needed c.requires.faultless c.requires.needed
     (λ i fault is. range-left inputs needed i fault c.requires.faultless c.requires.needed read small is)
     (subst (λ (it : Inputs). IsRefusal (first_fault it) c.in-Err.fault)
-    (ap₂ inputs_in c.map.ensures.value (ap contents_of c.deref.ensures.value ∙ c.in_ok-files.ensures.bytes)) c.in-Err.ensures.err)
+    (ap₂ with_files (sym c.requires.options) (ap contents_of c.deref.ensures.value ∙ c.in_ok-files.ensures.bytes)) c.in-Err.ensures.err)
 
 pub returns-in-Ok-clause-ok : goal.returns-in-Ok-clause-ok
 returns-in-Ok-clause-ok c =
@@ -46,4 +47,4 @@ returns-in-Ok-clause-ok c =
     let needed = has_mark (parsed inputs).objects c.args.marks.now in
     let files = c.in_ok-files.files.items in
     collected inputs needed (contents_of files) c.requires.faultless c.requires.needed c.in_ok-files.ensures.bytes c.in_ok-files.ensures.read_back
-    (let fine = c.in-Ok.ensures.ok in cc (fine, c.deref.ensures.value, c.map.ensures.value))
+    (ap first_fault (sym (ap₂ with_files (sym c.requires.options) (ap contents_of c.deref.ensures.value))) ∙ c.in-Ok.ensures.ok)

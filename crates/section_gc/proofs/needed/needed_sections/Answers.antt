@@ -4,13 +4,13 @@ use Rattle.std.specs.declared.alloc.Global.{Global}
 use Rattle.zc_base.specs.declared.place.Place.{Place}
 use Rattle.psabi_sym.specs.Indexed.{all_sections}
 use Rattle.psabi_sym.specs.Inputs.{Inputs, parsed}
-use Rattle.section_gc.specs.Graph.{data_nodes_from, nodes_at, section_nodes}
+use Rattle.section_gc.specs.Graph.{nodes_at, root_nodes_from, section_nodes}
 use Rattle.section_gc.proofs.GraphLaws.{edges-inside, found-needed, nodes-within}
 use Rattle.section_gc.proofs.needed.needed_sections.Goals as goal
 
 -- the nodes that are needed by themselves
 abbrev root_list : Inputs → Place → List ℕ
-root_list inputs entry = nodes_at (parsed inputs).objects entry.object entry.section ++ data_nodes_from 0 (all_sections (parsed inputs).objects)
+root_list inputs entry = nodes_at (parsed inputs).objects entry.object entry.section ++ root_nodes_from inputs.fixed 0 (all_sections (parsed inputs).objects)
 
 abbrev edge_lists : Inputs → List (List ℕ)
 edge_lists inputs = map (section_nodes (parsed inputs)) (all_sections (parsed inputs).objects)

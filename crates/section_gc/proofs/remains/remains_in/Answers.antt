@@ -27,7 +27,7 @@ loop-i-preserved c =
     let within : i < section_count file = omega (arith, c.loop-i-test.true, c.section_count-i-end.ensures.count, ap section_count same) in
     let here = section_at file i within in
     let row = c.section_row.ensures in
-    let role = row-role objects k row.0 (record { object = c.args.object; index = i; section = s }) c.section_row.result row.1 c.number_among_all-k.ensures row.2 in
+    let role = row-role c.args.objects.now.fixed objects k row.0 (record { object = c.args.object; index = i; section = s }) c.section_row.result row.1 c.number_among_all-k.ensures row.2 in
     let is = c.remains_of-remains.ensures s role in
     let table = c.in_ok-push.ensures.items ∙ remains-turn objects c.args.marks.now (object_parts file) c.args.object i k s number c.remains_of-remains.result c.loop-i.table.items here c.number_among_all-k.ensures c.loop-i.invariant.number is c.loop-i.invariant.table in
     let left = sym (ap is_something is) in

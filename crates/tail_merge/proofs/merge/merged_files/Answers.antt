@@ -1,10 +1,11 @@
 use Rattle.std.proofs.Common.{◌+◌, ◌≤◌, ◌∙◌, ap, ap₂, subst, sym}
-use Rattle.zc_base.specs.MemMap.{IsMap}
+use Rattle.zc_base.specs.MemMap.{IsMap, data_limit}
 use Rattle.psabi_sym.specs.Data.{data_end}
-use Rattle.psabi_sym.specs.Inputs.{Inputs, inputs_in, parsed}
+use Rattle.psabi_sym.specs.Inputs.{Inputs, parsed}
 use Rattle.psabi_sym.specs.LinkFault.{IsRefusal}
 use Rattle.psabi_sym.specs.Objects.{contents_of}
 use Rattle.block_cut.specs.Faults.{first_fault}
+use Rattle.moved_runs.specs.Passes.{with_files}
 use Rattle.tail_merge.proofs.CodeBytes.{merged-fewer}
 use Rattle.tail_merge.proofs.Theorem.{are-merged}
 use Rattle.tail_merge.proofs.WritableParts.{merged-oversized-broken}
@@ -20,10 +21,9 @@ returns-in-Some-clause-err c =
 
 pub returns-in-Err-clause-err : goal.returns-in-Err-clause-err
 returns-in-Err-clause-err c =
-    let map = c.map.ensures.value ∙ ap (λ (i : Inputs). i.map) c.objects-2.ensures.same in
     let files = ap contents_of c.deref.ensures.value ∙ c.in_ok-files.ensures.bytes in
     c.of_result.ensures c.args.cut.now c.objects.ensures.faultless
-    (subst (λ (i : Inputs). IsRefusal (first_fault i) c.in-Err.fault) (ap₂ inputs_in map files) c.in-Err.ensures.err)
+    (subst (λ (i : Inputs). IsRefusal (first_fault i) c.in-Err.fault) (ap₂ with_files (sym c.requires.options) files) c.in-Err.ensures.err)
 
 pub returns-in-Ok-clause-fewer : goal.returns-in-Ok-clause-fewer
 returns-in-Ok-clause-fewer c =
@@ -32,9 +32,8 @@ returns-in-Ok-clause-fewer c =
 pub returns-in-Ok-clause-ok : goal.returns-in-Ok-clause-ok
 returns-in-Ok-clause-ok c =
     let inputs = c.args.cut.now in
-    let map = c.map.ensures.value ∙ ap (λ (i : Inputs). i.map) c.objects-2.ensures.same in
-    let fine = ap first_fault (sym (ap₂ inputs_in map (ap contents_of c.deref.ensures.value))) ∙ c.in-Ok.ensures.ok in
+    let fine = ap first_fault (sym (ap₂ with_files (sym c.requires.options) (ap contents_of c.deref.ensures.value))) ∙ c.in-Ok.ensures.ok in
     are-merged inputs (contents_of c.in_ok-files.files.items) c.objects.ensures.faultless
     (subst (λ (i : Inputs). IsMap i.map) c.objects.ensures.same c.recall_invariant.ensures.is_map)
-    (subst (λ (i : Inputs). data_end (parsed i) ≤ i.map.data_low + 0x40_0000) c.objects.ensures.same c.recall_invariant.ensures.data)
+    (subst (λ (i : Inputs). data_end (parsed i) ≤ i.map.data_low + data_limit i.map) c.objects.ensures.same c.recall_invariant.ensures.data)
     c.in_ok-files.ensures.bytes c.in_ok-files.ensures.read_back fine
