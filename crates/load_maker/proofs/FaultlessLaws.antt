@@ -6,13 +6,14 @@ use Rattle.std.proofs.lemmas.Bool.{and_left}
 use Rattle.std.proofs.lemmas.List.Elements.{All-same, All-nil}
 use Rattle.std.proofs.lemmas.List.Sums.{sum_by-cons}
 use Rattle.zc_base.specs.MemMap.{IsMap, standard_map}
+use Rattle.zc_base.specs.Options.{options_in}
 use Rattle.zc_base.specs.declared.place.Place.{Place}
 use Rattle.elf32_read.specs.Parts.{ObjectParts, SectionParts, is_code_section, is_kept_section}
 use Rattle.elf32_read.specs.declared.reloc.Reloc.{Reloc}
 use Rattle.psabi_sym.specs.Data.{role_of}
 use Rattle.psabi_sym.specs.Faults.{code_room, common_room, data_room, gather_fault}
 use Rattle.psabi_sym.specs.Indexed.{IndexedSection, IndexedSymbol}
-use Rattle.psabi_sym.specs.Inputs.{ParsedInputs}
+use Rattle.psabi_sym.specs.Inputs.{ParsedInputs, inputs_in}
 use Rattle.psabi_sym.specs.Names.{strong_definition}
 use Rattle.psabi_sym.specs.Resolve.{definition_target, home_target, name_target}
 use Rattle.psabi_sym.specs.Start.{start_name}
@@ -27,7 +28,7 @@ use Rattle.sound_objects.specs.Reach.{HaveNoBranchOrAlign}
 use Rattle.sound_objects.specs.WellFormed.{BranchesReach, HasSection, HasStrong, RelocsAreRight}
 use Rattle.sound_objects.proofs.NameLaws.{defined_strong, strong_found, strong_there}
 use Rattle.sound_objects.proofs.NearLaws.{branchless_reach, parts_short_reach}
-use Rattle.sound_objects.proofs.PartsLaws.{IsSectionIn, are_faultless, section_in}
+use Rattle.sound_objects.proofs.PartsLaws.{IsSectionIn, are_faultless, parts_end, section_in}
 use Rattle.sound_objects.proofs.PartsLaws.IsSectionIn.{Given, Bare}
 use Rattle.sound_objects.proofs.FragmentLaws.{start_at}
 use Rattle.sound_objects.proofs.ReachLaws.{made_branchless, made_roomless, made_short as short_fragments}
@@ -48,12 +49,14 @@ use Rattle.load_maker.proofs.WrittenLaws.{all_groups, group_right, group_symbols
 map_is : IsMap standard_map
 map_is = record {
   text_page = refl;
-  data_page = refl;
-  stack_page = refl;
+  data_step = refl;
+  low_step = refl;
+  high_step = refl;
   above = omega arith;
   code = omega arith;
-  data_room = omega arith;
-  stack = refl;
+  room = omega arith;
+  below = omega arith;
+  stack = omega arith;
   top = omega arith;
 }
 
@@ -253,12 +256,13 @@ module _ (number n : ℕ) (few : n ≤ FUNCTION_LIMIT) where
     small = record { file_bytes = made_short number n few; code_room = code_small; data_room = data_small };
     single = single number n few;
     defined = all_defined number n few standard_map;
+    room = omega (arith, parts_end standard_map (made_parts number n) (made_written number n few), data_small);
     relocs = all_relocs;
     entry = start_place;
     entry_found = start_found;
     near = all_near;
   }
 
-pub files_faultless : (number n : ℕ) (files : List (List ℕ)) → n ≤ FUNCTION_LIMIT → files ≡ made_objects number n → first_fault (record { files = files; map = standard_map }) ≡ None
+pub files_faultless : (number n : ℕ) (files : List (List ℕ)) → n ≤ FUNCTION_LIMIT → files ≡ made_objects number n → first_fault (inputs_in (options_in standard_map) files) ≡ None
 unfolding made_objects
-files_faultless number n files few are = ap (λ l. first_fault (record { files = l; map = standard_map })) are ∙ are_faultless standard_map (made_parts number n) (made_sound number n few)
+files_faultless number n files few are = ap (λ l. first_fault (inputs_in (options_in standard_map) l)) are ∙ are_faultless standard_map (made_parts number n) (made_sound number n few)

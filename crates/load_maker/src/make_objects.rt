@@ -3,8 +3,10 @@
 ghost use Rattle.std.specs.Prelude.{◌≡◌, ◌*◌, ◌^◌, ◌<◌, ◌≤◌, All, length, None, Err, IfOk};
 ghost use Rattle.std.specs.List.{flat_map};
 ghost use Rattle.zc_base.specs.MemMap.{standard_map};
+ghost use Rattle.zc_base.specs.Options.{options_in};
 ghost use Rattle.elf32_write.specs.ObjectFile.{object_bytes};
 ghost use Rattle.elf32_write.specs.Writable.{IsWritable};
+ghost use Rattle.psabi_sym.specs.Inputs.{inputs_in};
 ghost use Rattle.psabi_sym.specs.Objects.{contents_of};
 ghost use Rattle.block_cut.specs.Faults.{first_fault};
 ghost use Rattle.load_maker.specs.Objects.{group, group_object, made_objects, start_object};
@@ -79,7 +81,7 @@ fn files(alloc: Global, number: u64, functions: u32) -> Result<Vec<Vec<u8>>, All
 pub fn make_objects(alloc: Global, number: u64, functions: u32) -> Result<Vec<Vec<u8>>, MakeFault>
     ensures objects { IfOk result (λ files. contents_of files.items ≡ made_objects number functions) }
     ensures faultless { IfOk result (λ files.
-        first_fault (record { files = contents_of files.items; map = standard_map }) ≡ None) }
+        first_fault (inputs_in (options_in standard_map) (contents_of files.items)) ≡ None) }
     ensures too_many { 1600 < functions → result ≡ Err TooMany }
     ensures only { result ≡ Err TooMany → 1600 < functions }
 {

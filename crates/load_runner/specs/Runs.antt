@@ -1,6 +1,7 @@
 -- The runs of a load, each without input: the run of the objects' program, and the runs of images.
 use Rattle.std.specs.Prelude.{◌≡◌, ℕ, List, [], ◌∷◌, ◌++◌, Some, Ok}
 use Rattle.zc_base.specs.MemMap.{standard_map}
+use Rattle.zc_base.specs.Options.{options_in}
 use Rattle.zc_base.specs.declared.place.Place.{Place}
 use Rattle.devices.specs.Environment.{only_input}
 use Rattle.interrupt_plan.specs.Plan.{Entry}
@@ -17,9 +18,9 @@ use Rattle.zc_machine.specs.declared.reason.Reason.{Reason}
 use Rattle.zc_outside.specs.Course.{Course, Exit, ExitsAt}
 use Rattle.load_runner.specs.declared.run_load.TheConstants.{LOAD_STEPS}
 
--- objects with the map that the linker uses if it is given no other
+-- objects with the map that the linker uses if it is given no other, and no names
 abbrev pub standard_inputs : List (List ℕ) → Inputs
-standard_inputs files = inputs_in standard_map files
+standard_inputs files = inputs_in (options_in standard_map) files
 
 -- the run of the objects' program
 abbrev pub trace_run : Inputs → Course PlainState (Place × Why)

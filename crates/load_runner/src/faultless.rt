@@ -12,6 +12,7 @@ use block_cut::cut::Cut;
 use psabi_sym::link_fault::LinkFault;
 use psabi_sym::objects::Objects;
 use std::alloc::Global;
+use zc_base::link_options::LinkOptions;
 use zc_base::mem_map::MemMap;
 use zc_link::linked::Linked;
 use zc_link::plain::link_plain;
@@ -59,7 +60,8 @@ fn faultless_objects(alloc: Global, files: &[Vec<u8>]) -> Result<Objects, LoadEn
     ensures ok { IfOk result (λ objects. objects ≡ standard_inputs (contents_of files.now)) }
     ensures err { IfErr result (λ end. end ≡ LoadEnd.OutOfMemory) }
 {
-    match Objects::gather(alloc, files, MemMap::standard()) {
+    let options = LinkOptions::of_map(alloc, MemMap::standard());
+    match Objects::gather(alloc, files, &options) {
         Ok(objects) => Ok(objects),
         Err(fault) => Err(want_of_memory(fault)),
     }

@@ -6,7 +6,7 @@ use Rattle.std.specs.List.{list_any}
 use Rattle.std.proofs.lemmas.Bool.{and_parts, leb-true, ltb-false, not-false, or_parts}
 use Rattle.std.proofs.lemmas.List.{length-take}
 use Rattle.std.proofs.lemmas.List.Elements.{All-cons, All-nil}
-use Rattle.zc_base.specs.MemMap.{IsMap}
+use Rattle.zc_base.specs.MemMap.{IsMap, data_limit}
 use Rattle.zc_base.specs.declared.mem_map.MemMap.{MemMap}
 use Rattle.elf32_read.proofs.Decided.{first_no}
 use Rattle.elf32_read.specs.Header.{entry_address}
@@ -24,7 +24,7 @@ use Rattle.zc_machine.specs.Memory.{Apart, AreApart}
 record IsPlaced (map : MemMap) (header : ProgramHeader) : Type 0 where
   pub fits : header.file_size ≤ header.memory_size
   pub low : map.text ≤ header.address
-  pub high : memory_end header ≤ map.data_low + 0x40_0000
+  pub high : memory_end header ≤ map.data_low + data_limit map
 
 abbrev stack_region : MemMap → Region ℕ
 stack_region m = record { kind = Stack; at = m.stack_low; cells = blank (m.stack_high - m.stack_low) 0 }
@@ -41,10 +41,10 @@ module _ (bytes : List ℕ) (memory : MemMap) (is : IsMap memory) where
       within low high h = let q = and_parts (leb low header.address) (leb (memory_end header) high) h in (leb-true low header.address q.0, leb-true (memory_end header) high q.1)
 
       by_kind :
-          (b : Bool) → cond b (leb memory.text header.address && leb (memory_end header) memory.data_low) (leb memory.data_low header.address && leb (memory_end header) (memory.data_low + 0x40_0000)) ≡ true
-          → (memory.text ≤ header.address) × (memory_end header ≤ memory.data_low + 0x40_0000)
+          (b : Bool) → cond b (leb memory.text header.address && leb (memory_end header) memory.data_low) (leb memory.data_low header.address && leb (memory_end header) (memory.data_low + data_limit memory)) ≡ true
+          → (memory.text ≤ header.address) × (memory_end header ≤ memory.data_low + data_limit memory)
       by_kind true h = let q = within memory.text memory.data_low h in (q.0, omega (arith, q))
-      by_kind false h = let q = within memory.data_low (memory.data_low + 0x40_0000) h in let code = is.code in (omega (arith, q, code), q.1)
+      by_kind false h = let q = within memory.data_low (memory.data_low + data_limit memory) h in let code = is.code in (omega (arith, q, code), q.1)
 
   -- the region of a segment ends where the segment does
   size_in : (header : ProgramHeader) → IsPlaced memory header → length (region_of (segment_of bytes header)).cells ≡ header.memory_size
@@ -71,9 +71,8 @@ module _ (bytes : List ℕ) (memory : MemMap) (is : IsMap memory) where
   stack_apart : (header : ProgramHeader) → IsPlaced memory header → Apart (extent_in header) (extent_of (stack_region memory))
   stack_apart header at =
       let high = at.high in
-      let room = is.data_room in
-      let stack = is.stack in
-      omega (arith, size_in header at, stack_size, high, room, stack)
+      let below = is.below in
+      omega (arith, size_in header at, stack_size, high, below)
 
   abbrev region_list : List ProgramHeader → List Extent
   region_list headers = extents_of (first_memory (map (segment_of bytes) headers) memory)
@@ -96,9 +95,8 @@ module _ (bytes : List ℕ) (memory : MemMap) (is : IsMap memory) where
       let aparts = or_parts (list_any (overlap_in_memory h) hs) (some_overlap hs) apart in
       let at = placed h goods.0 in
       let high = at.high in
-      let room = is.data_room in
-      let top = is.top in
-      (omega (arith, size_in h at, high, room, top), all_apart h hs at goods.1 aparts.0, are_apart hs goods.1 aparts.1)
+      let room = is.room in
+      (omega (arith, size_in h at, high, room), all_apart h hs at goods.1 aparts.0, are_apart hs goods.1 aparts.1)
 
   -- the image's regions
   pub first_apart : image_fault bytes memory ≡ None → AreApart (extents_of (first_memory (segments_of bytes) memory))

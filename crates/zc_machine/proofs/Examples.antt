@@ -1,5 +1,6 @@
 -- Runs of small images, computed.
 use Rattle.std.specs.Prelude.{◌≡◌, ℕ, true, List, [], ◌∷◌, Result, Ok, Err, refl, None}
+use Rattle.zc_base.specs.MemMap.{all_extensions}
 use Rattle.rv_decode.specs.Decode.{decoded}
 use Rattle.rv_decode.specs.Memory.{blank, Stack, Text}
 use Rattle.rv_decode.specs.State.{ZcCore, ZcState, Event, Exit, Load, Store, byte_in, reg_in, word_at}
@@ -17,7 +18,7 @@ use Rattle.zc_machine.specs.Load.{first_core}
 -- the machine with this text at 0x10000, of this size in memory, and with 16 bytes of stack
 loaded : List ℕ → ℕ → ZcCore
 loaded text size =
-    first_core 0x10000 (record { at = 0x10000; size = size; code = true; bytes = text } ∷ []) (record { text = 0x10000; data_low = 0x20000; stack_low = 0x30000; stack_high = 0x30010 })
+    first_core 0x10000 (record { at = 0x10000; size = size; code = true; bytes = text } ∷ []) (record { text = 0x10000; data_low = 0x20000; stack_low = 0x30000; stack_high = 0x30010; extensions = all_extensions })
 
 -- what a run shows: its events and the number of its commits
 abbrev shown : Result ZcState Reason → Result (List Event × ℕ) Reason
