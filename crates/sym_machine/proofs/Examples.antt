@@ -1,6 +1,7 @@
 -- Runs of small programs with devices, computed.
 use Rattle.std.specs.Prelude.{◌≡◌, ℕ, ◌+◌, ◌/◌, pos, List, [], ◌∷◌, Option, Some, None, Result, Ok, Err, slice_get, refl}
 use Rattle.std.specs.Option.{option_map}
+use Rattle.zc_base.specs.MemMap.{all_extensions}
 use Rattle.zc_base.specs.declared.place.Place.{Place}
 use Rattle.rv_decode.specs.declared.instr.Instr.{Instr}
 use Rattle.rv_decode.specs.declared.instr.Instr.TheVariants as instr
@@ -25,7 +26,7 @@ program is = record {
   item = λ q. option_map Op (slice_get is (q.offset / 4));
   next = λ q. record q { offset = q.offset + 4 };
   entry = record { object = 0; section = 0; offset = 0 };
-  map = record { text = 0x10000; data_low = 0x20000; stack_low = 0x30000; stack_high = 0x30010 };
+  map = record { text = 0x10000; data_low = 0x20000; stack_low = 0x30000; stack_high = 0x30010; extensions = all_extensions };
   bytes = [];
 }
 

@@ -2,6 +2,7 @@
 
 ghost use Rattle.std.specs.Prelude.{◌≡◌, ◌-◌, ◌≤◌, ◌++◌, IfOk, length, map, replicate};
 ghost use Rattle.std.specs.List.{fold};
+ghost use Rattle.zc_base.specs.MemMap.{data_limit};
 ghost use Rattle.psabi_sym.specs.Contents.{data_contents, overlaid};
 ghost use Rattle.psabi_sym.specs.Data.{data_end, data_file_end};
 ghost use Rattle.psabi_sym.specs.Inputs.{parsed};
@@ -23,7 +24,7 @@ use std::alloc::{AllocError, Global};
 #[tactic(auto, unfolding(crate::specs::Objects::data_bytes))]
 pub fn first_data(alloc: Global, cut: &Cut) -> Result<Pages, AllocError>
     ensures bytes { IfOk result (λ bytes. bytes ≡ data_bytes (parsed cut.now)) }
-    ensures most { IfOk result (λ bytes. length bytes ≤ 0x40_0000) }
+    ensures most { IfOk result (λ bytes. length bytes ≤ data_limit cut.now.map) }
 {
     let mut bytes = unfilled(alloc, cut.objects())?;
     fill(cut, &mut bytes);
@@ -34,7 +35,7 @@ pub fn first_data(alloc: Global, cut: &Cut) -> Result<Pages, AllocError>
 fn unfilled(alloc: Global, objects: &Objects) -> Result<Pages, AllocError>
     ensures bytes { let inputs = parsed objects.now in IfOk result (λ bytes.
         bytes ≡ map Num (data_contents inputs ++ replicate (data_end inputs - data_file_end inputs) 0)) }
-    ensures most { IfOk result (λ bytes. length bytes ≤ 0x40_0000) }
+    ensures most { IfOk result (λ bytes. length bytes ≤ data_limit objects.now.map) }
 {
     let contents = objects.data_contents(alloc)?;
     let zeros = objects.data_end() - objects.data_file_end();

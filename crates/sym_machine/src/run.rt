@@ -81,10 +81,11 @@ pub fn run_with<C: Console>(
     while made < steps {
         let (quiet, answer) = sym.advance(cut, steps - made);
         made += quiet;
-        let Ok(alone) = answer else {
+        let Ok(mut step) = answer else {
             return (TraceEnd::OutOfMemory, made);
         };
-        match with_devices(sym, cut, &devices, alone) {
+        ask_if_stuck(sym, cut, &devices, &mut step);
+        match step {
             SymStep::Done | SymStep::Read { .. } | SymStep::Loaded { .. } => {}
             SymStep::Wrote { fd, bytes } => {
                 if let Err(fault) = write_to(console, fd, &bytes) {
@@ -104,17 +105,17 @@ pub fn run_with<C: Console>(
     (TraceEnd::Spent, steps)
 }
 
-// What a step comes to with devices, by what it came to without them.
-fn with_devices(sym: &mut Sym<'_>, cut: &Cut, devices: &DeviceMap<'_>, alone: SymStep) -> SymStep
+// Asks devices for a step that is stuck, and puts their answer in its place if they have one. In place, since copies of
+// an answer took a seventh of the time of a poll.
+#[inline(always)]
+fn ask_if_stuck(sym: &mut Sym<'_>, cut: &Cut, devices: &DeviceMap<'_>, step: &mut SymStep)
     requires { IsOf (program_of (parsed cut.now)) sym.old }
-    ensures { let p = program_of (parsed cut.now) in (s : PlainCore) → StepAnswers (plain_step p s) alone s sym.old
-        → StepAnswers (step_with devices.now.ranges p s) result s sym.new }
+    ensures { let p = program_of (parsed cut.now) in (s : PlainCore) → StepAnswers (plain_step p s) step.old s sym.old
+        → StepAnswers (step_with devices.now.ranges p s) step.new s sym.new }
 {
-    match alone {
-        SymStep::Stuck(place, why) => match sym.ask(cut, devices) {
-            Some(step) => step,
-            None => SymStep::Stuck(place, why),
-        },
-        other => other,
+    if let SymStep::Stuck(_, _) = step {
+        if let Some(answer) = sym.ask(cut, devices) {
+            *step = answer;
+        }
     }
 }

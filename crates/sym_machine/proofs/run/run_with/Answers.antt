@@ -33,8 +33,8 @@ loop-made-init g c =
       writes = OnlyWrites-refl shown;
     }
 
-pub with_devices-requires : goal.with_devices-requires
-with_devices-requires g c =
+pub ask_if_stuck-requires : goal.ask_if_stuck-requires
+ask_if_stuck-requires g c =
     let a = c.advance-quiet.ensures.advanced in
     of_again (program_of (parsed c.args.cut.now)) c.advance-quiet.result.1 a.last c.advance-quiet.new.self a.makes a.runs.of
 
@@ -46,14 +46,14 @@ loop-made-preserved g c =
     let n = c.loop-made.made + c.advance-quiet.result.0 in
     let a = c.advance-quiet.ensures.advanced in
     let s : PlainCore = a.last in
-    let s' : PlainCore = c.with_devices.new.sym in
+    let s' : PlainCore = c.ask_if_stuck.new.sym in
     let first = shown c.args.console.now in
     let now = shown c.loop-made.console in
     let came = Came-on p e c.loop-made.made c.loop-made.sym s c.advance-quiet.result.0 first now c.loop-made.invariant.came a.runs in
-    let answers : StepAnswers (step_in p e s) c.with_devices.result s s' =
-    c.with_devices.ensures s (subst (λ (r : Result SymStep AllocError). Makes r (plain_step p s) s c.advance-quiet.new.self) c.in-Ok.is a.makes) in
-    let made = λ (b : SymStep) (is : c.with_devices.result ≡ b). subst (λ (d : SymStep). StepAnswers (step_in p e s) d s s') is answers in
-    elim c.match-with_devices.branch [
+    let answers : StepAnswers (step_in p e s) c.ask_if_stuck.new.step s s' =
+    c.ask_if_stuck.ensures s (subst (λ (r : Result SymStep AllocError). Makes r (plain_step p s) s c.advance-quiet.new.self) c.in-Ok.is a.makes) in
+    let made = λ (b : SymStep) (is : c.ask_if_stuck.new.step ≡ b). subst (λ (d : SymStep). StepAnswers (step_in p e s) d s s') is answers in
+    elim c.match-step.branch [
       | in-Done w ↦
           let next : Came p e (n + 1) s' first now = ⊎_elim
           (λ done. let m = made answer.Done done in came_done p e n s first now came s' m.1 m.2)
@@ -101,13 +101,13 @@ show-requires g c =
     let n = c.loop-made.made + c.advance-quiet.result.0 in
     let a = c.advance-quiet.ensures.advanced in
     let s : PlainCore = a.last in
-    let s' : PlainCore = c.with_devices.new.sym in
+    let s' : PlainCore = c.ask_if_stuck.new.sym in
     let first = shown c.args.console.now in
     let now = shown c.loop-made.console in
     let came = Came-on p e c.loop-made.made c.loop-made.sym s c.advance-quiet.result.0 first now c.loop-made.invariant.came a.runs in
-    let answers : StepAnswers (step_in p e s) c.with_devices.result s s' =
-    c.with_devices.ensures s (subst (λ (r : Result SymStep AllocError). Makes r (plain_step p s) s c.advance-quiet.new.self) c.in-Ok.is a.makes) in
-    let made = λ (b : SymStep) (is : c.with_devices.result ≡ b). subst (λ (d : SymStep). StepAnswers (step_in p e s) d s s') is answers in
+    let answers : StepAnswers (step_in p e s) c.ask_if_stuck.new.step s s' =
+    c.ask_if_stuck.ensures s (subst (λ (r : Result SymStep AllocError). Makes r (plain_step p s) s c.advance-quiet.new.self) c.in-Ok.is a.makes) in
+    let made = λ (b : SymStep) (is : c.ask_if_stuck.new.step ≡ b). subst (λ (d : SymStep). StepAnswers (step_in p e s) d s s') is answers in
     (made (answer.Stored c.in-Stored.sent) c.in-Stored.is).0
 
 pub returns-in-Err-clause-ran : goal.returns-in-Err-clause-ran
@@ -118,13 +118,13 @@ returns-in-Err-clause-ran g c =
     let n = c.loop-made.made + c.advance-quiet.result.0 in
     let a = c.advance-quiet.ensures.advanced in
     let s : PlainCore = a.last in
-    let s' : PlainCore = c.with_devices.new.sym in
+    let s' : PlainCore = c.ask_if_stuck.new.sym in
     let first = shown c.args.console.now in
     let now = shown c.loop-made.console in
     let came = Came-on p e c.loop-made.made c.loop-made.sym s c.advance-quiet.result.0 first now c.loop-made.invariant.came a.runs in
-    let answers : StepAnswers (step_in p e s) c.with_devices.result s s' =
-    c.with_devices.ensures s (subst (λ (r : Result SymStep AllocError). Makes r (plain_step p s) s c.advance-quiet.new.self) c.in-Ok.is a.makes) in
-    let made = λ (b : SymStep) (is : c.with_devices.result ≡ b). subst (λ (d : SymStep). StepAnswers (step_in p e s) d s s') is answers in
+    let answers : StepAnswers (step_in p e s) c.ask_if_stuck.new.step s s' =
+    c.ask_if_stuck.ensures s (subst (λ (r : Result SymStep AllocError). Makes r (plain_step p s) s c.advance-quiet.new.self) c.in-Ok.is a.makes) in
+    let made = λ (b : SymStep) (is : c.ask_if_stuck.new.step ≡ b). subst (λ (d : SymStep). StepAnswers (step_in p e s) d s s') is answers in
     let fd = c.in-Wrote.fd in
     let bytes = c.in-Wrote.bytes.items in
     let after = shown c.write_to.new.console in
@@ -141,13 +141,13 @@ returns-in-Err-show-clause-ran g c =
     let n = c.loop-made.made + c.advance-quiet.result.0 in
     let a = c.advance-quiet.ensures.advanced in
     let s : PlainCore = a.last in
-    let s' : PlainCore = c.with_devices.new.sym in
+    let s' : PlainCore = c.ask_if_stuck.new.sym in
     let first = shown c.args.console.now in
     let now = shown c.loop-made.console in
     let came = Came-on p e c.loop-made.made c.loop-made.sym s c.advance-quiet.result.0 first now c.loop-made.invariant.came a.runs in
-    let answers : StepAnswers (step_in p e s) c.with_devices.result s s' =
-    c.with_devices.ensures s (subst (λ (r : Result SymStep AllocError). Makes r (plain_step p s) s c.advance-quiet.new.self) c.in-Ok.is a.makes) in
-    let made = λ (b : SymStep) (is : c.with_devices.result ≡ b). subst (λ (d : SymStep). StepAnswers (step_in p e s) d s s') is answers in
+    let answers : StepAnswers (step_in p e s) c.ask_if_stuck.new.step s s' =
+    c.ask_if_stuck.ensures s (subst (λ (r : Result SymStep AllocError). Makes r (plain_step p s) s c.advance-quiet.new.self) c.in-Ok.is a.makes) in
+    let made = λ (b : SymStep) (is : c.ask_if_stuck.new.step ≡ b). subst (λ (d : SymStep). StepAnswers (step_in p e s) d s s') is answers in
     let at = c.in-Stored.sent.at in
     let bytes = sent_bytes c.in-Stored.sent.op c.in-Stored.sent.word in
     let after = shown c.show.new.console in
@@ -163,13 +163,13 @@ returns-in-Exited-clause-ran g c =
     let n = c.loop-made.made + c.advance-quiet.result.0 in
     let a = c.advance-quiet.ensures.advanced in
     let s : PlainCore = a.last in
-    let s' : PlainCore = c.with_devices.new.sym in
+    let s' : PlainCore = c.ask_if_stuck.new.sym in
     let first = shown c.args.console.now in
     let now = shown c.loop-made.console in
     let came = Came-on p e c.loop-made.made c.loop-made.sym s c.advance-quiet.result.0 first now c.loop-made.invariant.came a.runs in
-    let answers : StepAnswers (step_in p e s) c.with_devices.result s s' =
-    c.with_devices.ensures s (subst (λ (r : Result SymStep AllocError). Makes r (plain_step p s) s c.advance-quiet.new.self) c.in-Ok.is a.makes) in
-    let made = λ (b : SymStep) (is : c.with_devices.result ≡ b). subst (λ (d : SymStep). StepAnswers (step_in p e s) d s s') is answers in
+    let answers : StepAnswers (step_in p e s) c.ask_if_stuck.new.step s s' =
+    c.ask_if_stuck.ensures s (subst (λ (r : Result SymStep AllocError). Makes r (plain_step p s) s c.advance-quiet.new.self) c.in-Ok.is a.makes) in
+    let made = λ (b : SymStep) (is : c.ask_if_stuck.new.step ≡ b). subst (λ (d : SymStep). StepAnswers (step_in p e s) d s s') is answers in
     ⊎_elim
     (λ ends. exited p e n s first now came c.args.steps (omega arith) s' c.in-Exited.status ends.1 ends.2)
     (λ before. absurd (let running = came.running in cc))
@@ -183,13 +183,13 @@ returns-in-Exited-clause-count g c =
     let n = c.loop-made.made + c.advance-quiet.result.0 in
     let a = c.advance-quiet.ensures.advanced in
     let s : PlainCore = a.last in
-    let s' : PlainCore = c.with_devices.new.sym in
+    let s' : PlainCore = c.ask_if_stuck.new.sym in
     let first = shown c.args.console.now in
     let now = shown c.loop-made.console in
     let came = Came-on p e c.loop-made.made c.loop-made.sym s c.advance-quiet.result.0 first now c.loop-made.invariant.came a.runs in
-    let answers : StepAnswers (step_in p e s) c.with_devices.result s s' =
-    c.with_devices.ensures s (subst (λ (r : Result SymStep AllocError). Makes r (plain_step p s) s c.advance-quiet.new.self) c.in-Ok.is a.makes) in
-    let made = λ (b : SymStep) (is : c.with_devices.result ≡ b). subst (λ (d : SymStep). StepAnswers (step_in p e s) d s s') is answers in
+    let answers : StepAnswers (step_in p e s) c.ask_if_stuck.new.step s s' =
+    c.ask_if_stuck.ensures s (subst (λ (r : Result SymStep AllocError). Makes r (plain_step p s) s c.advance-quiet.new.self) c.in-Ok.is a.makes) in
+    let made = λ (b : SymStep) (is : c.ask_if_stuck.new.step ≡ b). subst (λ (d : SymStep). StepAnswers (step_in p e s) d s s') is answers in
     ⊎_elim
     (λ ends. counted p e n s first now came c.args.steps (omega arith) s' c.in-Exited.status ends.1 ends.2)
     (λ before. absurd (let running = came.running in cc))
@@ -203,13 +203,13 @@ returns-in-Stuck-clause-ran g c =
     let n = c.loop-made.made + c.advance-quiet.result.0 in
     let a = c.advance-quiet.ensures.advanced in
     let s : PlainCore = a.last in
-    let s' : PlainCore = c.with_devices.new.sym in
+    let s' : PlainCore = c.ask_if_stuck.new.sym in
     let first = shown c.args.console.now in
     let now = shown c.loop-made.console in
     let came = Came-on p e c.loop-made.made c.loop-made.sym s c.advance-quiet.result.0 first now c.loop-made.invariant.came a.runs in
-    let answers : StepAnswers (step_in p e s) c.with_devices.result s s' =
-    c.with_devices.ensures s (subst (λ (r : Result SymStep AllocError). Makes r (plain_step p s) s c.advance-quiet.new.self) c.in-Ok.is a.makes) in
-    let made = λ (b : SymStep) (is : c.with_devices.result ≡ b). subst (λ (d : SymStep). StepAnswers (step_in p e s) d s s') is answers in
+    let answers : StepAnswers (step_in p e s) c.ask_if_stuck.new.step s s' =
+    c.ask_if_stuck.ensures s (subst (λ (r : Result SymStep AllocError). Makes r (plain_step p s) s c.advance-quiet.new.self) c.in-Ok.is a.makes) in
+    let made = λ (b : SymStep) (is : c.ask_if_stuck.new.step ≡ b). subst (λ (d : SymStep). StepAnswers (step_in p e s) d s s') is answers in
     let m = made (answer.Stuck c.in-Stuck.place c.in-Stuck.why) c.in-Stuck.is in
     stuck p e n s first now came c.args.steps (omega arith) c.in-Stuck.place c.in-Stuck.why m.2 m.3
 

@@ -1,4 +1,5 @@
 use Rattle.std.proofs.Common.{◌≡◌, ◌-◌, ◌∷◌, [], None, ap, ◌∙◌, arith}
+use Rattle.zc_base.specs.MemMap.{data_limit}
 use Rattle.psabi_sym.specs.Inputs.{Inputs, parsed}
 use Rattle.rv_decode.specs.Memory.{Data, Stack, blank}
 use Rattle.rv_decode.specs.State.{start_regs}
@@ -28,7 +29,9 @@ returns c =
     }
 
 pub new-requires-clause-apart : goal.new-requires-clause-apart
-new-requires-clause-apart c = omega (arith, c.map-map.ensures.is_map.data_room, c.map-map.ensures.is_map.stack, c.in_ok-data.ensures.most)
+new-requires-clause-apart c =
+    let map : c.map-map.result ≡ c.args.cut.now.map = c.map-map.ensures.value ∙ ap (λ (i : Inputs). i.map) c.objects.ensures.same in
+    omega (arith, c.map-map.ensures.is_map.below, c.in_ok-data.ensures.most, ap data_limit map)
 
 pub new-requires-clause-clear : goal.new-requires-clause-clear
 new-requires-clause-clear c = omega (arith, c.map-map.ensures.is_map.above, c.map-map.ensures.is_map.code)
