@@ -1,5 +1,6 @@
 -- Lemmas.
 pub mod NumberLaws
+pub mod NameLaws
 pub mod ReadLaws
 pub mod Given
 pub mod PlainOptions

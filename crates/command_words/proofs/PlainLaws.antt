@@ -8,7 +8,7 @@ use Rattle.clap.specs.Lexer.{usize_max}
 use Rattle.clap.specs.Simple.{App, Shape, built, help_shape}
 use Rattle.clap.specs.Walk.{Row, Text, first_of}
 use Rattle.clap.proofs.OnLiterals.{clap_on_literals}
-use Rattle.command_words.specs.Command.{Command, Meaning, Spelled, Words, check_of, command_of, found_in, gc_of, listing_of, make_of, meaning, meaning_named, meanings, merge_of, plain_of, read_by_clap, run_of, share_of, trace_of, values_in, zc_of}
+use Rattle.command_words.specs.Command.{Command, Meaning, Spelled, Words, check_of, command_of, found_in, gc_of, in_options, listing_of, make_of, meaning, meaning_named, meanings, merge_of, plain_of, read_by_clap, run_of, share_of, trace_of, values_in, zc_of}
 use Rattle.command_words.specs.PlainForm.{IsReadAsPlain, is_plain_form, plain_command_of, spelled_words}
 use Rattle.command_words.specs.Table.{OptionSyntax, Syntax, check_syntax, gc_syntax, list_syntax, make_syntax, merge_syntax, one, plain_syntax, program_app, run_syntax, several, share_syntax, trace_syntax, zc_syntax}
 use Rattle.command_words.proofs.Given.{Given, all_of-given, first_of-given, lookup, rows_for, same_text}
@@ -112,9 +112,9 @@ plain_words : SeveralFits (sub 0).rules (codes "OBJ")
 unfolding built_app sub program_app clap_on_literals
 plain_words = record { by_index = refl; by_id = refl }
 
-plain_read : (words : List Text) → length words ≤ usize_max → ReadsForm words (record { form = plain_syntax; command = plain_of })
+plain_read : (words : List Text) → length words ≤ usize_max → ReadsForm words (record { form = plain_syntax; command = in_options plain_of })
 plain_read words few =
-    form_read (record { form = plain_syntax; command = plain_of }) words (λ rows. refl)
+    form_read (record { form = plain_syntax; command = in_options plain_of }) words (λ rows. refl)
     (several_read (codes "plain") plain_syntax.options (sub 0) plain_enters words (codes "OBJ") plain_leaf plain_words few) _ refl
 
 -- `zc`
@@ -130,9 +130,9 @@ zc_words : SeveralFits (sub 1).rules (codes "OBJ")
 unfolding built_app sub program_app clap_on_literals
 zc_words = record { by_index = refl; by_id = refl }
 
-zc_read : (words : List Text) → length words ≤ usize_max → ReadsForm words (record { form = zc_syntax; command = zc_of })
+zc_read : (words : List Text) → length words ≤ usize_max → ReadsForm words (record { form = zc_syntax; command = in_options zc_of })
 zc_read words few =
-    form_read (record { form = zc_syntax; command = zc_of }) words (λ rows. refl)
+    form_read (record { form = zc_syntax; command = in_options zc_of }) words (λ rows. refl)
     (several_read (codes "zc") zc_syntax.options (sub 1) zc_enters words (codes "OBJ") zc_leaf zc_words few) _ refl
 
 -- `run`
@@ -148,9 +148,9 @@ run_words : SingleFits (sub 2).rules 1 (codes "IMAGE")
 unfolding built_app sub program_app clap_on_literals
 run_words = record { by_index = refl; by_id = refl }
 
-run_read : (words : List Text) → ReadsForm words (record { form = run_syntax; command = run_of })
+run_read : (words : List Text) → ReadsForm words (record { form = run_syntax; command = in_options run_of })
 run_read words =
-    form_read (record { form = run_syntax; command = run_of }) words (λ rows. refl)
+    form_read (record { form = run_syntax; command = in_options run_of }) words (λ rows. refl)
     (one_read (codes "run") run_syntax.options (sub 2) run_enters words (codes "IMAGE") run_leaf run_words) _ refl
 
 -- `trace`
@@ -166,9 +166,9 @@ trace_words : SeveralFits (sub 3).rules (codes "OBJ")
 unfolding built_app sub program_app clap_on_literals
 trace_words = record { by_index = refl; by_id = refl }
 
-trace_read : (words : List Text) → length words ≤ usize_max → ReadsForm words (record { form = trace_syntax; command = trace_of })
+trace_read : (words : List Text) → length words ≤ usize_max → ReadsForm words (record { form = trace_syntax; command = in_options trace_of })
 trace_read words few =
-    form_read (record { form = trace_syntax; command = trace_of }) words (λ rows. refl)
+    form_read (record { form = trace_syntax; command = in_options trace_of }) words (λ rows. refl)
     (several_read (codes "trace") trace_syntax.options (sub 3) trace_enters words (codes "OBJ") trace_leaf trace_words few) _ refl
 
 -- `check`
@@ -220,9 +220,9 @@ gc_words : SeveralFits (sub 6).rules (codes "OBJ")
 unfolding built_app sub program_app clap_on_literals
 gc_words = record { by_index = refl; by_id = refl }
 
-gc_read : (words : List Text) → length words ≤ usize_max → ReadsForm words (record { form = gc_syntax; command = gc_of })
+gc_read : (words : List Text) → length words ≤ usize_max → ReadsForm words (record { form = gc_syntax; command = in_options gc_of })
 gc_read words few =
-    form_read (record { form = gc_syntax; command = gc_of }) words (λ rows. refl)
+    form_read (record { form = gc_syntax; command = in_options gc_of }) words (λ rows. refl)
     (several_read (codes "gc") gc_syntax.options (sub 6) gc_enters words (codes "OBJ") gc_leaf gc_words few) _ refl
 
 -- `merge`
@@ -238,9 +238,9 @@ merge_words : SeveralFits (sub 7).rules (codes "OBJ")
 unfolding built_app sub program_app clap_on_literals
 merge_words = record { by_index = refl; by_id = refl }
 
-merge_read : (words : List Text) → length words ≤ usize_max → ReadsForm words (record { form = merge_syntax; command = merge_of })
+merge_read : (words : List Text) → length words ≤ usize_max → ReadsForm words (record { form = merge_syntax; command = in_options merge_of })
 merge_read words few =
-    form_read (record { form = merge_syntax; command = merge_of }) words (λ rows. refl)
+    form_read (record { form = merge_syntax; command = in_options merge_of }) words (λ rows. refl)
     (several_read (codes "merge") merge_syntax.options (sub 7) merge_enters words (codes "OBJ") merge_leaf merge_words few) _ refl
 
 -- `share`
@@ -256,9 +256,9 @@ share_words : SeveralFits (sub 8).rules (codes "OBJ")
 unfolding built_app sub program_app clap_on_literals
 share_words = record { by_index = refl; by_id = refl }
 
-share_read : (words : List Text) → length words ≤ usize_max → ReadsForm words (record { form = share_syntax; command = share_of })
+share_read : (words : List Text) → length words ≤ usize_max → ReadsForm words (record { form = share_syntax; command = in_options share_of })
 share_read words few =
-    form_read (record { form = share_syntax; command = share_of }) words (λ rows. refl)
+    form_read (record { form = share_syntax; command = in_options share_of }) words (λ rows. refl)
     (several_read (codes "share") share_syntax.options (sub 8) share_enters words (codes "OBJ") share_leaf share_words few) _ refl
 
 -- `list`
@@ -274,9 +274,9 @@ list_words : SingleFits (sub 9).rules 1 (codes "IMAGE")
 unfolding built_app sub program_app clap_on_literals
 list_words = record { by_index = refl; by_id = refl }
 
-list_read : (words : List Text) → ReadsForm words (record { form = list_syntax; command = listing_of })
+list_read : (words : List Text) → ReadsForm words (record { form = list_syntax; command = in_options listing_of })
 list_read words =
-    form_read (record { form = list_syntax; command = listing_of }) words (λ rows. refl)
+    form_read (record { form = list_syntax; command = in_options listing_of }) words (λ rows. refl)
     (one_read (codes "list") list_syntax.options (sub 9) list_enters words (codes "IMAGE") list_leaf list_words) _ refl
 
 -- ---- all commands

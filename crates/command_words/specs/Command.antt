@@ -1,5 +1,5 @@
 -- The command that the words of the command line are, by clap's own definition of how such a command reads words.
-use Rattle.std.specs.Prelude.{ℕ, ⊤, ◌-◌, ◌^◌, if◌then◌else◌, List, [], ◌∷◌, ◌++◌, map, find, Option, Some, None, String, unwrap_or}
+use Rattle.std.specs.Prelude.{ℕ, ⊤, ◌-◌, ◌^◌, if◌then◌else◌, List, [], ◌∷◌, ◌++◌, length, take, drop, map, find, Option, Some, None, String, unwrap_or}
 use Rattle.std.specs.Option.{option_and_then, option_copied, option_map}
 use Rattle.std.specs.Str.{bytes_eq}
 use Rattle.std.specs.String.{string_bytes}
@@ -8,11 +8,13 @@ use Rattle.clap.specs.Kinds.{Kinds}
 use Rattle.clap.specs.Simple.{App, subcommand_of}
 use Rattle.clap.specs.Walk.{Row, Text, all_of, first_of}
 use Rattle.zc_base.specs.MemMap.{IsMap}
+use Rattle.zc_base.specs.Options.{Options}
 use Rattle.zc_base.specs.declared.mem_map.MemMap.{MemMap}
 use Rattle.command_words.specs.declared.command_line.TheConstants.{MOST_FUNCTIONS, MOST_STEPS, USUAL_STEPS}
 use Rattle.command_words.specs.declared.command_line.CommandLine.{CommandLine}
 use Rattle.command_words.specs.declared.command_line.CommandLine.TheVariants as line
 use Rattle.command_words.specs.declared.command_line.GcArgs.{GcArgs}
+use Rattle.command_words.specs.declared.command_line.ListArgs.{ListArgs}
 use Rattle.command_words.specs.declared.command_line.MakeArgs.{MakeArgs}
 use Rattle.command_words.specs.declared.command_line.MergeArgs.{MergeArgs}
 use Rattle.command_words.specs.declared.command_line.PlainArgs.{PlainArgs}
@@ -20,22 +22,22 @@ use Rattle.command_words.specs.declared.command_line.RunArgs.{RunArgs}
 use Rattle.command_words.specs.declared.command_line.ShareArgs.{ShareArgs}
 use Rattle.command_words.specs.declared.command_line.TraceArgs.{TraceArgs}
 use Rattle.command_words.specs.declared.command_line.ZcArgs.{ZcArgs}
-use Rattle.command_words.specs.MapWords.{map_given}
+use Rattle.command_words.specs.LinkWords.{options_given}
 use Rattle.command_words.specs.Number.{number_up_to}
-use Rattle.command_words.specs.Table.{OptionSyntax, PositionalSyntax, Syntax, check_syntax, gc_syntax, list_syntax, make_syntax, merge_syntax, plain_syntax, program_app, run_syntax, share_syntax, trace_syntax, zc_syntax}
+use Rattle.command_words.specs.Table.{OptionSyntax, PositionalSyntax, Syntax, check_syntax, gc_syntax, link_options, list_syntax, make_syntax, merge_syntax, plain_syntax, program_app, run_syntax, share_syntax, trace_syntax, zc_syntax}
 
--- a command, with the memory map that it works in, the names of its files, and its numbers
+-- a command, with the options of its link or the memory map that it works in, the names of its files, and its numbers
 pub data Command : Type 0 where
-  Plain : (map : MemMap) (out : Text) (objects : List Text) → Command
-  Zc : (map : MemMap) (out cert : Text) (objects : List Text) → Command
+  Plain : (options : Options) (out : Text) (objects : List Text) → Command
+  Zc : (options : Options) (out cert : Text) (objects : List Text) → Command
   Run : (map : MemMap) (devices plan : Option Text) (steps : ℕ) (image : Text) → Command
-  Trace : (map : MemMap) (devices : Option Text) (steps : ℕ) (objects : List Text) → Command
+  Trace : (options : Options) (devices : Option Text) (steps : ℕ) (objects : List Text) → Command
   Check : (cert : Text) → Command
   Make : (prefix : Option Text) (number functions : ℕ) → Command
-  Gc : (prefix : Text) (objects : List Text) → Command
-  Merge : (prefix : Text) (objects : List Text) → Command
-  Share : (out plan : Text) (steps : ℕ) (objects : List Text) → Command
-  Listing : (image : Text) → Command
+  Gc : (options : Options) (prefix : Text) (objects : List Text) → Command
+  Merge : (options : Options) (prefix : Text) (objects : List Text) → Command
+  Share : (options : Options) (out plan : Text) (steps : ℕ) (objects : List Text) → Command
+  Listing : (map : MemMap) (image : Text) → Command
 
 -- ---- what clap reads
 
@@ -79,29 +81,34 @@ abbrev pub steps_given : Option Text → Option ℕ
 steps_given (Some word) = number_up_to MOST_STEPS word
 steps_given None = Some USUAL_STEPS
 
--- `plain` of its objects, in the map of its options
-abbrev pub plain_of : Spelled → Option Command
-plain_of (Words (text ∷ low ∷ stack ∷ Some out ∷ []) objects) =
-    option_map (λ memory. Plain memory out objects) (map_given text low stack)
-plain_of other = None
+-- a command under the options of the first values, by the others
+abbrev pub in_options : (Options → Spelled → Option Command) → Spelled → Option Command
+in_options command (Words values words) =
+    option_and_then (λ options. command options (Words (drop (length link_options) values) words))
+    (options_given (take (length link_options) values))
 
--- `zc` of its objects in that map; OUT and CERT differ
-abbrev pub zc_of : Spelled → Option Command
-zc_of (Words (text ∷ low ∷ stack ∷ Some out ∷ Some cert ∷ []) objects) =
-    if bytes_eq out cert then None else option_map (λ memory. Zc memory out cert objects) (map_given text low stack)
-zc_of other = None
+-- `plain` of its objects
+abbrev pub plain_of : Options → Spelled → Option Command
+plain_of options (Words (Some out ∷ []) objects) = Some (Plain options out objects)
+plain_of options other = None
 
--- `run` of its image in that map, with the devices and under the plan, if there are any
-abbrev pub run_of : Spelled → Option Command
-run_of (Words (text ∷ low ∷ stack ∷ devices ∷ plan ∷ steps ∷ []) (image ∷ [])) =
-    option_and_then (λ memory. option_map (λ n. Run memory devices plan n image) (steps_given steps)) (map_given text low stack)
-run_of other = None
+-- `zc` of its objects; OUT and CERT differ
+abbrev pub zc_of : Options → Spelled → Option Command
+zc_of options (Words (Some out ∷ Some cert ∷ []) objects) =
+    if bytes_eq out cert then None else Some (Zc options out cert objects)
+zc_of options other = None
 
--- `trace` of its objects in that map, with the devices if there are any
-abbrev pub trace_of : Spelled → Option Command
-trace_of (Words (text ∷ low ∷ stack ∷ devices ∷ steps ∷ []) objects) =
-    option_and_then (λ memory. option_map (λ n. Trace memory devices n objects) (steps_given steps)) (map_given text low stack)
-trace_of other = None
+-- `run` of its image, with the devices and under the plan, if there are any; no names make a difference to it
+abbrev pub run_of : Options → Spelled → Option Command
+run_of options (Words (devices ∷ plan ∷ steps ∷ []) (image ∷ [])) =
+    option_map (λ n. Run options.map devices plan n image) (steps_given steps)
+run_of options other = None
+
+-- `trace` of its objects, with the devices if there are any
+abbrev pub trace_of : Options → Spelled → Option Command
+trace_of options (Words (devices ∷ steps ∷ []) objects) =
+    option_map (λ n. Trace options devices n objects) (steps_given steps)
+trace_of options other = None
 
 -- `check` of its certificate
 abbrev pub check_of : Spelled → Option Command
@@ -116,24 +123,25 @@ make_of (Words (prefix ∷ []) (number ∷ functions ∷ [])) =
 make_of other = None
 
 -- `gc` of its objects
-abbrev pub gc_of : Spelled → Option Command
-gc_of (Words (Some prefix ∷ []) objects) = Some (Gc prefix objects)
-gc_of other = None
+abbrev pub gc_of : Options → Spelled → Option Command
+gc_of options (Words (Some prefix ∷ []) objects) = Some (Gc options prefix objects)
+gc_of options other = None
 
 -- `merge` of its objects
-abbrev pub merge_of : Spelled → Option Command
-merge_of (Words (Some prefix ∷ []) objects) = Some (Merge prefix objects)
-merge_of other = None
+abbrev pub merge_of : Options → Spelled → Option Command
+merge_of options (Words (Some prefix ∷ []) objects) = Some (Merge options prefix objects)
+merge_of options other = None
 
 -- `share` of its objects, under its plan
-abbrev pub share_of : Spelled → Option Command
-share_of (Words (Some out ∷ Some plan ∷ steps ∷ []) objects) = option_map (λ n. Share out plan n objects) (steps_given steps)
-share_of other = None
+abbrev pub share_of : Options → Spelled → Option Command
+share_of options (Words (Some out ∷ Some plan ∷ steps ∷ []) objects) =
+    option_map (λ n. Share options out plan n objects) (steps_given steps)
+share_of options other = None
 
--- `list` of its image
-abbrev pub listing_of : Spelled → Option Command
-listing_of (Words [] (image ∷ [])) = Some (Listing image)
-listing_of other = None
+-- `list` of its image; no names make a difference to it
+abbrev pub listing_of : Options → Spelled → Option Command
+listing_of options (Words [] (image ∷ [])) = Some (Listing options.map image)
+listing_of options other = None
 
 -- a command's syntax, and which command it is with these words
 pub record Meaning : Type 0 where
@@ -142,11 +150,16 @@ pub record Meaning : Type 0 where
 
 abbrev pub meanings : List Meaning
 meanings =
-    record { form = plain_syntax; command = plain_of } ∷ record { form = zc_syntax; command = zc_of }
-    ∷ record { form = run_syntax; command = run_of } ∷ record { form = trace_syntax; command = trace_of }
-    ∷ record { form = check_syntax; command = check_of } ∷ record { form = make_syntax; command = make_of }
-    ∷ record { form = gc_syntax; command = gc_of } ∷ record { form = merge_syntax; command = merge_of }
-    ∷ record { form = share_syntax; command = share_of } ∷ record { form = list_syntax; command = listing_of } ∷ []
+    record { form = plain_syntax; command = in_options plain_of }
+    ∷ record { form = zc_syntax; command = in_options zc_of }
+    ∷ record { form = run_syntax; command = in_options run_of }
+    ∷ record { form = trace_syntax; command = in_options trace_of }
+    ∷ record { form = check_syntax; command = check_of }
+    ∷ record { form = make_syntax; command = make_of }
+    ∷ record { form = gc_syntax; command = in_options gc_of }
+    ∷ record { form = merge_syntax; command = in_options merge_of }
+    ∷ record { form = share_syntax; command = in_options share_of }
+    ∷ record { form = list_syntax; command = in_options listing_of } ∷ []
 
 -- the meaning of a command's name
 abbrev pub meaning_named : Text → Option Meaning
@@ -168,11 +181,11 @@ texts words = map string_bytes words
 
 -- the command that the words of `plain` mean
 abbrev pub plain_meant : PlainArgs → Command
-plain_meant args = Plain args.map args.out.now (texts args.objects.items)
+plain_meant args = Plain args.options args.out.now (texts args.objects.items)
 
 -- the command that the words of `zc` mean
 abbrev pub zc_meant : ZcArgs → Command
-zc_meant args = Zc args.map args.out.now args.cert.now (texts args.objects.items)
+zc_meant args = Zc args.options args.out.now args.cert.now (texts args.objects.items)
 
 -- the command that the words of `run` mean
 abbrev pub run_meant : RunArgs → Command
@@ -180,7 +193,7 @@ run_meant args = Run args.map (option_copied args.devices) (option_copied args.p
 
 -- the command that the words of `trace` mean
 abbrev pub trace_meant : TraceArgs → Command
-trace_meant args = Trace args.map (option_copied args.devices) args.steps (texts args.objects.items)
+trace_meant args = Trace args.options (option_copied args.devices) args.steps (texts args.objects.items)
 
 -- the command that the words of `make` mean
 abbrev pub make_meant : MakeArgs → Command
@@ -188,15 +201,19 @@ make_meant args = Make (option_copied args.prefix) args.number args.functions
 
 -- the command that the words of `gc` mean
 abbrev pub gc_meant : GcArgs → Command
-gc_meant args = Gc args.prefix.now (texts args.objects.items)
+gc_meant args = Gc args.options args.prefix.now (texts args.objects.items)
 
 -- the command that the words of `merge` mean
 abbrev pub merge_meant : MergeArgs → Command
-merge_meant args = Merge args.prefix.now (texts args.objects.items)
+merge_meant args = Merge args.options args.prefix.now (texts args.objects.items)
 
 -- the command that the words of `share` mean
 abbrev pub share_meant : ShareArgs → Command
-share_meant args = Share args.out.now args.plan.now args.steps (texts args.objects.items)
+share_meant args = Share args.options args.out.now args.plan.now args.steps (texts args.objects.items)
+
+-- the command that the words of `list` mean
+abbrev pub list_meant : ListArgs → Command
+list_meant args = Listing args.map args.image.now
 
 -- a command
 abbrev pub meant_command : CommandLine → Command
@@ -209,17 +226,17 @@ meant_command (line.Make args) = make_meant args
 meant_command (line.Gc args) = gc_meant args
 meant_command (line.Merge args) = merge_meant args
 meant_command (line.Share args) = share_meant args
-meant_command (line.List image) = Listing image.now
+meant_command (line.List args) = list_meant args
 
 -- a command's map, if it has one, is one that a link may be made for
 abbrev pub HasMap : CommandLine → Type 0
-HasMap (line.Plain args) = IsMap args.map
-HasMap (line.Zc args) = IsMap args.map
+HasMap (line.Plain args) = IsMap args.options.map
+HasMap (line.Zc args) = IsMap args.options.map
 HasMap (line.Run args) = IsMap args.map
-HasMap (line.Trace args) = IsMap args.map
+HasMap (line.Trace args) = IsMap args.options.map
 HasMap (line.Check cert) = ⊤
 HasMap (line.Make args) = ⊤
-HasMap (line.Gc args) = ⊤
-HasMap (line.Merge args) = ⊤
-HasMap (line.Share args) = ⊤
-HasMap (line.List image) = ⊤
+HasMap (line.Gc args) = IsMap args.options.map
+HasMap (line.Merge args) = IsMap args.options.map
+HasMap (line.Share args) = IsMap args.options.map
+HasMap (line.List args) = IsMap args.map

@@ -2,5 +2,6 @@
 pub mod Table
 pub mod Number
 pub mod MapWords
+pub mod LinkWords
 pub mod Command
 pub mod PlainForm

@@ -41,39 +41,46 @@ one name = record { name = name; several = false }
 abbrev pub several : Text → PositionalSyntax
 several name = record { name = name; several = true }
 
--- `[--text A] [--data A] [--stack A]`, before other options
-abbrev pub with_map : List OptionSyntax → List OptionSyntax
-with_map options = optional (codes "text") ∷ optional (codes "data") ∷ optional (codes "stack") ∷ options
+-- the options for where the program lies and what the chip has
+abbrev pub map_options : List OptionSyntax
+map_options =
+    optional (codes "text") ∷ optional (codes "data") ∷ optional (codes "stack-low") ∷ optional (codes "stack")
+    ∷ optional (codes "extensions") ∷ []
 
--- `plain [--text A] [--data A] [--stack A] --out OUT OBJ...`
+-- these, and the one for the sections of code that stay as they are; they stand before a command's other options. LINK
+-- is `[--text A] [--data A] [--stack-low A] [--stack A] [--extensions WORD] [--fixed NAMES]`
+abbrev pub link_options : List OptionSyntax
+link_options = map_options ++ optional (codes "fixed") ∷ []
+
+-- `plain LINK --out OUT OBJ...`
 abbrev pub plain_syntax : Syntax
 plain_syntax = record {
   name = codes "plain";
-  options = with_map (required (codes "out") ∷ []);
+  options = link_options ++ required (codes "out") ∷ [];
   positionals = several (codes "OBJ") ∷ [];
 }
 
--- `zc [--text A] [--data A] [--stack A] --out OUT --cert CERT OBJ...`
+-- `zc LINK --out OUT --cert CERT OBJ...`
 abbrev pub zc_syntax : Syntax
 zc_syntax = record {
   name = codes "zc";
-  options = with_map (required (codes "out") ∷ required (codes "cert") ∷ []);
+  options = link_options ++ required (codes "out") ∷ required (codes "cert") ∷ [];
   positionals = several (codes "OBJ") ∷ [];
 }
 
--- `run [--text A] [--data A] [--stack A] [--devices DEVICES] [--plan PLAN] [--steps N] IMAGE`
+-- `run LINK [--devices DEVICES] [--plan PLAN] [--steps N] IMAGE`
 abbrev pub run_syntax : Syntax
 run_syntax = record {
   name = codes "run";
-  options = with_map (optional (codes "devices") ∷ optional (codes "plan") ∷ optional (codes "steps") ∷ []);
+  options = link_options ++ optional (codes "devices") ∷ optional (codes "plan") ∷ optional (codes "steps") ∷ [];
   positionals = one (codes "IMAGE") ∷ [];
 }
 
--- `trace [--text A] [--data A] [--stack A] [--devices DEVICES] [--steps N] OBJ...`
+-- `trace LINK [--devices DEVICES] [--steps N] OBJ...`
 abbrev pub trace_syntax : Syntax
 trace_syntax = record {
   name = codes "trace";
-  options = with_map (optional (codes "devices") ∷ optional (codes "steps") ∷ []);
+  options = link_options ++ optional (codes "devices") ∷ optional (codes "steps") ∷ [];
   positionals = several (codes "OBJ") ∷ [];
 }
 
@@ -89,25 +96,33 @@ make_syntax = record {
   positionals = one (codes "NUMBER") ∷ one (codes "FUNCTIONS") ∷ [];
 }
 
--- `gc --out PREFIX OBJ...`
+-- `gc LINK --out PREFIX OBJ...`
 abbrev pub gc_syntax : Syntax
-gc_syntax = record { name = codes "gc"; options = required (codes "out") ∷ []; positionals = several (codes "OBJ") ∷ [] }
-
--- `merge --out PREFIX OBJ...`
-abbrev pub merge_syntax : Syntax
-merge_syntax = record { name = codes "merge"; options = required (codes "out") ∷ []; positionals = several (codes "OBJ") ∷ [] }
-
--- `share --out OUT --plan PLAN [--steps N] OBJ...`
-abbrev pub share_syntax : Syntax
-share_syntax = record {
-  name = codes "share";
-  options = required (codes "out") ∷ required (codes "plan") ∷ optional (codes "steps") ∷ [];
+gc_syntax = record {
+  name = codes "gc";
+  options = link_options ++ required (codes "out") ∷ [];
   positionals = several (codes "OBJ") ∷ [];
 }
 
--- `list IMAGE`
+-- `merge LINK --out PREFIX OBJ...`
+abbrev pub merge_syntax : Syntax
+merge_syntax = record {
+  name = codes "merge";
+  options = link_options ++ required (codes "out") ∷ [];
+  positionals = several (codes "OBJ") ∷ [];
+}
+
+-- `share LINK --out OUT --plan PLAN [--steps N] OBJ...`
+abbrev pub share_syntax : Syntax
+share_syntax = record {
+  name = codes "share";
+  options = link_options ++ required (codes "out") ∷ required (codes "plan") ∷ optional (codes "steps") ∷ [];
+  positionals = several (codes "OBJ") ∷ [];
+}
+
+-- `list LINK IMAGE`
 abbrev pub list_syntax : Syntax
-list_syntax = record { name = codes "list"; options = []; positionals = one (codes "IMAGE") ∷ [] }
+list_syntax = record { name = codes "list"; options = link_options; positionals = one (codes "IMAGE") ∷ [] }
 
 -- all commands
 abbrev pub commands : List Syntax

@@ -1,6 +1,10 @@
-// A command with its memory map, its files and its numbers, as the words say.
+// A command with the options of its link or its memory map, its files and its numbers, as the words say.
 
+use zc_base::link_options::LinkOptions;
 use zc_base::mem_map::MemMap;
+
+/// The bytes of the stack if no word says where it begins.
+pub const USUAL_STACK: u32 = 0x0010_0000;
 
 /// The most steps that a word may allow.
 pub const MOST_STEPS: u64 = 1_000_000_000;
@@ -11,19 +15,19 @@ pub const USUAL_STEPS: u64 = 10_000_000;
 /// The most functions that a word may ask for: as many as `load_maker` makes at most.
 pub const MOST_FUNCTIONS: u64 = 1_600;
 
-/// What `plain` links: the objects, at least one, to an image of the map under the name `out`.
+/// What `plain` links: the objects, at least one, under the options, to an image under the name `out`.
 #[derive(Drop)]
 pub struct PlainArgs<'a> {
-    pub map: MemMap,
+    pub options: LinkOptions,
     pub out: &'a str,
     pub objects: Vec<String>,
 }
 
-/// What `zc` links: the objects, at least one, to an image of the map under the name `out`, with the certificate of
-/// its table under `cert`. The two names differ.
+/// What `zc` links: the objects, at least one, under the options, to an image under the name `out`, with the
+/// certificate of its table under `cert`. The two names differ.
 #[derive(Drop)]
 pub struct ZcArgs<'a> {
-    pub map: MemMap,
+    pub options: LinkOptions,
     pub out: &'a str,
     pub cert: &'a str,
     pub objects: Vec<String>,
@@ -40,11 +44,11 @@ pub struct RunArgs<'a> {
     pub image: &'a str,
 }
 
-/// What `trace` runs: the objects, at least one, with data and stack in the map, and the devices under a name if there
-/// are any, for at most `steps` steps.
+/// What `trace` runs: the objects, at least one, under the options, and the devices under a name if there are any, for
+/// at most `steps` steps.
 #[derive(Drop)]
 pub struct TraceArgs<'a> {
-    pub map: MemMap,
+    pub options: LinkOptions,
     pub devices: Option<&'a str>,
     pub steps: u64,
     pub objects: Vec<String>,
@@ -59,30 +63,40 @@ pub struct MakeArgs<'a> {
     pub functions: u32,
 }
 
-/// What `gc` leaves the code out of that nothing reaches: the objects, at least one. The names of the files that it puts
-/// begin with the prefix.
+/// What `gc` leaves the code out of that nothing reaches: the objects, at least one, of a program under the options.
+/// The names of the files that it puts begin with the prefix.
 #[derive(Drop)]
 pub struct GcArgs<'a> {
+    pub options: LinkOptions,
     pub prefix: &'a str,
     pub objects: Vec<String>,
 }
 
-/// What `merge` shares equal ends of functions in: the objects, at least one. The names of the files that it puts begin
-/// with the prefix.
+/// What `merge` shares equal ends of functions in: the objects, at least one, of a program under the options. The names
+/// of the files that it puts begin with the prefix.
 #[derive(Drop)]
 pub struct MergeArgs<'a> {
+    pub options: LinkOptions,
     pub prefix: &'a str,
     pub objects: Vec<String>,
 }
 
-/// What `share` links and runs: the objects, at least one, to an image under the name `out`, under the plan of interrupts
-/// that also write shared data, for at most `steps` commits.
+/// What `share` links and runs: the objects, at least one, under the options, to an image under the name `out`, which
+/// runs under the plan of interrupts that also write shared data, for at most `steps` commits.
 #[derive(Drop)]
 pub struct ShareArgs<'a> {
+    pub options: LinkOptions,
     pub out: &'a str,
     pub plan: &'a str,
     pub steps: u64,
     pub objects: Vec<String>,
+}
+
+/// What `list` lists: an image that lies in the map.
+#[derive(Clone, Copy)]
+pub struct ListArgs<'a> {
+    pub map: MemMap,
+    pub image: &'a str,
 }
 
 /// A command, with the names of its files.
@@ -97,5 +111,5 @@ pub enum CommandLine<'a> {
     Gc(GcArgs<'a>),
     Merge(MergeArgs<'a>),
     Share(ShareArgs<'a>),
-    List { image: &'a str },
+    List(ListArgs<'a>),
 }

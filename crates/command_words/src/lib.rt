@@ -3,6 +3,7 @@
 
 mod app;
 pub mod command_line;
+mod names;
 mod number;
 pub mod read;
 mod table;

@@ -1,26 +1,31 @@
 // The command that words are.
 
-ghost use Rattle.std.specs.Prelude.{◌≡◌, IfOk, IfSome, [], codes, map, option_map, unwrap_or};
+ghost use Rattle.std.specs.Prelude.{◌≡◌, IfOk, IfSome, Some, [], codes, map, option_map, unwrap_or};
 ghost use Rattle.std.specs.Option.{option_and_then, option_copied};
 ghost use Rattle.clap.specs.Matches.{found_of};
 ghost use Rattle.clap.specs.Simple.{subcommand_rows_of};
 ghost use Rattle.clap.specs.Walk.{all_of, first_of, rows_of};
-ghost use Rattle.command_words.specs.Command.{HasMap, check_of, command_of, found_in, gc_of, listing_of, make_of, meaning, meant_command, merge_of, plain_of, read_by_clap, run_of, share_of, steps_given, texts, trace_of, zc_of};
-ghost use Rattle.command_words.specs.MapWords.{address_given, map_given};
+ghost use Rattle.command_words.specs.Command.{HasMap, check_of, command_of, found_in, gc_of, in_options, listing_of, make_of, meaning, meant_command, merge_of, plain_of, read_by_clap, run_of, share_of, steps_given, texts, trace_of, values_in, zc_of};
+ghost use Rattle.command_words.specs.LinkWords.{names_given, options_given};
+ghost use Rattle.command_words.specs.MapWords.{address_given, extensions_given, map_given};
 ghost use Rattle.command_words.specs.PlainForm.{IsReadAsPlain};
-ghost use Rattle.command_words.specs.Table.{check_syntax, gc_syntax, list_syntax, make_syntax, merge_syntax, plain_syntax, program_app, run_syntax, share_syntax, trace_syntax, zc_syntax};
+ghost use Rattle.command_words.specs.Table.{check_syntax, gc_syntax, link_options, list_syntax, make_syntax, map_options, merge_syntax, plain_syntax, program_app, run_syntax, share_syntax, trace_syntax, zc_syntax};
 ghost use Rattle.zc_base.specs.MemMap.{IsMap};
+ghost use Rattle.zc_base.specs.Options.{listed_names};
 
 use crate::app::program_app;
 use crate::command_line::{
-    CommandLine, GcArgs, MOST_FUNCTIONS, MOST_STEPS, MakeArgs, MergeArgs, PlainArgs, RunArgs,
-    ShareArgs, TraceArgs, USUAL_STEPS, ZcArgs,
+    CommandLine, GcArgs, ListArgs, MOST_FUNCTIONS, MOST_STEPS, MakeArgs, MergeArgs, PlainArgs,
+    RunArgs, ShareArgs, TraceArgs, USUAL_STACK, USUAL_STEPS, ZcArgs,
 };
+use crate::names::names_in;
 use crate::number::number_in;
 use clap::ArgMatches;
 use clap::error::ErrorKind;
 use std::alloc::{AllocError, Global};
 use text_lines::hex::read_hex_word;
+use zc_base::extensions::Extensions;
+use zc_base::link_options::LinkOptions;
 use zc_base::mem_map::MemMap;
 
 /// The command that the words are, if they are one. The words are those after the program's own name. Memory may run
@@ -77,40 +82,44 @@ fn by_name<'a>(
     match name {
         "plain" => plain(alloc, found),
         "zc" => zc(alloc, found),
-        "run" => Ok(run(found)),
+        "run" => run(alloc, found),
         "trace" => trace(alloc, found),
         "check" => Ok(check(found)),
         "make" => Ok(make(found)),
         "gc" => gc(alloc, found),
         "merge" => merge(alloc, found),
         "share" => share(alloc, found),
-        "list" => Ok(list(found)),
+        "list" => list(alloc, found),
         _ => Ok(None),
     }
 }
 
 fn plain<'a>(alloc: Global, found: &ArgMatches<'a>) -> Result<Option<CommandLine<'a>>, AllocError>
     ensures spells { IfOk result (λ c.
-        option_map meant_command c ≡ plain_of (found_in plain_syntax (rows_of (found_of found.now)))) }
+        option_map meant_command c ≡ in_options plain_of (found_in plain_syntax (rows_of (found_of found.now)))) }
     ensures maps { IfOk result (λ c. IfSome c HasMap) }
 {
-    let Some(map) = given_map(found) else {
+    let Some(options) = given_options(alloc, found)? else {
         return Ok(None);
     };
     let Some(out) = value(found, "out") else {
         return Ok(None);
     };
     let objects = object_names(alloc, found)?;
-    Ok(Some(CommandLine::Plain(PlainArgs { map, out, objects })))
+    Ok(Some(CommandLine::Plain(PlainArgs {
+        options,
+        out,
+        objects,
+    })))
 }
 
 // `zc`, unless the two files that it writes are one.
 fn zc<'a>(alloc: Global, found: &ArgMatches<'a>) -> Result<Option<CommandLine<'a>>, AllocError>
     ensures spells { IfOk result (λ c.
-        option_map meant_command c ≡ zc_of (found_in zc_syntax (rows_of (found_of found.now)))) }
+        option_map meant_command c ≡ in_options zc_of (found_in zc_syntax (rows_of (found_of found.now)))) }
     ensures maps { IfOk result (λ c. IfSome c HasMap) }
 {
-    let Some(map) = given_map(found) else {
+    let Some(options) = given_options(alloc, found)? else {
         return Ok(None);
     };
     let Some(out) = value(found, "out") else {
@@ -124,35 +133,42 @@ fn zc<'a>(alloc: Global, found: &ArgMatches<'a>) -> Result<Option<CommandLine<'a
     }
     let objects = object_names(alloc, found)?;
     Ok(Some(CommandLine::Zc(ZcArgs {
-        map,
+        options,
         out,
         cert,
         objects,
     })))
 }
 
-fn run<'a>(found: &ArgMatches<'a>) -> Option<CommandLine<'a>>
-    ensures spells { option_map meant_command result ≡ run_of (found_in run_syntax (rows_of (found_of found.now))) }
-    ensures maps { IfSome result HasMap }
+fn run<'a>(alloc: Global, found: &ArgMatches<'a>) -> Result<Option<CommandLine<'a>>, AllocError>
+    ensures spells { IfOk result (λ c.
+        option_map meant_command c ≡ in_options run_of (found_in run_syntax (rows_of (found_of found.now)))) }
+    ensures maps { IfOk result (λ c. IfSome c HasMap) }
 {
-    let map = given_map(found)?;
-    let image = value(found, "IMAGE")?;
-    let steps = allowed_steps(found)?;
-    Some(CommandLine::Run(RunArgs {
-        map,
+    let Some(options) = given_options(alloc, found)? else {
+        return Ok(None);
+    };
+    let Some(image) = value(found, "IMAGE") else {
+        return Ok(None);
+    };
+    let Some(steps) = allowed_steps(found) else {
+        return Ok(None);
+    };
+    Ok(Some(CommandLine::Run(RunArgs {
+        map: options.map(),
         devices: value(found, "devices"),
         plan: value(found, "plan"),
         steps,
         image,
-    }))
+    })))
 }
 
 fn trace<'a>(alloc: Global, found: &ArgMatches<'a>) -> Result<Option<CommandLine<'a>>, AllocError>
     ensures spells { IfOk result (λ c.
-        option_map meant_command c ≡ trace_of (found_in trace_syntax (rows_of (found_of found.now)))) }
+        option_map meant_command c ≡ in_options trace_of (found_in trace_syntax (rows_of (found_of found.now)))) }
     ensures maps { IfOk result (λ c. IfSome c HasMap) }
 {
-    let Some(map) = given_map(found) else {
+    let Some(options) = given_options(alloc, found)? else {
         return Ok(None);
     };
     let Some(steps) = allowed_steps(found) else {
@@ -160,7 +176,7 @@ fn trace<'a>(alloc: Global, found: &ArgMatches<'a>) -> Result<Option<CommandLine
     };
     let objects = object_names(alloc, found)?;
     Ok(Some(CommandLine::Trace(TraceArgs {
-        map,
+        options,
         devices: value(found, "devices"),
         steps,
         objects,
@@ -190,33 +206,50 @@ fn make<'a>(found: &ArgMatches<'a>) -> Option<CommandLine<'a>>
 
 fn gc<'a>(alloc: Global, found: &ArgMatches<'a>) -> Result<Option<CommandLine<'a>>, AllocError>
     ensures spells { IfOk result (λ c.
-        option_map meant_command c ≡ gc_of (found_in gc_syntax (rows_of (found_of found.now)))) }
+        option_map meant_command c ≡ in_options gc_of (found_in gc_syntax (rows_of (found_of found.now)))) }
     ensures maps { IfOk result (λ c. IfSome c HasMap) }
 {
+    let Some(options) = given_options(alloc, found)? else {
+        return Ok(None);
+    };
     let Some(prefix) = value(found, "out") else {
         return Ok(None);
     };
     let objects = object_names(alloc, found)?;
-    Ok(Some(CommandLine::Gc(GcArgs { prefix, objects })))
+    Ok(Some(CommandLine::Gc(GcArgs {
+        options,
+        prefix,
+        objects,
+    })))
 }
 
 fn merge<'a>(alloc: Global, found: &ArgMatches<'a>) -> Result<Option<CommandLine<'a>>, AllocError>
     ensures spells { IfOk result (λ c.
-        option_map meant_command c ≡ merge_of (found_in merge_syntax (rows_of (found_of found.now)))) }
+        option_map meant_command c ≡ in_options merge_of (found_in merge_syntax (rows_of (found_of found.now)))) }
     ensures maps { IfOk result (λ c. IfSome c HasMap) }
 {
+    let Some(options) = given_options(alloc, found)? else {
+        return Ok(None);
+    };
     let Some(prefix) = value(found, "out") else {
         return Ok(None);
     };
     let objects = object_names(alloc, found)?;
-    Ok(Some(CommandLine::Merge(MergeArgs { prefix, objects })))
+    Ok(Some(CommandLine::Merge(MergeArgs {
+        options,
+        prefix,
+        objects,
+    })))
 }
 
 fn share<'a>(alloc: Global, found: &ArgMatches<'a>) -> Result<Option<CommandLine<'a>>, AllocError>
     ensures spells { IfOk result (λ c.
-        option_map meant_command c ≡ share_of (found_in share_syntax (rows_of (found_of found.now)))) }
+        option_map meant_command c ≡ in_options share_of (found_in share_syntax (rows_of (found_of found.now)))) }
     ensures maps { IfOk result (λ c. IfSome c HasMap) }
 {
+    let Some(options) = given_options(alloc, found)? else {
+        return Ok(None);
+    };
     let Some(out) = value(found, "out") else {
         return Ok(None);
     };
@@ -228,6 +261,7 @@ fn share<'a>(alloc: Global, found: &ArgMatches<'a>) -> Result<Option<CommandLine
     };
     let objects = object_names(alloc, found)?;
     Ok(Some(CommandLine::Share(ShareArgs {
+        options,
         out,
         plan,
         steps,
@@ -235,25 +269,98 @@ fn share<'a>(alloc: Global, found: &ArgMatches<'a>) -> Result<Option<CommandLine
     })))
 }
 
-fn list<'a>(found: &ArgMatches<'a>) -> Option<CommandLine<'a>>
-    ensures spells { option_map meant_command result ≡ listing_of (found_in list_syntax (rows_of (found_of found.now))) }
-    ensures maps { IfSome result HasMap }
+fn list<'a>(alloc: Global, found: &ArgMatches<'a>) -> Result<Option<CommandLine<'a>>, AllocError>
+    ensures spells { IfOk result (λ c.
+        option_map meant_command c ≡ in_options listing_of (found_in list_syntax (rows_of (found_of found.now)))) }
+    ensures maps { IfOk result (λ c. IfSome c HasMap) }
 {
-    let image = value(found, "IMAGE")?;
-    Some(CommandLine::List { image })
+    let Some(options) = given_options(alloc, found)? else {
+        return Ok(None);
+    };
+    let Some(image) = value(found, "IMAGE") else {
+        return Ok(None);
+    };
+    Ok(Some(CommandLine::List(ListArgs {
+        map: options.map(),
+        image,
+    })))
 }
 
-// The memory map that the options give: a missing one has the standard map's address.
+// The options of a link that the words give.
+fn given_options(alloc: Global, found: &ArgMatches) -> Result<Option<LinkOptions>, AllocError>
+    ensures value { IfOk result (λ options.
+        options ≡ options_given (values_in link_options (rows_of (found_of found.now)))) }
+    ensures valid { IfOk result (λ options. IfSome options (λ o. IsMap o.map)) }
+{
+    let Some(map) = given_map(found) else {
+        return Ok(None);
+    };
+    let Some(fixed) = given_names(alloc, found)? else {
+        return Ok(None);
+    };
+    Ok(Some(LinkOptions::new(map, fixed)))
+}
+
+// The map that the options give: a missing one has the standard map's address, or leaves 1 MiB for the stack, or all
+// extensions.
 fn given_map(found: &ArgMatches) -> Option<MemMap>
-    ensures value { let rows = rows_of (found_of found.now) in result
-        ≡ map_given (first_of (codes "text") rows) (first_of (codes "data") rows) (first_of (codes "stack") rows) }
+    ensures value { result ≡ map_given (values_in map_options (rows_of (found_of found.now))) }
     ensures valid { IfSome result IsMap }
 {
     let usual = MemMap::standard();
     let text = address(found, "text", usual.text)?;
     let data_low = address(found, "data", usual.data_low)?;
-    let stack = address(found, "stack", usual.stack_high)?;
-    MemMap::checked(text, data_low, stack)
+    let stack_high = address(found, "stack", usual.stack_high)?;
+    let stack_low = address(found, "stack-low", stack_high.saturating_sub(USUAL_STACK))?;
+    let extensions = given_extensions(found)?;
+    let map = MemMap {
+        text,
+        data_low,
+        stack_low,
+        stack_high,
+        extensions,
+    };
+    MemMap::checked(map)
+}
+
+// The extensions that the option names, or all without it.
+fn given_extensions(found: &ArgMatches) -> Option<Extensions>
+    ensures { result ≡ extensions_given (first_of (codes "extensions") (rows_of (found_of found.now))) }
+{
+    match value(found, "extensions") {
+        Some(word) => named_extensions(word),
+        None => Some(Extensions::all()),
+    }
+}
+
+// The extensions that a word names.
+fn named_extensions(word: &str) -> Option<Extensions>
+    ensures { result ≡ extensions_given (Some word.now) }
+{
+    let (zcb, zcmp, zcmt) = match word {
+        "zca" => (false, false, false),
+        "zca_zcb" => (true, false, false),
+        "zca_zcmp" => (false, true, false),
+        "zca_zcmt" => (false, false, true),
+        "zca_zcb_zcmp" => (true, true, false),
+        "zca_zcb_zcmt" => (true, false, true),
+        "zca_zcmp_zcmt" => (false, true, true),
+        "zca_zcb_zcmp_zcmt" => (true, true, true),
+        _ => return None,
+    };
+    Some(Extensions { zcb, zcmp, zcmt })
+}
+
+// The names of fixed sections that the option gives: none without it.
+fn given_names(alloc: Global, found: &ArgMatches) -> Result<Option<Vec<Vec<u8>>>, AllocError>
+    ensures { IfOk result (λ names.
+        option_map (λ all. listed_names all.items) names
+        ≡ names_given (first_of (codes "fixed") (rows_of (found_of found.now)))) }
+{
+    match value(found, "fixed") {
+        Some(word) => names_in(alloc, word),
+        None => Ok(Some(Vec::new(alloc))),
+    }
 }
 
 // The address that an option says, or the usual one without it.

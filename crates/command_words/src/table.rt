@@ -1,4 +1,5 @@
-// The commands, a row each.
+// The commands, a row each. LINK is `[--text A] [--data A] [--stack-low A] [--stack A] [--extensions WORD]
+// [--fixed NAMES]`: where the program lies, what the chip has, and which sections of code stay as they are.
 
 /// An option, which takes one value: its name, and whether it must be given.
 pub struct OptionSyntax {
@@ -29,8 +30,23 @@ const DATA: OptionSyntax = OptionSyntax {
     required: false,
 };
 
+const STACK_LOW: OptionSyntax = OptionSyntax {
+    name: "stack-low",
+    required: false,
+};
+
 const STACK: OptionSyntax = OptionSyntax {
     name: "stack",
+    required: false,
+};
+
+const EXTENSIONS: OptionSyntax = OptionSyntax {
+    name: "extensions",
+    required: false,
+};
+
+const FIXED: OptionSyntax = OptionSyntax {
+    name: "fixed",
     required: false,
 };
 
@@ -94,31 +110,35 @@ const FUNCTIONS: PositionalSyntax = PositionalSyntax {
     several: false,
 };
 
-// `plain [--text A] [--data A] [--stack A] --out OUT OBJ...`
+// `plain LINK --out OUT OBJ...`
 const PLAIN: Syntax = Syntax {
     name: "plain",
-    options: &[TEXT, DATA, STACK, OUT],
+    options: &[TEXT, DATA, STACK_LOW, STACK, EXTENSIONS, FIXED, OUT],
     positionals: &[OBJECTS],
 };
 
-// `zc [--text A] [--data A] [--stack A] --out OUT --cert CERT OBJ...`
+// `zc LINK --out OUT --cert CERT OBJ...`
 const ZC: Syntax = Syntax {
     name: "zc",
-    options: &[TEXT, DATA, STACK, OUT, CERT],
+    options: &[TEXT, DATA, STACK_LOW, STACK, EXTENSIONS, FIXED, OUT, CERT],
     positionals: &[OBJECTS],
 };
 
-// `run [--text A] [--data A] [--stack A] [--devices DEVICES] [--plan PLAN] [--steps N] IMAGE`
+// `run LINK [--devices DEVICES] [--plan PLAN] [--steps N] IMAGE`
 const RUN: Syntax = Syntax {
     name: "run",
-    options: &[TEXT, DATA, STACK, DEVICES, PLAN, STEPS],
+    options: &[
+        TEXT, DATA, STACK_LOW, STACK, EXTENSIONS, FIXED, DEVICES, PLAN, STEPS,
+    ],
     positionals: &[IMAGE],
 };
 
-// `trace [--text A] [--data A] [--stack A] [--devices DEVICES] [--steps N] OBJ...`
+// `trace LINK [--devices DEVICES] [--steps N] OBJ...`
 const TRACE: Syntax = Syntax {
     name: "trace",
-    options: &[TEXT, DATA, STACK, DEVICES, STEPS],
+    options: &[
+        TEXT, DATA, STACK_LOW, STACK, EXTENSIONS, FIXED, DEVICES, STEPS,
+    ],
     positionals: &[OBJECTS],
 };
 
@@ -136,31 +156,41 @@ const MAKE: Syntax = Syntax {
     positionals: &[NUMBER, FUNCTIONS],
 };
 
-// `gc --out PREFIX OBJ...`
+// `gc LINK --out PREFIX OBJ...`
 const GC: Syntax = Syntax {
     name: "gc",
-    options: &[OUT],
+    options: &[TEXT, DATA, STACK_LOW, STACK, EXTENSIONS, FIXED, OUT],
     positionals: &[OBJECTS],
 };
 
-// `merge --out PREFIX OBJ...`
+// `merge LINK --out PREFIX OBJ...`
 const MERGE: Syntax = Syntax {
     name: "merge",
-    options: &[OUT],
+    options: &[TEXT, DATA, STACK_LOW, STACK, EXTENSIONS, FIXED, OUT],
     positionals: &[OBJECTS],
 };
 
-// `share --out OUT --plan PLAN [--steps N] OBJ...`
+// `share LINK --out OUT --plan PLAN [--steps N] OBJ...`
 const SHARE: Syntax = Syntax {
     name: "share",
-    options: &[OUT, SHARED_PLAN, STEPS],
+    options: &[
+        TEXT,
+        DATA,
+        STACK_LOW,
+        STACK,
+        EXTENSIONS,
+        FIXED,
+        OUT,
+        SHARED_PLAN,
+        STEPS,
+    ],
     positionals: &[OBJECTS],
 };
 
-// `list IMAGE`
+// `list LINK IMAGE`
 const LIST: Syntax = Syntax {
     name: "list",
-    options: &[],
+    options: &[TEXT, DATA, STACK_LOW, STACK, EXTENSIONS, FIXED],
     positionals: &[IMAGE],
 };
 
