@@ -1,8 +1,9 @@
 -- The report of a link, line by line.
-use Rattle.std.specs.Prelude.{ℕ, List, [], ◌∷◌, ◌++◌, codes, length, map}
+use Rattle.std.specs.Prelude.{ℕ, List, [], ◌∷◌, ◌++◌, codes, length, map, Option, Some, None}
 use Rattle.zc_base.specs.declared.counts.Counts.{Counts}
 use Rattle.pick_check.specs.declared.saving.Saving.{Saving}
 use Rattle.pick_check.specs.Certified.{Certified}
+use Rattle.size_report.specs.declared.report.LinkCounts.{LinkCounts}
 use Rattle.pick_check.specs.Text.{line_with, net_line, saving_line, slot_line, text_of}
 
 -- a line of a name and a count
@@ -31,8 +32,14 @@ table_lines savings certificate =
     net_line certificate.net ∷
     (map saving_line savings ++ map slot_line certificate.slots)
 
-abbrev pub report_lines : Counts → Counts → List Saving → Certified → List (List ℕ)
-report_lines plain zc savings certificate = count_lines plain zc ++ table_lines savings certificate
+-- the line of the number of fixed sections, if names of such were given
+abbrev pub fixed_lines : Option ℕ → List (List ℕ)
+fixed_lines (Some n) = count_line (codes "fixed") n ∷ []
+fixed_lines None = []
 
-unfoldable pub report_text : Counts → Counts → List Saving → Certified → List ℕ
-report_text plain zc savings certificate = text_of (report_lines plain zc savings certificate)
+abbrev pub report_lines : LinkCounts → List Saving → Certified → List (List ℕ)
+report_lines counts savings certificate =
+    count_lines counts.plain counts.zc ++ table_lines savings certificate ++ fixed_lines counts.fixed
+
+unfoldable pub report_text : LinkCounts → List Saving → Certified → List ℕ
+report_text counts savings certificate = text_of (report_lines counts savings certificate)
