@@ -21,16 +21,16 @@ use Rattle.zcld.proofs.TraceFacts.{trace_facts}
 use Rattle.zcld.proofs.ZcFacts.{zc_facts}
 
 facts : (command : Command) → Facts (task_of command) (work_of command)
-facts (Plain map out objects) = plain_facts map out objects
-facts (Zc map out cert objects) = zc_facts map out cert objects
+facts (Plain options out objects) = plain_facts options out objects
+facts (Zc options out cert objects) = zc_facts options out cert objects
 facts (Run map devices plan steps image) = run_facts map devices plan steps image
-facts (Trace map devices steps objects) = trace_facts map devices steps objects
+facts (Trace options devices steps objects) = trace_facts options devices steps objects
 facts (Check cert) = check_facts cert
 facts (Make prefix number functions) = make_facts prefix number functions
-facts (Gc prefix objects) = gc_facts prefix objects
-facts (Merge prefix objects) = merge_facts prefix objects
-facts (Share out plan steps objects) = share_facts out plan steps objects
-facts (Listing image) = list_facts image
+facts (Gc options prefix objects) = gc_facts options prefix objects
+facts (Merge options prefix objects) = merge_facts options prefix objects
+facts (Share options out plan steps objects) = share_facts options out plan steps objects
+facts (Listing map image) = list_facts map image
 
 -- memory may run out before anything is done, whatever the words spell
 pub out_of_memory : (command : Option Command) (files : List (List ℕ)) (before : World) → CarriesOut command files OutOfMemory before before

@@ -10,7 +10,8 @@ use Rattle.elf32_read.specs.Object.{object_fault}
 use Rattle.elf32_read.specs.Parts.{ObjectParts, SymbolParts, object_parts}
 use Rattle.elf32_read.specs.declared.fault.Fault.{Fault}
 use Rattle.elf32_read.specs.declared.fault.Fault.TheVariants.{TooLarge}
-use Rattle.psabi_sym.specs.Faults.{count_fault, duplicate_fault, fault_from, gather_fault, most_objects, sum_fault, undefined_fault}
+use Rattle.psabi_sym.specs.Data.{data_end}
+use Rattle.psabi_sym.specs.Faults.{count_fault, duplicate_fault, fault_from, gather_fault, most_objects, room_fault, sum_fault, undefined_fault}
 use Rattle.psabi_sym.specs.Indexed.{IndexedSymbol, all_symbols, symbols_in}
 use Rattle.psabi_sym.specs.Inputs.{Inputs, ParsedInputs, parsed}
 use Rattle.psabi_sym.specs.LinkFault.{IsRefusal}
@@ -101,6 +102,16 @@ undefined_among : (inputs : ParsedInputs) → IsAmong (length inputs.objects) (u
 unfolding undefined_fault
 undefined_among inputs = found_among (length inputs.objects) _ _ (all_symbols inputs.objects) (symbols_of inputs.objects)
 
+-- ---- the fault of room
+
+room_among : (n : ℕ) (inputs : ParsedInputs) → IsAmong n (room_fault inputs)
+unfolding room_fault
+room_among n inputs = by (nat_lt inputs.map.stack_low (data_end inputs))
+  where
+    by : (full : Bool) → IsAmong n (cond full (Some (0, TooLarge)) None)
+    by true = inl refl
+    by false = tt
+
 -- ---- the first fault
 
 gathered_among : (inputs : Inputs) → IsAmong (length inputs.files) (gather_fault inputs)
@@ -113,7 +124,8 @@ gathered_among inputs =
     (either_among n (undefined_fault (parsed inputs)) None (subst (λ k. IsAmong k (undefined_fault (parsed inputs))) many (undefined_among (parsed inputs))) tt) in
     either_among n (count_fault inputs.files) _ (many_among inputs.files)
     (either_among n (fault_from 0 inputs.files) _ (read_among n 0 inputs.files (omega arith))
-    (either_among n (sum_fault inputs.files) _ (sums_among n inputs.files) (either_among n _ None names tt)))
+    (either_among n (sum_fault inputs.files) _ (sums_among n inputs.files)
+    (either_among n _ _ names (either_among n (room_fault (parsed inputs)) None (room_among n (parsed inputs)) tt))))
 
 -- ---- the line
 

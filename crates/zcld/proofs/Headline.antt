@@ -11,9 +11,7 @@ use Rattle.section_gc.proofs.CleaningLaws.{length-cleaned}
 use Rattle.section_gc.specs.Collected.{Collection, IsCollection, collected_place}
 use Rattle.tail_merge.specs.Merged.{merged, merged_object, merged_place}
 use Rattle.tail_merge.specs.Merging.{IsMerging, Merging}
-use Rattle.zc_base.specs.MemMap.{standard_map}
-use Rattle.zc_base.specs.declared.mem_map.MemMap.{MemMap}
-use Rattle.zc_base.specs.declared.place.Place.{Place}
+use Rattle.zc_base.specs.Options.{Options}
 use Rattle.elf32_read.specs.declared.fault.Fault.{Fault}
 use Rattle.block_cut.specs.Faults.{first_fault}
 use Rattle.zc_link.specs.Preserves.{Preserves}
@@ -101,14 +99,14 @@ done_worked :
     (task.refusal files ≡ Some Done → ⊥) → Performs task Work files Done before left → IsWorked task Work files Done before left
 done_worked task Work files before left undone does = has_worked task Work files Done before left (λ none. none) undone does
 
-module _ (memory : MemMap) (before after : World) where
+module _ (options : Options) (before after : World) where
   -- objects were read, and an image that preserves them is the first file that was put
   holds_image :
       (out : List ℕ) (names : List (List ℕ)) (f g : Files) (files : List (List ℕ)) (elf : List ℕ) (others : List (List ℕ × List ℕ)) (between left : World) →
       before.shelf.files ≡ Some f → after.shelf.files ≡ Some g → after.shelf ≡ left.shelf →
       OnlyRead (objects_wanted names) before between → AreRead before.shelf.files (objects_wanted names) files →
-      PutsFiles between.shelf.files left.shelf.files ((out, elf) ∷ others) → Preserves (inputs_in memory files) elf →
-      HoldsImage memory out names f g
+      PutsFiles between.shelf.files left.shelf.files ((out, elf) ∷ others) → Preserves (inputs_in options files) elf →
+      HoldsImage options out names f g
   holds_image out names f g files elf others between left told tells same only read puts preserves =
       let kept : KeepsFiles (Some f) between.shelf.files = subst (λ a. KeepsFiles a between.shelf.files) told only.shelf.files in
       let there : left.shelf.files ≡ Some g = sym (ap (λ s. s.files) same) ∙ tells in
@@ -141,13 +139,13 @@ as_many_merged inputs m is =
 module _ (before after : World) where
   -- objects were read, and results of them were put
   holds_results :
-      (most : ℕ) (moved : Inputs → Place → Place) (prefix : List ℕ) (names : List (List ℕ)) (f g : Files) (files results : List (List ℕ)) (between left : World) →
+      (options : Options) (Follows : Inputs → List ℕ → Type 0) (prefix : List ℕ) (names : List (List ℕ)) (f g : Files) (files results : List (List ℕ)) (between left : World) →
       before.shelf.files ≡ Some f → after.shelf.files ≡ Some g → after.shelf ≡ left.shelf →
       OnlyRead (objects_wanted names) before between → AreRead before.shelf.files (objects_wanted names) files →
       PutsFiles between.shelf.files left.shelf.files (named_from prefix 0 results) → length results ≡ length files →
-      ((elf : List ℕ) → Preserves (inputs_in standard_map results) elf → PreservesMoved most (moved (inputs_in standard_map files)) (inputs_in standard_map files) elf) →
-      HoldsResults most moved prefix names f g
-  holds_results most moved prefix names f g files results between left told tells same only read puts many preserve =
+      ((elf : List ℕ) → Preserves (inputs_in options results) elf → Follows (inputs_in options files) elf) →
+      HoldsResults options Follows prefix names f g
+  holds_results options Follows prefix names f g files results between left told tells same only read puts many preserve =
       let kept : KeepsFiles (Some f) between.shelf.files = subst (λ a. KeepsFiles a between.shelf.files) told only.shelf.files in
       let there : left.shelf.files ≡ Some g = sym (ap (λ s. s.files) same) ∙ tells in
       let put : PutsFiles between.shelf.files (Some g) (named_from prefix 0 results) =
@@ -162,20 +160,20 @@ module _ (before after : World) where
 
   -- `share` whose run came to its end had put the image of its link
   holds_shared :
-      (out plan : List ℕ) (steps : ℕ) (names : List (List ℕ)) (outcome : Outcome) → IsRunEnd outcome → (f g : Files) → before.shelf.files ≡ Some f → after.shelf.files ≡ Some g →
-      Calls (Some (Share out plan steps names)) outcome before after → HoldsImage standard_map out names f g
-  holds_shared out plan steps names outcome ends f g told tells calls =
-      let command_task = task_of (Share out plan steps names) in
+      (options : Options) (out plan : List ℕ) (steps : ℕ) (names : List (List ℕ)) (outcome : Outcome) → IsRunEnd outcome → (f g : Files) → before.shelf.files ≡ Some f → after.shelf.files ≡ Some g →
+      Calls (Some (Share options out plan steps names)) outcome before after → HoldsImage options out names f g
+  holds_shared options out plan steps names outcome ends f g told tells calls =
+      let command_task = task_of (Share options out plan steps names) in
       let worked =
-      has_worked command_task (ShareWork out steps) calls.files outcome before calls.left (ended_had outcome ends command_task.wanted before.shelf calls.left.shelf)
-      (ended_accepted outcome ends calls.files) calls.does in
+      has_worked command_task (ShareWork options out steps) calls.files outcome before calls.left (ended_had outcome ends command_task.wanted before.shelf calls.left.shelf)
+      (ended_accepted outcome ends options calls.files) calls.does in
       elim worked.work [
         | inl lack ↦ absurd (ended_not_memory outcome ends lack.0)
         | inr work ↦
             let kept : KeepsFiles (Some f) worked.between.shelf.files = subst (λ a. KeepsFiles a worked.between.shelf.files) told worked.only.shelf.files in
             let there : calls.left.shelf.files ≡ Some g = sym (ap (λ s. s.files) calls.line.shelf) ∙ tells in
             let put : PutsFile worked.between.shelf.files (Some g) out work.link.elf =
-            subst (λ b. PutsFile worked.between.shelf.files b out work.link.elf) there (ended_put outcome ends out work.link.elf _ steps worked.between calls.left work.run) in
+            subst (λ b. PutsFile worked.between.shelf.files b out work.link.elf) there (ended_put outcome ends out work.link.elf _ _ steps worked.between calls.left work.run) in
             let were : AreRead (Some f) (share_wanted plan names) calls.files = subst (λ a. AreRead a (share_wanted plan names) calls.files) told worked.read in (
               objects_before calls.files,
               work.link.elf,
@@ -188,47 +186,47 @@ module _ (before after : World) where
   by_cases :
       (command : Option Command) (outcome : Outcome) (a b : Option Files) → before.shelf.files ≡ a → after.shelf.files ≡ b →
       Calls command outcome before after → Links command outcome a b
-  by_cases (Some (Zc memory out cert names)) Done (Some f) (Some g) told tells calls =
-      let undone = refused_undone (first_fault (inputs_in memory calls.files)) in
-      let worked = done_worked (task_of (Zc memory out cert names)) (ZcWork memory out cert) calls.files before calls.left undone calls.does in
+  by_cases (Some (Zc options out cert names)) Done (Some f) (Some g) told tells calls =
+      let undone = refused_undone (first_fault (inputs_in options calls.files)) in
+      let worked = done_worked (task_of (Zc options out cert names)) (ZcWork options out cert) calls.files before calls.left undone calls.does in
       elim worked.work [
         | inl lack ↦ absurd (done_not_memory lack.0)
         | inr put ↦
-            holds_image memory before after out names f g calls.files put.link.elf _ worked.between calls.left told tells calls.line.shelf worked.only worked.read put.done.files put.linked.image.preserves
+            holds_image options before after out names f g calls.files put.link.elf _ worked.between calls.left told tells calls.line.shelf worked.only worked.read put.done.files put.linked.image.preserves
       ]
-  by_cases (Some (Plain memory out names)) Done (Some f) (Some g) told tells calls =
-      let undone = refused_undone (first_fault (inputs_in memory calls.files)) in
-      let worked = done_worked (task_of (Plain memory out names)) (PlainWork memory out) calls.files before calls.left undone calls.does in
+  by_cases (Some (Plain options out names)) Done (Some f) (Some g) told tells calls =
+      let undone = refused_undone (first_fault (inputs_in options calls.files)) in
+      let worked = done_worked (task_of (Plain options out names)) (PlainWork options out) calls.files before calls.left undone calls.does in
       elim worked.work [
         | inl lack ↦ absurd (done_not_memory lack.0)
         | inr put ↦
-            holds_image memory before after out names f g calls.files put.link.elf _ worked.between calls.left told tells calls.line.shelf worked.only worked.read put.done.files put.linked.image.preserves
+            holds_image options before after out names f g calls.files put.link.elf _ worked.between calls.left told tells calls.line.shelf worked.only worked.read put.done.files put.linked.image.preserves
       ]
-  by_cases (Some (Gc prefix names)) Done (Some f) (Some g) told tells calls =
-      let undone = refused_undone (first_fault (inputs_in standard_map calls.files)) in
-      let worked = done_worked (task_of (Gc prefix names)) (GcWork prefix) calls.files before calls.left undone calls.does in
+  by_cases (Some (Gc options prefix names)) Done (Some f) (Some g) told tells calls =
+      let undone = refused_undone (first_fault (inputs_in options calls.files)) in
+      let worked = done_worked (task_of (Gc options prefix names)) (GcWork options prefix) calls.files before calls.left undone calls.does in
       elim worked.work [
         | inl lack ↦ absurd (done_not_memory lack.0)
         | inr (inl breaks) ↦ absurd (done_not_broken breaks.index breaks.fault breaks.outcome_is)
         | inr (inr put) ↦
-            let inputs = inputs_in standard_map calls.files in
-            holds_results 64 collected_place prefix names f g calls.files put.results.files worked.between calls.left told tells calls.line.shelf worked.only worked.read put.done.files
+            let inputs = inputs_in options calls.files in
+            holds_results options (λ inputs. PreservesMoved 64 (collected_place inputs) inputs) prefix names f g calls.files put.results.files worked.between calls.left told tells calls.line.shelf worked.only worked.read put.done.files
             (as_many inputs put.results put.are) (collection_preserves inputs put.results put.are)
       ]
-  by_cases (Some (Merge prefix names)) Done (Some f) (Some g) told tells calls =
-      let undone = refused_undone (first_fault (inputs_in standard_map calls.files)) in
-      let worked = done_worked (task_of (Merge prefix names)) (MergeWork prefix) calls.files before calls.left undone calls.does in
+  by_cases (Some (Merge options prefix names)) Done (Some f) (Some g) told tells calls =
+      let undone = refused_undone (first_fault (inputs_in options calls.files)) in
+      let worked = done_worked (task_of (Merge options prefix names)) (MergeWork options prefix) calls.files before calls.left undone calls.does in
       elim worked.work [
         | inl lack ↦ absurd (done_not_memory lack.0)
         | inr (inl breaks) ↦ absurd (done_not_broken breaks.index breaks.fault breaks.outcome_is)
         | inr (inr put) ↦
-            let inputs = inputs_in standard_map calls.files in
-            holds_results 128 (λ inputs. merged_place (parsed inputs)) prefix names f g calls.files put.results.files worked.between calls.left told tells calls.line.shelf worked.only worked.read put.done.files
+            let inputs = inputs_in options calls.files in
+            holds_results options (λ inputs. PreservesMoved 128 (merged_place (parsed inputs)) inputs) prefix names f g calls.files put.results.files worked.between calls.left told tells calls.line.shelf worked.only worked.read put.done.files
             (as_many_merged inputs put.results put.are) (merging_preserves inputs put.results put.are)
       ]
-  by_cases (Some (Share out plan steps names)) (Exited code) (Some f) (Some g) told tells calls = holds_shared out plan steps names (Exited code) tt f g told tells calls
-  by_cases (Some (Share out plan steps names)) (Stopped reason pc) (Some f) (Some g) told tells calls = holds_shared out plan steps names (Stopped reason pc) tt f g told tells calls
-  by_cases (Some (Share out plan steps names)) Spent (Some f) (Some g) told tells calls = holds_shared out plan steps names Spent tt f g told tells calls
+  by_cases (Some (Share options out plan steps names)) (Exited code) (Some f) (Some g) told tells calls = holds_shared options out plan steps names (Exited code) tt f g told tells calls
+  by_cases (Some (Share options out plan steps names)) (Stopped reason pc) (Some f) (Some g) told tells calls = holds_shared options out plan steps names (Stopped reason pc) tt f g told tells calls
+  by_cases (Some (Share options out plan steps names)) Spent (Some f) (Some g) told tells calls = holds_shared options out plan steps names Spent tt f g told tells calls
   by_cases command outcome a b told tells calls = tt
 
   pub links : (command : Option Command) (outcome : Outcome) → Calls command outcome before after → Links command outcome before.shelf.files after.shelf.files

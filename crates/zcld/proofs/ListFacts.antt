@@ -4,7 +4,7 @@ use Rattle.std.proofs.lemmas.Option.{same_Some, none-some}
 use Rattle.std.specs.Option.{option_map}
 use Rattle.elf32_read.specs.Image.{image_fault}
 use Rattle.elf32_read.specs.declared.image_fault.ImageFault.{ImageFault}
-use Rattle.zc_base.specs.MemMap.{standard_map}
+use Rattle.zc_base.specs.declared.mem_map.MemMap.{MemMap}
 use Rattle.zc_outside.specs.Shelf.{OnlyPuts}
 use Rattle.zc_outside.specs.World.{World}
 use Rattle.zc_outside.proofs.Shelf.{OnlyPuts-refl}
@@ -30,9 +30,9 @@ by_fault P each (Some fault) outcome some = subst P (same_Some (BadFile (Image f
 pub image_names_nothing : (found : Option ImageFault) (outcome : Outcome) → option_map (λ fault. BadFile (Image fault)) found ≡ Some outcome → NamesNothing outcome
 image_names_nothing = by_fault NamesNothing (λ fault files. refl)
 
-module _ (image : List ℕ) where
+module _ (memory : MemMap) (image : List ℕ) where
   abbrev task : Task
-  task = task_of (Listing image)
+  task = task_of (Listing memory image)
 
   list_ends : (files : List (List ℕ)) (outcome : Outcome) (before after : World) → ListWork files outcome before after → IsAnswer outcome ⊎ IsFaulted task outcome before after
   list_ends files outcome before after (inl memory) = inl (no_memory outcome memory.0)
@@ -45,7 +45,7 @@ module _ (image : List ℕ) where
 
   pub list_facts : Facts task ListWork
   list_facts = record {
-    refuses = λ files. by_fault IsAnswer (λ fault. tt) (image_fault (first_file files) standard_map);
+    refuses = λ files. by_fault IsAnswer (λ fault. tt) (image_fault (first_file files) memory);
     ends = list_ends;
     moves = list_moves;
   }

@@ -3,6 +3,7 @@ use Rattle.std.proofs.Common.{◌≡◌, ◌++◌, ℕ, List, [], ◌∷◌, Som
 use Rattle.block_cut.specs.Faults.{first_fault}
 use Rattle.interrupt_plan.specs.Text.{shared_in}
 use Rattle.rv_decode.specs.State.{ZcCore}
+use Rattle.zc_base.specs.Options.{Options}
 use Rattle.zc_outside.specs.Desk.{Desk}
 use Rattle.zc_outside.specs.Files.{Files, PutsFile}
 use Rattle.zc_outside.specs.Shelf.{Shelf}
@@ -15,7 +16,7 @@ use Rattle.zcld.specs.Machines.{TakesAndRuns}
 use Rattle.zcld.specs.Objects.{last_file, objects_before}
 use Rattle.zcld.specs.Puts.{UnputCause}
 use Rattle.zcld.specs.Run.{plan_wanted}
-use Rattle.zcld.specs.Share.{PutsAndRuns, share_inputs, share_refusal}
+use Rattle.zcld.specs.Share.{PutsAndRuns, RunsFrom, share_inputs, share_refusal}
 use Rattle.zcld.specs.Task.{UnreadCause}
 use Rattle.zcld.proofs.ShareFacts.{by_refusals}
 
@@ -32,9 +33,9 @@ ended_had (Stopped reason pc) ends wanted before after cause = cause
 ended_had Spent ends wanted before after cause = cause
 ended_had other ends wanted before after cause = absurd ends
 
-pub ended_accepted : (outcome : Outcome) → IsRunEnd outcome → (files : List (List ℕ)) → share_refusal files ≡ Some outcome → ⊥
-ended_accepted outcome ends files refused =
-    by_refusals (λ o. IsRunEnd o → ⊥) (λ i fault none. none) (λ fault none. none) (first_fault (share_inputs files)) (shared_in (last_file files)) outcome refused ends
+pub ended_accepted : (outcome : Outcome) → IsRunEnd outcome → (options : Options) (files : List (List ℕ)) → share_refusal options files ≡ Some outcome → ⊥
+ended_accepted outcome ends options files refused =
+    by_refusals (λ o. IsRunEnd o → ⊥) (λ i fault none. none) (λ fault none. none) (first_fault (share_inputs options files)) (shared_in (last_file files)) outcome refused ends
 
 pub ended_not_memory : (outcome : Outcome) → IsRunEnd outcome → outcome ≡ OutOfMemory → ⊥
 ended_not_memory outcome ends memory = subst IsRunEnd memory ends
@@ -53,10 +54,10 @@ ended_unput other ends before after cause = absurd ends
 
 -- the image was put
 pub ended_put :
-    (outcome : Outcome) → IsRunEnd outcome → (out image : List ℕ) (happens : ℕ → ZcCore → ZcCore) (steps : ℕ) (before after : World) →
-    TakesAndRuns (PutsAndRuns out image happens steps) outcome before after → PutsFile before.shelf.files after.shelf.files out image
-ended_put outcome ends out image happens steps before after (inl lacks) = absurd (ended_taken outcome ends before.desk after.desk lacks.untaken.cause)
-ended_put outcome ends out image happens steps before after (inr run) = elim run.runs [
+    (outcome : Outcome) → IsRunEnd outcome → (out image : List ℕ) (first : ZcCore) (happens : ℕ → ZcCore → ZcCore) (steps : ℕ) (before after : World) →
+    TakesAndRuns (PutsAndRuns out image (RunsFrom first happens steps)) outcome before after → PutsFile before.shelf.files after.shelf.files out image
+ended_put outcome ends out image first happens steps before after (inl lacks) = absurd (ended_taken outcome ends before.desk after.desk lacks.untaken.cause)
+ended_put outcome ends out image first happens steps before after (inr run) = elim run.runs [
   | inl memory ↦ absurd (ended_not_memory outcome ends memory.0)
   | inr (inl unput) ↦ absurd (ended_unput outcome ends before.shelf after.shelf unput.cause)
   | inr (inr put) ↦ subst (λ (s : Shelf). PutsFile before.shelf.files s.files out image) (sym put.does.shelf) put.put

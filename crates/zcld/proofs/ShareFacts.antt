@@ -18,7 +18,7 @@ use Rattle.psabi_sym.specs.declared.link_fault.LinkFault.TheVariants as link
 use Rattle.rv_decode.specs.State.{ZcCore}
 use Rattle.shared_cells.specs.SharedRun.{shared_by}
 use Rattle.shared_runs.proofs.Linked.{link_shares}
-use Rattle.zc_base.specs.MemMap.{standard_map}
+use Rattle.zc_base.specs.Options.{Options}
 use Rattle.zc_machine.specs.Load.{first_core_of}
 use Rattle.zc_outside.specs.Desk.{OnlyWrites}
 use Rattle.zc_outside.specs.Shelf.{OnlyPuts, Shelf}
@@ -35,9 +35,9 @@ use Rattle.zcld.specs.Machines.{TakesAndRuns}
 use Rattle.zcld.specs.Objects.{IsUngathered, last_file, refused_for}
 use Rattle.zcld.specs.Outcome.{link_outcome}
 use Rattle.zcld.specs.Run.{EndsRun, end_outcome, plan_refusal}
-use Rattle.zc_link.specs.Links.{IsZcLink}
+use Rattle.zc_link.specs.Links.{IsZcLink, Link}
 use Rattle.zcld.specs.declared.share.SharedImage.{SharedImage}
-use Rattle.zcld.specs.Share.{IsReadyToShare, PutsAndRuns, ShareWork, share_inputs, share_refusal, share_wanted}
+use Rattle.zcld.specs.Share.{IsReadyToShare, PutsAndRuns, RunsFrom, ShareWork, share_inputs, share_refusal, share_wanted}
 use Rattle.zcld.specs.Task.{OnlyRead, Task, UnreadCause}
 use Rattle.zcld.proofs.Answering.{Facts, IsAnswer, IsFaulted, Moves, faulted_later, moves_on, no_memory, no_moves}
 use Rattle.zcld.proofs.FaultIndex.{refusal_line}
@@ -61,19 +61,16 @@ by_refusals P refused bad None (Ok plan) outcome none = absurd (none-some outcom
 
 -- ---- the work
 
-module _ (out plan : List ℕ) (steps : ℕ) (names : List (List ℕ)) where
+module _ (options : Options) (out plan : List ℕ) (steps : ℕ) (names : List (List ℕ)) where
   abbrev task : Task
-  task = task_of (Share out plan steps names)
+  task = task_of (Share options out plan steps names)
 
-  module _ (image : List ℕ) (happens : ℕ → ZcCore → ZcCore) (input : List ℕ) where
-    abbrev first : ZcCore
-    first = first_core_of image standard_map
-
+  module _ (image : List ℕ) (first : ZcCore) (happens : ℕ → ZcCore → ZcCore) (input : List ℕ) where
     put_moves : (before : World) (between : Shelf) (only : OnlyPuts before.shelf between) → Moves before (world between before.desk)
     put_moves before between only = output_moves before (world between before.desk) only (OnlyWrites-refl before.desk)
 
     run_put_ends :
-        (outcome : Outcome) (before after : World) → PutsAndRuns out image happens steps input outcome before after → IsAnswer outcome ⊎ IsFaulted task outcome before after
+        (outcome : Outcome) (before after : World) → PutsAndRuns out image (RunsFrom first happens steps) input outcome before after → IsAnswer outcome ⊎ IsFaulted task outcome before after
     run_put_ends outcome before after (inl memory) = inl (no_memory outcome memory.0)
     run_put_ends outcome before after (inr (inl unput)) = unput_ends task refl outcome before after unput.cause
     run_put_ends outcome before after (inr (inr put)) =
@@ -83,7 +80,7 @@ module _ (out plan : List ℕ) (steps : ℕ) (names : List (List ℕ)) where
               (λ sure. record { store = put.only.sure ∙ sure.store; console = sure.console; input = sure.input }) fault)
         ]
 
-    run_put_moves : (outcome : Outcome) (before after : World) → PutsAndRuns out image happens steps input outcome before after → Moves before after
+    run_put_moves : (outcome : Outcome) (before after : World) → PutsAndRuns out image (RunsFrom first happens steps) input outcome before after → Moves before after
     run_put_moves outcome before after (inl memory) = subst (λ w. Moves before w) (sym memory.1) (no_moves before)
     run_put_moves outcome before after (inr (inl unput)) = output_moves before after unput.only (subst (λ d. OnlyWrites before.desk d) (sym unput.desk) (OnlyWrites-refl before.desk))
     run_put_moves outcome before after (inr (inr put)) =
@@ -92,21 +89,25 @@ module _ (out plan : List ℕ) (steps : ℕ) (names : List (List ℕ)) where
 
   -- what happens before the commits, by the files and a plan
   abbrev happens_by : List (List ℕ) → List SharedEntry → ℕ → ZcCore → ZcCore
-  happens_by files entries = shared_by (shared_ranges (parsed (share_inputs files))) entries
+  happens_by files entries = shared_by (shared_ranges (parsed (share_inputs options files))) entries
 
-  share_ends : (files : List (List ℕ)) (outcome : Outcome) (before after : World) → ShareWork out steps files outcome before after → IsAnswer outcome ⊎ IsFaulted task outcome before after
+  -- how a link's image runs
+  abbrev runs_by : List (List ℕ) → Link → List SharedEntry → List ℕ → Outcome → World → World → Type 0
+  runs_by files link entries = RunsFrom (first_core_of link.elf options.map) (happens_by files entries) steps
+
+  share_ends : (files : List (List ℕ)) (outcome : Outcome) (before after : World) → ShareWork options out steps files outcome before after → IsAnswer outcome ⊎ IsFaulted task outcome before after
   share_ends files outcome before after (inl memory) = inl (no_memory outcome memory.0)
   share_ends files outcome before after (inr work) =
-      run_ends task refl (PutsAndRuns out work.link.elf (happens_by files work.plan) steps) (run_put_ends work.link.elf (happens_by files work.plan)) outcome before after work.run
+      run_ends task refl (PutsAndRuns out work.link.elf (runs_by files work.link work.plan)) (run_put_ends work.link.elf (first_core_of work.link.elf options.map) (happens_by files work.plan)) outcome before after work.run
 
-  share_moves : (files : List (List ℕ)) (outcome : Outcome) (before after : World) → ShareWork out steps files outcome before after → Moves before after
+  share_moves : (files : List (List ℕ)) (outcome : Outcome) (before after : World) → ShareWork options out steps files outcome before after → Moves before after
   share_moves files outcome before after (inl memory) = subst (λ w. Moves before w) (sym memory.1) (no_moves before)
   share_moves files outcome before after (inr work) =
-      run_moves task refl (PutsAndRuns out work.link.elf (happens_by files work.plan) steps) (run_put_moves work.link.elf (happens_by files work.plan)) outcome before after work.run
+      run_moves task refl (PutsAndRuns out work.link.elf (runs_by files work.link work.plan)) (run_put_moves work.link.elf (first_core_of work.link.elf options.map) (happens_by files work.plan)) outcome before after work.run
 
-  pub share_facts : Facts task (ShareWork out steps)
+  pub share_facts : Facts task (ShareWork options out steps)
   share_facts = record {
-    refuses = λ files. by_refusals IsAnswer (λ i fault. tt) (λ fault. tt) (first_fault (share_inputs files)) (shared_in (last_file files));
+    refuses = λ files. by_refusals IsAnswer (λ i fault. tt) (λ fault. tt) (first_fault (share_inputs options files)) (shared_in (last_file files));
     ends = share_ends;
     moves = share_moves;
   }
@@ -116,7 +117,7 @@ module _ (out plan : List ℕ) (steps : ℕ) (names : List (List ℕ)) where
   -- the files can't be had
   pub without_files :
       (left : List (List ℕ)) (outcome : Outcome) (before after : World) → OnlyRead (share_wanted plan names) before after →
-      UnreadCause (share_wanted plan names) before.shelf after.shelf outcome → DoesWith (Some (Share out plan steps names)) left outcome before after
+      UnreadCause (share_wanted plan names) before.shelf after.shelf outcome → DoesWith (Some (Share options out plan steps names)) left outcome before after
   without_files left outcome before after only cause = record { files = left; line = refl; does = inl (record { only = only; cause = cause }) }
 
   module _ (objects : List (List ℕ)) (text : List ℕ) (before after : World) (only : OnlyRead (share_wanted plan names) before after) (read : AreRead before.shelf.files (share_wanted plan names) (objects ++ text ∷ [])) where
@@ -124,47 +125,47 @@ module _ (out plan : List ℕ) (steps : ℕ) (names : List (List ℕ)) where
     files = objects ++ text ∷ []
 
     -- what is refused, and of which fault, by the objects and the text
-    refusal_is : share_refusal files ≡ option_or (refused_for (first_fault (inputs_in standard_map objects))) (plan_refusal (shared_in text))
+    refusal_is : share_refusal options files ≡ option_or (refused_for (first_fault (inputs_in options objects))) (plan_refusal (shared_in text))
     refusal_is =
-        ap₂ (λ (os : List (List ℕ)) (t : List ℕ). option_or (refused_for (first_fault (inputs_in standard_map os))) (plan_refusal (shared_in t)))
+        ap₂ (λ (os : List (List ℕ)) (t : List ℕ). option_or (refused_for (first_fault (inputs_in options os))) (plan_refusal (shared_in t)))
         (objects_are objects text) (last_is objects text)
 
-    refused_with : (left : List (List ℕ)) (outcome : Outcome) → share_refusal files ≡ Some outcome → err_line left outcome ≡ err_line files outcome → DoesWith (Some (Share out plan steps names)) left outcome before after
+    refused_with : (left : List (List ℕ)) (outcome : Outcome) → share_refusal options files ≡ Some outcome → err_line left outcome ≡ err_line files outcome → DoesWith (Some (Share options out plan steps names)) left outcome before after
     refused_with left outcome refused line = record { files = files; line = line; does = inr (inl (record { only = only; read = read; refused = refused })) }
 
     -- the objects can't be gathered
     pub ungathered_files :
-        (left : List (List ℕ)) (outcome : Outcome) → IsUngathered standard_map objects left outcome → DoesWith (Some (Share out plan steps names)) left outcome before after
+        (left : List (List ℕ)) (outcome : Outcome) → IsUngathered options objects left outcome → DoesWith (Some (Share options out plan steps names)) left outcome before after
     ungathered_files left outcome is = by is.fault is.outcome_is is.refused
       where
-        by : (fault : LinkFault) → outcome ≡ link_outcome fault → IsRefusal (gather_fault (inputs_in standard_map objects)) fault → DoesWith (Some (Share out plan steps names)) left outcome before after
+        by : (fault : LinkFault) → outcome ≡ link_outcome fault → IsRefusal (gather_fault (inputs_in options objects)) fault → DoesWith (Some (Share options out plan steps names)) left outcome before after
         by link.OutOfMemory same refused =
             without_files left outcome before after only (subst (λ o. UnreadCause (share_wanted plan names) before.shelf after.shelf o) (sym same) tt)
         by (link.Object index fault) same refused =
-            let found = gather_refuses (inputs_in standard_map objects) (link.Object index fault) refused in
+            let found = gather_refuses (inputs_in options objects) (link.Object index fault) refused in
             refused_with left outcome
             (refusal_is ∙ ap (λ f. option_or (refused_for f) (plan_refusal (shared_in text))) found ∙ ap Some (sym same))
-            (is.line ∙ subst (λ o. err_line objects o ≡ err_line files o) (sym same) (refusal_line (inputs_in standard_map objects) (text ∷ []) (link.Object index fault) refused))
+            (is.line ∙ subst (λ o. err_line objects o ≡ err_line files o) (sym same) (refusal_line (inputs_in options objects) (text ∷ []) (link.Object index fault) refused))
 
     -- the objects or the plan are refused, or memory ran out before that was known
     pub unshared_files :
         (left : List (List ℕ)) (outcome : Outcome) → NamesNothing outcome
-        → (outcome ≡ OutOfMemory) ⊎ (option_or (refused_for (first_fault (inputs_in standard_map objects))) (plan_refusal (shared_in text)) ≡ Some outcome)
-        → DoesWith (Some (Share out plan steps names)) left outcome before after
+        → (outcome ≡ OutOfMemory) ⊎ (option_or (refused_for (first_fault (inputs_in options objects))) (plan_refusal (shared_in text)) ≡ Some outcome)
+        → DoesWith (Some (Share options out plan steps names)) left outcome before after
     unshared_files left outcome nothing (inl memory) = without_files left outcome before after only (subst (λ o. UnreadCause (share_wanted plan names) before.shelf after.shelf o) (sym memory) tt)
     unshared_files left outcome nothing (inr refused) = refused_with left outcome (refusal_is ∙ refused) (names_in_none outcome left files nothing)
 
     -- the objects were linked, and the image ran
     pub shared_ran :
-        (left : List (List ℕ)) (outcome : Outcome) (shared : SharedImage) (end : World) → NamesNothing outcome → IsReadyToShare (inputs_in standard_map objects) text shared
-        → TakesAndRuns (PutsAndRuns out shared.image.items (shared_by shared.ranges.items shared.plan) steps) outcome after end
-        → DoesWith (Some (Share out plan steps names)) left outcome before end
+        (left : List (List ℕ)) (outcome : Outcome) (shared : SharedImage) (end : World) → NamesNothing outcome → IsReadyToShare (inputs_in options objects) text shared
+        → TakesAndRuns (PutsAndRuns out shared.image.items (RunsFrom (first_core_of shared.image.items options.map) (shared_by shared.ranges.items shared.plan) steps)) outcome after end
+        → DoesWith (Some (Share options out plan steps names)) left outcome before end
     shared_ran left outcome shared end nothing ready ran =
-        let inputs_are : share_inputs files ≡ inputs_in standard_map objects = ap (inputs_in standard_map) (objects_are objects text) in
-        let happens_are : shared_by shared.ranges.items shared.plan ≡ shared_by (shared_ranges (parsed (share_inputs files))) shared.plan =
-        sym (any_order (shared_ranges (parsed (inputs_in standard_map objects))) shared.ranges.items ready.ranges shared.plan)
+        let inputs_are : share_inputs options files ≡ inputs_in options objects = ap (inputs_in options) (objects_are objects text) in
+        let happens_are : shared_by shared.ranges.items shared.plan ≡ shared_by (shared_ranges (parsed (share_inputs options files))) shared.plan =
+        sym (any_order (shared_ranges (parsed (inputs_in options objects))) shared.ranges.items ready.ranges shared.plan)
         ∙ ap (λ (is : Inputs). shared_by (shared_ranges (parsed is)) shared.plan) (sym inputs_are) in
-        let linked : IsZcLink (share_inputs files) ready.link = subst (λ is. IsZcLink is ready.link) (sym inputs_are) ready.linked in
+        let linked : IsZcLink (share_inputs options files) ready.link = subst (λ is. IsZcLink is ready.link) (sym inputs_are) ready.linked in
         record {
           files = files;
           line = names_in_none outcome left files nothing;
@@ -178,12 +179,12 @@ module _ (out plan : List ℕ) (steps : ℕ) (names : List (List ℕ)) where
             work = inr (record {
               link = ready.link;
               linked = linked;
-              shares = link_shares (share_inputs files) ready.link linked;
+              shares = link_shares (share_inputs options files) ready.link linked;
               plan = shared.plan;
               spelled = ap shared_in (last_is objects text) ∙ ready.spelled;
               run =
-                  subst (λ happens. TakesAndRuns (PutsAndRuns out ready.link.elf happens steps) outcome after end) happens_are
-                  (subst (λ image. TakesAndRuns (PutsAndRuns out image (shared_by shared.ranges.items shared.plan) steps) outcome after end) ready.image_is ran);
+                  subst (λ happens. TakesAndRuns (PutsAndRuns out ready.link.elf (RunsFrom (first_core_of ready.link.elf options.map) happens steps)) outcome after end) happens_are
+                  (subst (λ image. TakesAndRuns (PutsAndRuns out image (RunsFrom (first_core_of image options.map) (shared_by shared.ranges.items shared.plan) steps)) outcome after end) ready.image_is ran);
             });
           }));
         }

@@ -19,7 +19,7 @@ use Rattle.sym_machine.specs.State.{PlainState}
 use Rattle.sym_machine.specs.declared.run.TraceEnd.{TraceEnd}
 use Rattle.sym_machine.specs.declared.run.TraceEnd.TheVariants as end
 use Rattle.sym_machine.specs.declared.why.Why.{Why}
-use Rattle.zc_base.specs.declared.mem_map.MemMap.{MemMap}
+use Rattle.zc_base.specs.Options.{Options}
 use Rattle.zc_base.specs.declared.place.Place.{Place}
 use Rattle.zc_outside.specs.Course.{Course}
 use Rattle.zc_outside.specs.Desk.{Desk}
@@ -45,8 +45,8 @@ use Rattle.zcld.proofs.MachineFacts.{IsRefusedWrite, executed_ends, executed_mov
 use Rattle.zcld.proofs.Refusals.{gather_refuses, names_in_none}
 
 -- a refusal of objects or of devices is an answer
-trace_refuses : (map : MemMap) (texts : TraceTexts) (outcome : Outcome) → trace_refusal map texts ≡ Some outcome → IsAnswer outcome
-trace_refuses map texts outcome is = by_faults (first_fault (inputs_in map texts.objects)) (lines_given map texts.devices) is
+trace_refuses : (options : Options) (texts : TraceTexts) (outcome : Outcome) → trace_refusal options texts ≡ Some outcome → IsAnswer outcome
+trace_refuses options texts outcome is = by_faults (first_fault (inputs_in options texts.objects)) (lines_given options.map texts.devices) is
   where
     by_faults :
         (found : Option (ℕ × Fault)) (lines : Result (List DevicesLine) DevicesFault) →
@@ -55,9 +55,9 @@ trace_refuses map texts outcome is = by_faults (first_fault (inputs_in map texts
     by_faults None (Err fault) some = subst IsAnswer (same_Some (BadFile (Devices fault)) outcome some) tt
     by_faults None (Ok lines) none = absurd (none-some outcome none)
 
-module _ (map : MemMap) (devices : Option (List ℕ)) (steps : ℕ) (names : List (List ℕ)) where
+module _ (options : Options) (devices : Option (List ℕ)) (steps : ℕ) (names : List (List ℕ)) where
   abbrev task : Task
-  task = task_of (Trace map devices steps names)
+  task = task_of (Trace options devices steps names)
 
   -- each end but a write that was refused is an answer
   end_of_trace :
@@ -72,14 +72,14 @@ module _ (map : MemMap) (devices : Option (List ℕ)) (steps : ℕ) (names : Lis
 
   -- the run of a text's objects in an environment
   abbrev course : TraceTexts → Environment → Course PlainState (Place × Why)
-  course texts environment = plain_course (program_of (parsed (inputs_in map texts.objects))) environment steps
+  course texts environment = plain_course (program_of (parsed (inputs_in options texts.objects))) environment steps
 
   abbrev runs : TraceTexts → List DevicesLine → List ℕ → Outcome → World → World → Type 0
-  runs texts lines input = Traces (inputs_in map texts.objects) steps (environment_of lines steps input)
+  runs texts lines input = Traces (inputs_in options texts.objects) steps (environment_of lines steps input)
 
-  pub trace_facts : Facts task (λ files. TraceWork map steps (trace_texts devices files))
+  pub trace_facts : Facts task (λ files. TraceWork options steps (trace_texts devices files))
   trace_facts = record {
-    refuses = λ files. trace_refuses map (trace_texts devices files);
+    refuses = λ files. trace_refuses options (trace_texts devices files);
     ends = λ files outcome before after work.
         let texts = trace_texts devices files in
         unless_ends task refl (runs texts work.lines)
@@ -99,7 +99,7 @@ module _ (map : MemMap) (devices : Option (List ℕ)) (steps : ℕ) (names : Lis
   -- the files can't be had
   pub without_files :
       (left : List (List ℕ)) (outcome : Outcome) (before after : World) → OnlyRead (trace_wanted devices names) before after →
-      UnreadCause (trace_wanted devices names) before.shelf after.shelf outcome → DoesWith (Some (Trace map devices steps names)) left outcome before after
+      UnreadCause (trace_wanted devices names) before.shelf after.shelf outcome → DoesWith (Some (Trace options devices steps names)) left outcome before after
   without_files left outcome before after only cause = record { files = left; line = refl; does = inl (record { only = only; cause = cause }) }
 
   module _ (objects : List (List ℕ)) (text : Option (List ℕ)) (given : IsGiven devices text) (before after : World) (only : OnlyRead (trace_wanted devices names) before after) (read : AreRead before.shelf.files (trace_wanted devices names) (objects ++ text_file text)) where
@@ -110,40 +110,40 @@ module _ (map : MemMap) (devices : Option (List ℕ)) (steps : ℕ) (names : Lis
     texts_are = trace_files devices objects text given
 
     -- what is refused, and of which fault, by the objects and the text
-    refusal_is : trace_refusal map (trace_texts devices files) ≡ option_or (refused_for (first_fault (inputs_in map objects))) (devices_refusal (lines_given map text))
-    refusal_is = ap (trace_refusal map) texts_are
+    refusal_is : trace_refusal options (trace_texts devices files) ≡ option_or (refused_for (first_fault (inputs_in options objects))) (devices_refusal (lines_given options.map text))
+    refusal_is = ap (trace_refusal options) texts_are
 
     refused_with :
-        (left : List (List ℕ)) (outcome : Outcome) → trace_refusal map (trace_texts devices files) ≡ Some outcome → err_line left outcome ≡ err_line files outcome
-        → DoesWith (Some (Trace map devices steps names)) left outcome before after
+        (left : List (List ℕ)) (outcome : Outcome) → trace_refusal options (trace_texts devices files) ≡ Some outcome → err_line left outcome ≡ err_line files outcome
+        → DoesWith (Some (Trace options devices steps names)) left outcome before after
     refused_with left outcome refused line = record { files = files; line = line; does = inr (inl (record { only = only; read = read; refused = refused })) }
 
     -- the objects can't be gathered
     pub ungathered_files :
-        (left : List (List ℕ)) (outcome : Outcome) → IsUngathered map objects left outcome → DoesWith (Some (Trace map devices steps names)) left outcome before after
+        (left : List (List ℕ)) (outcome : Outcome) → IsUngathered options objects left outcome → DoesWith (Some (Trace options devices steps names)) left outcome before after
     ungathered_files left outcome is = by is.fault is.outcome_is is.refused
       where
-        by : (fault : LinkFault) → outcome ≡ link_outcome fault → IsRefusal (gather_fault (inputs_in map objects)) fault → DoesWith (Some (Trace map devices steps names)) left outcome before after
+        by : (fault : LinkFault) → outcome ≡ link_outcome fault → IsRefusal (gather_fault (inputs_in options objects)) fault → DoesWith (Some (Trace options devices steps names)) left outcome before after
         by link.OutOfMemory same refused =
             without_files left outcome before after only (subst (λ o. UnreadCause (trace_wanted devices names) before.shelf after.shelf o) (sym same) tt)
         by (link.Object index fault) same refused =
-            let found = gather_refuses (inputs_in map objects) (link.Object index fault) refused in
+            let found = gather_refuses (inputs_in options objects) (link.Object index fault) refused in
             refused_with left outcome
-            (refusal_is ∙ ap (λ f. option_or (refused_for f) (devices_refusal (lines_given map text))) found ∙ ap Some (sym same))
-            (is.line ∙ subst (λ o. err_line objects o ≡ err_line files o) (sym same) (refusal_line (inputs_in map objects) (text_file text) (link.Object index fault) refused))
+            (refusal_is ∙ ap (λ f. option_or (refused_for f) (devices_refusal (lines_given options.map text))) found ∙ ap Some (sym same))
+            (is.line ∙ subst (λ o. err_line objects o ≡ err_line files o) (sym same) (refusal_line (inputs_in options objects) (text_file text) (link.Object index fault) refused))
 
     -- the objects or the devices are refused, or memory ran out before that was known
     pub unready_files :
         (left : List (List ℕ)) (outcome : Outcome) → NamesNothing outcome
-        → (outcome ≡ OutOfMemory) ⊎ (option_or (refused_for (first_fault (inputs_in map objects))) (devices_refusal (lines_given map text)) ≡ Some outcome)
-        → DoesWith (Some (Trace map devices steps names)) left outcome before after
+        → (outcome ≡ OutOfMemory) ⊎ (option_or (refused_for (first_fault (inputs_in options objects))) (devices_refusal (lines_given options.map text)) ≡ Some outcome)
+        → DoesWith (Some (Trace options devices steps names)) left outcome before after
     unready_files left outcome nothing (inl memory) = without_files left outcome before after only (subst (λ o. UnreadCause (trace_wanted devices names) before.shelf after.shelf o) (sym memory) tt)
     unready_files left outcome nothing (inr refused) = refused_with left outcome (refusal_is ∙ refused) (names_in_none outcome left files nothing)
 
     -- the objects ran with the devices
     pub traced_ran :
-        (left : List (List ℕ)) (outcome : Outcome) (lines : List DevicesLine) (end : World) → NamesNothing outcome → first_fault (inputs_in map objects) ≡ None → lines_given map text ≡ Ok lines
-        → AnswersOrTakes lines steps (Traces (inputs_in map objects) steps) outcome after end → DoesWith (Some (Trace map devices steps names)) left outcome before end
+        (left : List (List ℕ)) (outcome : Outcome) (lines : List DevicesLine) (end : World) → NamesNothing outcome → first_fault (inputs_in options objects) ≡ None → lines_given options.map text ≡ Ok lines
+        → AnswersOrTakes lines steps (Traces (inputs_in options objects) steps) outcome after end → DoesWith (Some (Trace options devices steps names)) left outcome before end
     traced_ran left outcome lines end nothing sound named ran = record {
       files = files;
       line = names_in_none outcome left files nothing;
@@ -152,8 +152,8 @@ module _ (map : MemMap) (devices : Option (List ℕ)) (steps : ℕ) (names : Lis
         only = only;
         read = read;
         accepted =
-            refusal_is ∙ ap (λ f. option_or (refused_for f) (devices_refusal (lines_given map text))) sound
+            refusal_is ∙ ap (λ f. option_or (refused_for f) (devices_refusal (lines_given options.map text))) sound
             ∙ ap (λ (r : Result (List DevicesLine) DevicesFault). devices_refusal r) named;
-        work = subst (λ texts. TraceWork map steps texts outcome after end) (sym texts_are) (record { lines = lines; named = named; run = ran });
+        work = subst (λ texts. TraceWork options steps texts outcome after end) (sym texts_are) (record { lines = lines; named = named; run = ran });
       }));
     }

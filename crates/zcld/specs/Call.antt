@@ -28,17 +28,17 @@ use Rattle.zcld.specs.Zc.{ZcWork}
 
 -- ---- the commands
 
--- what each command does outside, in the map that its words give
+-- what each command does outside, under the options or in the map that its words give
 abbrev pub task_of : Command → Task
-task_of (Plain map out objects) = record {
+task_of (Plain options out objects) = record {
   wanted = objects_wanted objects;
-  refusal = objects_refusal map;
+  refusal = objects_refusal options;
   puts = true;
   takes = false;
 }
-task_of (Zc map out cert objects) = record {
+task_of (Zc options out cert objects) = record {
   wanted = objects_wanted objects;
-  refusal = objects_refusal map;
+  refusal = objects_refusal options;
   puts = true;
   takes = false;
 }
@@ -48,9 +48,9 @@ task_of (Run map devices plan steps image) = record {
   puts = false;
   takes = true;
 }
-task_of (Trace map devices steps objects) = record {
+task_of (Trace options devices steps objects) = record {
   wanted = trace_wanted devices objects;
-  refusal = λ files. trace_refusal map (trace_texts devices files);
+  refusal = λ files. trace_refusal options (trace_texts devices files);
   puts = false;
   takes = true;
 }
@@ -66,33 +66,33 @@ task_of (Make prefix number functions) = record {
   puts = is_some prefix;
   takes = false;
 }
-task_of (Gc prefix objects) = rewrite_task objects
-task_of (Merge prefix objects) = rewrite_task objects
-task_of (Share out plan steps objects) = record {
+task_of (Gc options prefix objects) = rewrite_task options objects
+task_of (Merge options prefix objects) = rewrite_task options objects
+task_of (Share options out plan steps objects) = record {
   wanted = share_wanted plan objects;
-  refusal = share_refusal;
+  refusal = share_refusal options;
   puts = true;
   takes = true;
 }
-task_of (Listing image) = record {
+task_of (Listing map image) = record {
   wanted = list_wanted image;
-  refusal = list_refusal;
+  refusal = list_refusal map;
   puts = false;
   takes = false;
 }
 
 -- the work of each command, once its files are read and accepted
 abbrev pub work_of : Command → List (List ℕ) → Outcome → World → World → Type 0
-work_of (Plain map out objects) = PlainWork map out
-work_of (Zc map out cert objects) = ZcWork map out cert
+work_of (Plain options out objects) = PlainWork options out
+work_of (Zc options out cert objects) = ZcWork options out cert
 work_of (Run map devices plan steps image) = λ files. RunWork map steps (run_texts devices plan files)
-work_of (Trace map devices steps objects) = λ files. TraceWork map steps (trace_texts devices files)
+work_of (Trace options devices steps objects) = λ files. TraceWork options steps (trace_texts devices files)
 work_of (Check cert) = CheckWork
 work_of (Make prefix number functions) = MakeWork prefix number functions
-work_of (Gc prefix objects) = GcWork prefix
-work_of (Merge prefix objects) = MergeWork prefix
-work_of (Share out plan steps objects) = ShareWork out steps
-work_of (Listing image) = ListWork
+work_of (Gc options prefix objects) = GcWork options prefix
+work_of (Merge options prefix objects) = MergeWork options prefix
+work_of (Share options out plan steps objects) = ShareWork options out steps
+work_of (Listing map image) = ListWork
 
 -- what words do: what their command performs; or, if they are no command, nothing, with the outcome Usage, or OutOfMemory if
 -- memory ran out before that was known

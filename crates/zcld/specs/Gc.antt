@@ -1,7 +1,9 @@
 -- What `gc` does: it leaves out of the objects the code that the program doesn't need, puts the results, and writes how much code is
 -- kept.
 use Rattle.std.specs.Prelude.{ℕ, ◌++◌, List, codes, decimal}
+use Rattle.psabi_sym.specs.Inputs.{inputs_in}
 use Rattle.section_gc.specs.Collected.{Collection, IsBroken, IsCollection}
+use Rattle.zc_base.specs.Options.{Options}
 use Rattle.zc_outside.specs.World.{World}
 use Rattle.zcld.specs.declared.outcome.Outcome.{Outcome}
 use Rattle.zcld.specs.ErrLine.{line}
@@ -21,6 +23,7 @@ kept_lines c = share_line (codes "sections") c.kept c.all ++ share_line (codes "
 abbrev pub gc_output : List ℕ → Collection → Output
 gc_output prefix c = record { files = named_from prefix 0 c.files; text = kept_lines c }
 
--- the work of `gc`
-abbrev pub GcWork : List ℕ → List (List ℕ) → Outcome → World → World → Type 0
-GcWork prefix = Rewrites IsBroken IsCollection (gc_output prefix)
+-- the work of `gc`, under the options
+abbrev pub GcWork : Options → List ℕ → List (List ℕ) → Outcome → World → World → Type 0
+GcWork options prefix files =
+    Rewrites (IsBroken (inputs_in options files)) (IsCollection (inputs_in options files)) (gc_output prefix)

@@ -1,7 +1,7 @@
 -- What `list` does: it reads an image, and writes its listing, which reads back to the image's segments.
 use Rattle.std.specs.Prelude.{◌≡◌, ℕ, ◌⊎◌, List, [], ◌∷◌, Option, Ok}
 use Rattle.elf32_read.specs.Segments.{segments_of}
-use Rattle.zc_base.specs.MemMap.{standard_map}
+use Rattle.zc_base.specs.declared.mem_map.MemMap.{MemMap}
 use Rattle.zc_list.specs.Listing.{list_text}
 use Rattle.zc_list.specs.Spelled.{segments_in}
 use Rattle.zc_outside.specs.Desk.{OnlyWrites}
@@ -18,9 +18,9 @@ use Rattle.zcld.specs.Task.{first_file}
 abbrev pub list_wanted : List ℕ → List Wanted
 list_wanted image = record { name = image; limit = IMAGE_LIMIT } ∷ []
 
--- the first fault of the file, an image in the standard map
-abbrev pub list_refusal : List (List ℕ) → Option Outcome
-list_refusal files = image_refusal standard_map (first_file files)
+-- the first fault of the file, an image in the map
+abbrev pub list_refusal : MemMap → List (List ℕ) → Option Outcome
+list_refusal map files = image_refusal map (first_file files)
 
 -- a text is the listing of an image, and spells the image's segments byte for byte
 pub record IsListing (image text : List ℕ) : Type 0 where

@@ -1,8 +1,7 @@
 -- What a command does that writes objects again: it puts the results and writes lines on them, unless they would have a fault.
 use Rattle.std.specs.Prelude.{◌≡◌, ℕ, ◌⊎◌, true, false, List}
 use Rattle.elf32_read.specs.declared.fault.Fault.{Fault}
-use Rattle.psabi_sym.specs.Inputs.{Inputs, inputs_in}
-use Rattle.zc_base.specs.MemMap.{standard_map}
+use Rattle.zc_base.specs.Options.{Options}
 use Rattle.zc_outside.specs.Desk.{OnlyWrites}
 use Rattle.zc_outside.specs.Shelf.{OnlyPuts}
 use Rattle.zc_outside.specs.World.{World}
@@ -12,11 +11,11 @@ use Rattle.zcld.specs.Objects.{objects_refusal, objects_wanted}
 use Rattle.zcld.specs.Puts.{Output, PutsInTurn}
 use Rattle.zcld.specs.Task.{Task}
 
--- it reads objects, refuses them as a link in the standard map does, and puts files
-abbrev pub rewrite_task : List (List ℕ) → Task
-rewrite_task objects = record {
+-- it reads objects, refuses them as a link under the options does, and puts files
+abbrev pub rewrite_task : Options → List (List ℕ) → Task
+rewrite_task options objects = record {
   wanted = objects_wanted objects;
-  refusal = objects_refusal standard_map;
+  refusal = objects_refusal options;
   puts = true;
   takes = false;
 }
@@ -40,9 +39,7 @@ pub record PutsResults {A : Type 0}
 
 -- there was no memory for the results or their names, and nothing was done; or they would have a fault; or they were put
 abbrev pub Rewrites :
-    {A : Type 0} → (Inputs → ℕ → Fault → Type 0) → (Inputs → A → Type 0) → (A → Output) → List (List ℕ) → Outcome → World →
-    World → Type 0
-Rewrites Breaks AreResults output files outcome before after =
-    let inputs = inputs_in standard_map files in
+    {A : Type 0} → (ℕ → Fault → Type 0) → (A → Type 0) → (A → Output) → Outcome → World → World → Type 0
+Rewrites Breaks AreResults output outcome before after =
     ((outcome ≡ OutOfMemory) × (after ≡ before))
-    ⊎ (BreaksObjects (Breaks inputs) outcome before after ⊎ PutsResults (AreResults inputs) output outcome before after)
+    ⊎ (BreaksObjects Breaks outcome before after ⊎ PutsResults AreResults output outcome before after)

@@ -11,7 +11,7 @@ use Rattle.psabi_sym.specs.Inputs.{Inputs, inputs_in, parsed}
 use Rattle.psabi_sym.specs.Shared.{shared_ranges}
 use Rattle.rv_decode.specs.State.{ZcCore}
 use Rattle.shared_cells.specs.SharedRun.{shared_by}
-use Rattle.zc_base.specs.MemMap.{standard_map}
+use Rattle.zc_base.specs.Options.{Options}
 use Rattle.shared_runs.specs.SharesCells.{SharesCells}
 use Rattle.sym_machine.specs.Objects.{program_of}
 use Rattle.zc_link.specs.Links.{IsZcLink, Link, slots_of}
@@ -36,14 +36,14 @@ use Rattle.zcld.specs.Run.{EndsRun, end_outcome, plan_refusal, plan_wanted}
 abbrev pub share_wanted : List ℕ → List (List ℕ) → List Wanted
 share_wanted plan objects = objects_wanted objects ++ plan_wanted (Some plan)
 
--- the objects in the standard map; the plan is the last file
-abbrev pub share_inputs : List (List ℕ) → Inputs
-share_inputs files = inputs_in standard_map (objects_before files)
+-- the objects under the options; the plan is the last file
+abbrev pub share_inputs : Options → List (List ℕ) → Inputs
+share_inputs options files = inputs_in options (objects_before files)
 
 -- the first fault in the objects is named, and the plan's only if the objects have none
-abbrev pub share_refusal : List (List ℕ) → Option Outcome
-share_refusal files =
-    option_or (objects_refusal standard_map (objects_before files)) (plan_refusal (shared_in (last_file files)))
+abbrev pub share_refusal : Options → List (List ℕ) → Option Outcome
+share_refusal options files =
+    option_or (objects_refusal options (objects_before files)) (plan_refusal (shared_in (last_file files)))
 
 -- ---- the run
 
@@ -62,14 +62,17 @@ pub record HasPutImage
   pub only : OnlyPuts before.shelf between
   pub does : Does outcome (world between before.desk) after
 
--- there was no memory for the machine, and nothing was done; or the image couldn't be put; or it was put, and the machine ran from its
--- first state over an input, of at most `steps` commits, with what happens before each of them, and came to an end
+-- the machine ran from its first state over an input, of at most `steps` commits, with what happens before each of them, and came to
+-- an end
+abbrev pub RunsFrom : ZcCore → (ℕ → ZcCore → ZcCore) → ℕ → List ℕ → Outcome → World → World → Type 0
+RunsFrom first happens steps input = HasEnded (EndsRun first happens steps (only_input input)) end_outcome
+
+-- there was no memory for the machine, and nothing was done; or the image couldn't be put; or it was put, and ran over an input
 abbrev pub PutsAndRuns :
-    List ℕ → List ℕ → (ℕ → ZcCore → ZcCore) → ℕ → List ℕ → Outcome → World → World → Type 0
-PutsAndRuns out image happens steps input outcome before after =
+    List ℕ → List ℕ → (List ℕ → Outcome → World → World → Type 0) → List ℕ → Outcome → World → World → Type 0
+PutsAndRuns out image Runs input outcome before after =
     ((outcome ≡ OutOfMemory) × (after ≡ before))
-    ⊎ (IsImageUnput outcome before after
-    ⊎ HasPutImage out image (HasEnded (EndsRun (first_core_of image standard_map) happens steps (only_input input)) end_outcome) outcome before after)
+    ⊎ (IsImageUnput outcome before after ⊎ HasPutImage out image (Runs input) outcome before after)
 
 -- what `share` puts and runs, as the program holds it: the image of the objects' link, the plan that a text spells, and the objects'
 -- ranges of shared data in any order
@@ -89,19 +92,25 @@ SharesLink inputs link linked =
     SharesCells program linked.image.loaded (pace_of program (stretch_in (zc_layout inputs (slots_of link))))
     (shared_ranges (parsed inputs))
 
--- the objects were linked, the input was taken, the image was put, and it ran under the plan, whose cells are written where they lie
--- in the objects' sections of shared data; and under every such plan that image does what the objects' program does
+-- the objects were linked, the input was taken, the image was put, and it ran under the plan, all under the options; the plan's cells are
+-- written where they lie in the objects' sections of shared data; and under every such plan that image does what the objects'
+-- program does
 pub record LinksAndRuns
-    (out : List ℕ) (steps : ℕ) (files : List (List ℕ)) (outcome : Outcome) (before after : World) : Type 0 where
+    (options : Options) (out : List ℕ) (steps : ℕ) (files : List (List ℕ)) (outcome : Outcome) (before after : World)
+    : Type 0 where
   pub link : Link
-  pub linked : IsZcLink (share_inputs files) link
-  pub shares : SharesLink (share_inputs files) link linked
+  pub linked : IsZcLink (share_inputs options files) link
+  pub shares : SharesLink (share_inputs options files) link linked
   pub plan : List SharedEntry
   pub spelled : shared_in (last_file files) ≡ Ok plan
   pub run :
-      TakesAndRuns (PutsAndRuns out link.elf (shared_by (shared_ranges (parsed (share_inputs files))) plan) steps) outcome before after
+      TakesAndRuns
+      (PutsAndRuns out link.elf
+      (RunsFrom (first_core_of link.elf options.map)
+      (shared_by (shared_ranges (parsed (share_inputs options files))) plan) steps))
+      outcome before after
 
 -- the work of `share`: there was no memory for the link or the plan, and nothing was done; or the link ran
-abbrev pub ShareWork : List ℕ → ℕ → List (List ℕ) → Outcome → World → World → Type 0
-ShareWork out steps files outcome before after =
-    ((outcome ≡ OutOfMemory) × (after ≡ before)) ⊎ LinksAndRuns out steps files outcome before after
+abbrev pub ShareWork : Options → List ℕ → ℕ → List (List ℕ) → Outcome → World → World → Type 0
+ShareWork options out steps files outcome before after =
+    ((outcome ≡ OutOfMemory) × (after ≡ before)) ⊎ LinksAndRuns options out steps files outcome before after

@@ -9,7 +9,7 @@ use Rattle.sym_machine.specs.Objects.{program_of}
 use Rattle.sym_machine.specs.RunEnd.{Traced, plain_course}
 use Rattle.sym_machine.specs.declared.run.TraceEnd.{TraceEnd}
 use Rattle.sym_machine.specs.declared.run.TraceEnd.TheVariants as end
-use Rattle.zc_base.specs.declared.mem_map.MemMap.{MemMap}
+use Rattle.zc_base.specs.Options.{Options}
 use Rattle.zc_outside.specs.Wanted.{Wanted}
 use Rattle.zc_outside.specs.World.{World}
 use Rattle.zc_outside.specs.declared.console.ConsoleFault.TheVariants as console
@@ -36,9 +36,9 @@ trace_texts None files = record { objects = files; devices = None }
 trace_texts (Some devices) files = record { objects = objects_before files; devices = Some (last_file files) }
 
 -- the first fault in the objects is named, and the devices' only if the objects have none
-abbrev pub trace_refusal : MemMap → TraceTexts → Option Outcome
-trace_refusal map texts =
-    option_or (objects_refusal map texts.objects) (devices_refusal (lines_given map texts.devices))
+abbrev pub trace_refusal : Options → TraceTexts → Option Outcome
+trace_refusal options texts =
+    option_or (objects_refusal options texts.objects) (devices_refusal (lines_given options.map texts.devices))
 
 -- ---- the run
 
@@ -56,9 +56,9 @@ abbrev pub Traces : Inputs → ℕ → Environment → Outcome → World → Wor
 Traces inputs steps environment =
     Executes (Traced (plain_course (program_of (parsed inputs)) environment steps)) trace_outcome
 
--- the work of `trace`, in the map and with the devices
+-- the work of `trace`, under the options and with the devices
 pub record TraceWork
-    (map : MemMap) (steps : ℕ) (texts : TraceTexts) (outcome : Outcome) (before after : World) : Type 0 where
+    (options : Options) (steps : ℕ) (texts : TraceTexts) (outcome : Outcome) (before after : World) : Type 0 where
   pub lines : List DevicesLine
-  pub named : lines_given map texts.devices ≡ Ok lines
-  pub run : AnswersOrTakes lines steps (Traces (inputs_in map texts.objects) steps) outcome before after
+  pub named : lines_given options.map texts.devices ≡ Ok lines
+  pub run : AnswersOrTakes lines steps (Traces (inputs_in options texts.objects) steps) outcome before after

@@ -1,7 +1,10 @@
 -- What `zc` does: it links the objects, puts the image and then the certificate, and writes the report.
-use Rattle.std.specs.Prelude.{◌≡◌, ℕ, ◌⊎◌, List, [], ◌∷◌}
-use Rattle.psabi_sym.specs.Inputs.{inputs_in}
-use Rattle.zc_base.specs.declared.mem_map.MemMap.{MemMap}
+use Rattle.std.specs.Prelude.{◌≡◌, ℕ, ◌⊎◌, ◌==◌, if◌then◌else◌, List, [], ◌∷◌, length, Option, Some, None}
+use Rattle.std.specs.List.{count_by}
+use Rattle.psabi_sym.specs.Fixed.{is_fixed}
+use Rattle.psabi_sym.specs.Indexed.{all_sections}
+use Rattle.psabi_sym.specs.Inputs.{ParsedInputs, inputs_in, parsed}
+use Rattle.zc_base.specs.Options.{Options}
 use Rattle.pick_check.specs.Text.{certificate_text}
 use Rattle.size_report.specs.Report.{report_text}
 use Rattle.zc_outside.specs.Desk.{OnlyWrites}
@@ -13,11 +16,20 @@ use Rattle.zcld.specs.declared.outcome.Outcome.TheVariants.{OutOfMemory}
 use Rattle.zcld.specs.declared.zc.ZcResults.{ZcResults}
 use Rattle.zcld.specs.Puts.{Output, PutsInTurn}
 
--- the image and then the certificate of its table, and the report of the link
-abbrev pub zc_output : List ℕ → List ℕ → Link → Output
-zc_output out cert link = record {
+-- how many sections of the objects are fixed
+abbrev pub fixed_count : ParsedInputs → ℕ
+fixed_count inputs = count_by (λ l. is_fixed inputs.fixed l.section) (all_sections inputs.objects)
+
+-- this, if names of fixed sections are given
+abbrev pub fixed_told : ParsedInputs → Option ℕ
+fixed_told inputs = if length inputs.fixed == 0 then None else Some (fixed_count inputs)
+
+-- the image and then the certificate of its table, and the report of the link, with how many sections are fixed if that is
+-- told
+abbrev pub zc_output : List ℕ → List ℕ → Option ℕ → Link → Output
+zc_output out cert fixed link = record {
   files = (out, link.elf) ∷ (cert, certificate_text link.savings link.certificate) ∷ [];
-  text = report_text link.plain link.zc link.savings link.certificate;
+  text = report_text (record { plain = link.plain; zc = link.zc; fixed = fixed }) link.savings link.certificate;
 }
 
 -- what `zc` puts and writes, as the program holds it
@@ -27,18 +39,19 @@ output_of out cert results = record {
   text = results.report.items;
 }
 
--- the link in the map was made, its image and the certificate were put, and the report was written, as far as this
+-- the link under the options was made, its image and the certificate were put, and the report was written, as far as this
 -- outcome says
 pub record PutsZc
-    (map : MemMap) (out cert : List ℕ) (files : List (List ℕ)) (outcome : Outcome) (before after : World)
+    (options : Options) (out cert : List ℕ) (files : List (List ℕ)) (outcome : Outcome) (before after : World)
     : Type 0 where
   pub link : Link
-  pub linked : IsZcLink (inputs_in map files) link
-  pub done : PutsInTurn outcome (zc_output out cert link) before after
+  pub linked : IsZcLink (inputs_in options files) link
+  pub done :
+      PutsInTurn outcome (zc_output out cert (fixed_told (parsed (inputs_in options files))) link) before after
   pub shelf : OnlyPuts before.shelf after.shelf
   pub desk : OnlyWrites before.desk after.desk
 
 -- there was no memory for the link, and nothing was done; or the link was made and put
-abbrev pub ZcWork : MemMap → List ℕ → List ℕ → List (List ℕ) → Outcome → World → World → Type 0
-ZcWork map out cert files outcome before after =
-    ((outcome ≡ OutOfMemory) × (after ≡ before)) ⊎ PutsZc map out cert files outcome before after
+abbrev pub ZcWork : Options → List ℕ → List ℕ → List (List ℕ) → Outcome → World → World → Type 0
+ZcWork options out cert files outcome before after =
+    ((outcome ≡ OutOfMemory) × (after ≡ before)) ⊎ PutsZc options out cert files outcome before after

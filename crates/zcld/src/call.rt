@@ -68,6 +68,6 @@ fn perform<S: Store, C: Console>(
         CommandLine::Gc(args) => gc(alloc, &args, store, console),
         CommandLine::Merge(args) => merge(alloc, &args, store, console),
         CommandLine::Share(args) => share(alloc, &args, store, console),
-        CommandLine::List { image } => Ending::alone(alloc, list(alloc, image, store, console)),
+        CommandLine::List(args) => Ending::alone(alloc, list(alloc, args, store, console)),
     }
 }

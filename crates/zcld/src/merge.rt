@@ -2,6 +2,7 @@
 
 ghost use Rattle.std.specs.Prelude.{◌≡◌, ◌+◌, ◌++◌, ◌≤◌, Some, decimal, length};
 ghost use Rattle.psabi_sym.specs.Objects.{contents_of};
+ghost use Rattle.zc_base.specs.MemMap.{IsMap};
 ghost use Rattle.zc_outside.specs.World.{world};
 ghost use Rattle.command_words.specs.Command.{merge_meant};
 ghost use Rattle.zcld.specs.Call.{DoesWith};
@@ -18,7 +19,6 @@ use command_words::command_line::MergeArgs;
 use itoa::Buffer;
 use std::alloc::Global;
 use tail_merge::merge::{Merged, merge as share};
-use zc_base::mem_map::MemMap;
 use zc_outside::console::Console;
 use zc_outside::store::Store;
 
@@ -30,6 +30,7 @@ pub fn merge<S: Store, C: Console>(
     store: &mut S,
     console: &mut C,
 ) -> Ending
+    requires { IsMap args.now.options.map }
     ensures { DoesWith (Some (merge_meant args.now)) (contents_of result.files.items) result.outcome
         (world (S.shown store.old) (C.shown console.old)) (world (S.shown store.new) (C.shown console.new)) }
 {
@@ -37,7 +38,7 @@ pub fn merge<S: Store, C: Console>(
         Ok(files) => files,
         Err(outcome) => return Ending::alone(alloc, outcome),
     };
-    match share(alloc, files.as_slice(), MemMap::standard()) {
+    match share(alloc, files.as_slice(), &args.options) {
         Ok(merged) => {
             let lines = removed_lines(&merged);
             let results = Results {

@@ -8,7 +8,7 @@ ghost use Rattle.psabi_sym.specs.Inputs.{inputs_in};
 ghost use Rattle.psabi_sym.specs.LinkFault.{IsNameless, IsRefusal};
 ghost use Rattle.psabi_sym.specs.Objects.{contents_of};
 ghost use Rattle.zc_base.specs.MemMap.{IsMap};
-ghost use Rattle.zc_base.specs.declared.mem_map.MemMap.{MemMap};
+ghost use Rattle.zc_base.specs.Options.{Options};
 ghost use Rattle.zc_outside.specs.Wanted.{AreRead, ReadsAll};
 ghost use Rattle.command_words.specs.Command.{texts};
 ghost use Rattle.zcld.specs.Objects.{AreGathered, EndsWithout, IsUngathered, objects_wanted};
@@ -25,7 +25,7 @@ use psabi_sym::long_files::long_files_refusal;
 use psabi_sym::objects::{MOST_OBJECTS, Objects};
 use psabi_sym::sums::MOST_BYTES;
 use std::alloc::{AllocError, Global};
-use zc_base::mem_map::MemMap;
+use zc_base::link_options::LinkOptions;
 use zc_outside::read_files::read_file;
 use zc_outside::store::Store;
 
@@ -73,14 +73,14 @@ impl Reading {
         Ok(())
     }
 
-    // Why the objects, of which these are kept, aren't linked in any map, if there are too many or they have too many
+    // Why the objects, of which these are kept, aren't linked under any options, if there are too many or they have too many
     // bytes.
     fn refusal(&self, alloc: Global) -> Option<LinkFault>
         requires { (read : List (List ℕ)) × KeepsAll read self.now }
         ensures none { result ≡ None → (read : List (List ℕ)) → KeepsAll read self.now
             → read ≡ contents_of self.now.files.items }
-        ensures some { IfSome result (λ fault. (read : List (List ℕ)) → KeepsAll read self.now → (map : MemMap)
-            → IsRefusal (gather_fault (inputs_in map read)) fault × IsNameless fault) }
+        ensures some { IfSome result (λ fault. (read : List (List ℕ)) → KeepsAll read self.now → (options : Options)
+            → IsRefusal (gather_fault (inputs_in options read)) fault × IsNameless fault) }
     {
         if self.are_many {
             return Some(LinkFault::Object {
@@ -104,7 +104,7 @@ pub fn read_objects<S: Store>(
 ) -> Result<Vec<Vec<u8>>, Outcome>
     ensures ok { IfOk result (λ files. AreRead (S.shown store.old).files (objects_wanted (texts names.now))
         (contents_of files.items)) }
-    ensures err { IfErr result (λ outcome. (map : MemMap) (left : List (List ℕ)) → EndsWithout map (texts names.now)
+    ensures err { IfErr result (λ outcome. (options : Options) (left : List (List ℕ)) → EndsWithout options (texts names.now)
         left outcome (S.shown store.old) (S.shown store.new)) }
     ensures reads { ReadsAll (objects_wanted (texts names.now)) (S.shown store.old) (S.shown store.new) }
 {
@@ -138,21 +138,21 @@ pub fn read_all<S: Store>(
     Ok(reading)
 }
 
-/// The objects of the files that were read, in the map, or how the command ends without them. Objects are a copy of their
+/// The objects of the files that were read, under the options, or how the command ends without them. Objects are a copy of their
 /// files, which are let go, unless a refusal may name something in them.
-pub fn gather(alloc: Global, reading: Reading, map: MemMap) -> Result<Objects, Ending>
-    requires map { IsMap map }
+pub fn gather(alloc: Global, reading: Reading, options: &LinkOptions) -> Result<Objects, Ending>
+    requires map { IsMap options.now.map }
     requires read { (read : List (List ℕ)) × KeepsAll read reading }
     ensures ok { IfOk result (λ objects. (read : List (List ℕ)) → KeepsAll read reading
-        → (objects ≡ inputs_in map read) × (gather_fault objects ≡ None)) }
+        → (objects ≡ inputs_in options.now read) × (gather_fault objects ≡ None)) }
     ensures err { IfErr result (λ ending. (read : List (List ℕ)) → KeepsAll read reading
-        → IsUngathered map read (contents_of ending.files.items) ending.outcome) }
+        → IsUngathered options.now read (contents_of ending.files.items) ending.outcome) }
 {
     if let Some(fault) = reading.refusal(alloc) {
         return Err(Ending::alone(alloc, Outcome::from(fault)));
     }
     let files = reading.files;
-    match Objects::gather(alloc, files.as_slice(), map) {
+    match Objects::gather(alloc, files.as_slice(), options) {
         Ok(objects) => Ok(objects),
         Err(fault) => Err(Ending {
             outcome: Outcome::from(fault),
@@ -161,21 +161,21 @@ pub fn gather(alloc: Global, reading: Reading, map: MemMap) -> Result<Objects, E
     }
 }
 
-/// The objects under these names, in the map, or how the command ends without them.
+/// The objects under these names, under the options, or how the command ends without them.
 pub fn gather_named<S: Store>(
     alloc: Global,
     names: &[String],
-    map: MemMap,
+    options: &LinkOptions,
     store: &mut S,
 ) -> Result<Objects, Ending>
-    requires { IsMap map }
-    ensures ok { IfOk result (λ objects. AreGathered map (texts names.now) objects (S.shown store.old).files) }
-    ensures err { IfErr result (λ ending. EndsWithout map (texts names.now) (contents_of ending.files.items)
+    requires { IsMap options.now.map }
+    ensures ok { IfOk result (λ objects. AreGathered options.now (texts names.now) objects (S.shown store.old).files) }
+    ensures err { IfErr result (λ ending. EndsWithout options.now (texts names.now) (contents_of ending.files.items)
         ending.outcome (S.shown store.old) (S.shown store.new)) }
     ensures reads { ReadsAll (objects_wanted (texts names.now)) (S.shown store.old) (S.shown store.new) }
 {
     match read_all(alloc, names, store) {
-        Ok(reading) => gather(alloc, reading, map),
+        Ok(reading) => gather(alloc, reading, options),
         Err(outcome) => Err(Ending::alone(alloc, outcome)),
     }
 }

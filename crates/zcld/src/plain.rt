@@ -34,11 +34,11 @@ pub fn plain<S: Store, C: Console>(
     store: &mut S,
     console: &mut C,
 ) -> Ending
-    requires { IsMap args.now.map }
+    requires { IsMap args.now.options.map }
     ensures { DoesWith (Some (plain_meant args.now)) (contents_of result.files.items) result.outcome
         (world (S.shown store.old) (C.shown console.old)) (world (S.shown store.new) (C.shown console.new)) }
 {
-    let objects = match gather_named(alloc, args.objects.as_slice(), args.map, store) {
+    let objects = match gather_named(alloc, args.objects.as_slice(), &args.options, store) {
         Ok(objects) => objects,
         Err(ending) => return ending,
     };

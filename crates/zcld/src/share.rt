@@ -12,7 +12,8 @@ ghost use Rattle.psabi_sym.specs.Inputs.{parsed};
 ghost use Rattle.psabi_sym.specs.Objects.{contents_of};
 ghost use Rattle.psabi_sym.specs.Shared.{shared_ranges};
 ghost use Rattle.shared_cells.specs.SharedRun.{shared_by};
-ghost use Rattle.zc_base.specs.MemMap.{standard_map};
+ghost use Rattle.zc_base.specs.MemMap.{IsMap};
+ghost use Rattle.zc_machine.specs.Load.{first_core_of};
 ghost use Rattle.zc_outside.specs.Wanted.{AreRead, ReadsAll};
 ghost use Rattle.zc_outside.specs.World.{world};
 ghost use Rattle.zcld.specs.Call.{DoesWith};
@@ -21,7 +22,7 @@ ghost use Rattle.zcld.specs.Machines.{TakesAndRuns};
 ghost use Rattle.zcld.specs.Objects.{refused_for};
 ghost use Rattle.zcld.specs.Reading.{KeepsAll};
 ghost use Rattle.zcld.specs.Run.{plan_refusal};
-ghost use Rattle.zcld.specs.Share.{IsReadyToShare, PutsAndRuns, share_wanted};
+ghost use Rattle.zcld.specs.Share.{IsReadyToShare, PutsAndRuns, RunsFrom, share_wanted};
 ghost use Rattle.zcld.specs.Task.{UnreadCause};
 
 use crate::ending::Ending;
@@ -38,7 +39,6 @@ use interrupt_plan::shared_plan::SharedPlan;
 use psabi_sym::objects::Objects;
 use shared_cells::run_shared::run_shared;
 use std::alloc::{AllocError, Global};
-use zc_base::mem_map::MemMap;
 use zc_link::zc::link_zc;
 use zc_outside::console::Console;
 use zc_outside::read_files::read_file;
@@ -67,6 +67,7 @@ pub fn share<S: Store, C: Console>(
     store: &mut S,
     console: &mut C,
 ) -> Ending
+    requires { IsMap args.now.options.map }
     ensures { DoesWith (Some (share_meant args.now)) (contents_of result.files.items) result.outcome
         (world (S.shown store.old) (C.shown console.old)) (world (S.shown store.new) (C.shown console.new)) }
 {
@@ -74,7 +75,7 @@ pub fn share<S: Store, C: Console>(
         Ok(files) => files,
         Err(outcome) => return Ending::alone(alloc, outcome),
     };
-    let objects = match gather(alloc, files.objects, MemMap::standard()) {
+    let objects = match gather(alloc, files.objects, &args.options) {
         Ok(objects) => objects,
         Err(ending) => return ending,
     };
@@ -138,13 +139,15 @@ fn put_and_run<S: Store, C: Console>(
     store: &mut S,
     console: &mut C,
 ) -> Outcome
-    requires { image_fault shared.now.image.items standard_map ≡ None }
+    requires map { IsMap args.now.options.map }
+    requires faultless { image_fault shared.now.image.items args.now.options.map ≡ None }
     ensures runs { TakesAndRuns (PutsAndRuns args.now.out.now shared.now.image.items
-        (shared_by shared.now.ranges.items shared.now.plan) args.now.steps) result
+        (RunsFrom (first_core_of shared.now.image.items args.now.options.map)
+        (shared_by shared.now.ranges.items shared.now.plan) args.now.steps)) result
         (world (S.shown store.old) (C.shown console.old)) (world (S.shown store.new) (C.shown console.new)) }
     ensures line { NamesNothing result }
 {
-    let Ok(image) = Image::read(shared.image.as_slice(), MemMap::standard()) else {
+    let Ok(image) = Image::read(shared.image.as_slice(), args.options.map()) else {
         unreachable!();
     };
     let Ready { mut machine, input } = match make_ready(alloc, &image, false, console) {

@@ -59,7 +59,7 @@ pub fn trace<S: Store, C: Console>(
     store: &mut S,
     console: &mut C,
 ) -> Ending
-    requires { IsMap args.now.map }
+    requires { IsMap args.now.options.map }
     ensures { DoesWith (Some (trace_meant args.now)) (contents_of result.files.items) result.outcome
         (world (S.shown store.old) (C.shown console.old)) (world (S.shown store.new) (C.shown console.new)) }
 {
@@ -67,11 +67,11 @@ pub fn trace<S: Store, C: Console>(
         Ok(files) => files,
         Err(outcome) => return Ending::alone(alloc, outcome),
     };
-    let objects = match gather(alloc, files.objects, args.map) {
+    let objects = match gather(alloc, files.objects, &args.options) {
         Ok(objects) => objects,
         Err(ending) => return ending,
     };
-    match make_traceable(alloc, objects, &files.devices, args.map) {
+    match make_traceable(alloc, objects, &files.devices, args.options.map()) {
         Ok(program) => Ending::alone(alloc, execute(alloc, &program, args.steps, console)),
         Err(outcome) => Ending::alone(alloc, outcome),
     }

@@ -2,6 +2,7 @@
 // written.
 
 ghost use Rattle.std.specs.Prelude.{◌≡◌, ◌≢◌, ◌≤◌, ℕ, IfOk, List, Some, length};
+ghost use Rattle.psabi_sym.specs.Inputs.{parsed};
 ghost use Rattle.psabi_sym.specs.Objects.{contents_of};
 ghost use Rattle.zc_base.specs.MemMap.{IsMap};
 ghost use Rattle.zc_outside.specs.Desk.{OnlyWrites};
@@ -11,7 +12,7 @@ ghost use Rattle.command_words.specs.Command.{zc_meant};
 ghost use Rattle.zcld.specs.Call.{DoesWith};
 ghost use Rattle.zcld.specs.ErrLine.{NamesNothing};
 ghost use Rattle.zcld.specs.Puts.{PutsInTurn};
-ghost use Rattle.zcld.specs.Zc.{output_of, zc_output};
+ghost use Rattle.zcld.specs.Zc.{fixed_count, fixed_told, output_of, zc_output};
 
 use crate::ending::Ending;
 use crate::objects::gather_named;
@@ -20,7 +21,8 @@ use crate::print::print_text;
 use crate::put::put;
 use command_words::command_line::ZcArgs;
 use pick_check::write_certificate::write_certificate;
-use size_report::report::report;
+use psabi_sym::objects::Objects;
+use size_report::report::{LinkCounts, report};
 use std::alloc::{AllocError, Global};
 use zc_link::linked::Linked;
 use zc_link::zc::link_zc;
@@ -43,40 +45,65 @@ pub fn zc<S: Store, C: Console>(
     store: &mut S,
     console: &mut C,
 ) -> Ending
-    requires map { IsMap args.now.map }
+    requires map { IsMap args.now.options.map }
     requires names { args.now.out.now ≢ args.now.cert.now }
     ensures { DoesWith (Some (zc_meant args.now)) (contents_of result.files.items) result.outcome
         (world (S.shown store.old) (C.shown console.old)) (world (S.shown store.new) (C.shown console.new)) }
 {
-    let objects = match gather_named(alloc, args.objects.as_slice(), args.map, store) {
+    let objects = match gather_named(alloc, args.objects.as_slice(), &args.options, store) {
         Ok(objects) => objects,
         Err(ending) => return ending,
     };
+    let fixed = fixed_told(&objects);
     let linked = match link_zc(alloc, objects) {
         Ok(linked) => linked,
         Err(fault) => return Ending::alone(alloc, Outcome::from(fault)),
     };
-    match results_of(alloc, linked) {
+    match results_of(alloc, linked, fixed) {
         Ok(results) => Ending::alone(alloc, put_and_report(args, &results, store, console)),
         Err(_) => Ending::alone(alloc, Outcome::OutOfMemory),
     }
 }
 
-// What is put and written of a link.
-fn results_of(alloc: Global, linked: Linked) -> Result<ZcResults, AllocError>
+// How many sections of the objects are fixed, if names of such are given.
+fn fixed_told(objects: &Objects) -> Option<u32>
+    ensures { result ≡ fixed_told (parsed objects.now) }
+{
+    if objects.fixed_names().is_empty() {
+        None
+    } else {
+        Some(fixed_count(objects))
+    }
+}
+
+// How many sections of the objects are fixed.
+fn fixed_count(objects: &Objects) -> u32
+    ensures { result ≡ fixed_count (parsed objects.now) }
+{
+    let mut count = 0;
+    for k in 0..objects.section_count() {
+        if objects.section_row(k).fixed {
+            count += 1;
+        }
+    }
+    count
+}
+
+// What is put and written of a link with so many fixed sections, if they are told.
+fn results_of(alloc: Global, linked: Linked, fixed: Option<u32>) -> Result<ZcResults, AllocError>
     requires savings { length linked.savings ≤ 0x1_0000 }
     requires slots { length linked.certificate.slots ≤ 256 }
-    ensures { IfOk result (λ results. (out cert : List ℕ) → output_of out cert results ≡ zc_output out cert linked) }
+    ensures { IfOk result (λ results. (out cert : List ℕ) → output_of out cert results
+        ≡ zc_output out cert fixed linked) }
 {
     let savings = linked.savings.as_slice();
     let certificate = write_certificate(alloc, savings, &linked.certificate)?;
-    let report = report(
-        alloc,
-        &linked.plain,
-        &linked.zc,
-        savings,
-        &linked.certificate,
-    )?;
+    let counts = LinkCounts {
+        plain: linked.plain,
+        zc: linked.zc,
+        fixed,
+    };
+    let report = report(alloc, &counts, savings, &linked.certificate)?;
     Ok(ZcResults {
         image: linked.elf,
         certificate,

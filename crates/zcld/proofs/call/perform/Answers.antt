@@ -1,6 +1,6 @@
 -- What a command says of itself is said of its words. Four commands leave no file, and words may be no command.
 use Rattle.std.proofs.Common.{◌≡◌, [], Some, None, rules, refl, subst, inl}
-use Rattle.command_words.specs.Command.{command_of, make_meant, run_meant, Check, Listing, texts}
+use Rattle.command_words.specs.Command.{command_of, list_meant, make_meant, run_meant, Check, texts}
 use Rattle.psabi_sym.specs.Objects.{contents_of}
 use Rattle.zc_outside.specs.World.{world}
 use Rattle.zcld.specs.Call.{CarriesOut, DoesWith}
@@ -43,7 +43,7 @@ returns-in-Make g c =
 
 pub returns-in-List : goal.returns-in-List
 returns-in-List g c =
-    let spelled : Some (Listing c.in-List.image.now) ≡ command_of (texts c.args.words.now) = search rules in
+    let spelled : Some (list_meant c.in-List.args) ≡ command_of (texts c.args.words.now) = search rules in
     let left = contents_of c.alone-in-List.result.files.items in
     let before = world (g.S.Store.shown c.args.store.now) (g.C.Console.shown c.args.console.now) in
     let after = world (g.S.Store.shown c.list.new.store) (g.C.Console.shown c.list.new.console) in

@@ -4,7 +4,6 @@ use Rattle.command_words.specs.Command.{Gc, gc_meant, texts}
 use Rattle.psabi_sym.specs.Inputs.{inputs_in}
 use Rattle.psabi_sym.specs.Objects.{contents_of}
 use Rattle.section_gc.specs.Collected.{Collection, IsCollection, IsGcFault}
-use Rattle.zc_base.specs.MemMap.{standard_map}
 use Rattle.zc_outside.specs.World.{world}
 use Rattle.zcld.specs.Call.{DoesWith}
 use Rattle.zcld.specs.ObjectNames.{named_from}
@@ -26,8 +25,8 @@ returns-in-Err g c =
     let before = world (g.S.Store.shown c.args.store.now) (g.C.Console.shown c.args.console.now) in
     let after = world (g.S.Store.shown c.read_objects.new.store) (g.C.Console.shown c.args.console.now) in
     subst (λ (outcome : Outcome). DoesWith (Some (gc_meant args)) left outcome before after) (sym c.alone.ensures.outcome)
-    (without_objects (gc_meant args) standard_map names left c.in-Err.outcome before after wants refl (record { shelf = c.read_objects.ensures.reads; desk = refl })
-    (c.in-Err.ensures.err standard_map left))
+    (without_objects (gc_meant args) args.options names left c.in-Err.outcome before after wants refl (record { shelf = c.read_objects.ensures.reads; desk = refl })
+    (c.in-Err.ensures.err args.options left))
 
 pub returns-in-Ok-collect : goal.returns-in-Ok-collect
 returns-in-Ok-collect g c =
@@ -41,16 +40,15 @@ returns-in-Ok-collect g c =
     let after = world (g.S.Store.shown c.put_and_print.new.store) (g.C.Console.shown c.put_and_print.new.console) in
     let outcome = c.put_and_print.result in
     let given = ap contents_of c.as_slice-2.ensures.value in
-    let collected : IsCollection (inputs_in standard_map files) collection =
-    subst (λ map. IsCollection (inputs_in map files) collection) c.standard.ensures
-    (subst (λ all. IsCollection (inputs_in c.standard.result all) collection) given c.in-Ok-collect.ensures.ok) in
+    let collected : IsCollection (inputs_in args.options files) collection =
+    subst (λ all. IsCollection (inputs_in args.options all) collection) given c.in-Ok-collect.ensures.ok in
     let put = subst (λ all. ((outcome ≡ OutOfMemory) × (after ≡ between)) ⊎ PutsInTurn outcome (record { files = named_from args.prefix.now 0 all; text = c.as_str.result.now }) between after)
     (ap contents_of c.as_slice-in-Ok-collect.ensures.value ∙ ap (λ (c : Collection). c.files) c.cleaned.view_is) c.put_and_print.ensures.done in
     let done = subst (λ text. ((outcome ≡ OutOfMemory) × (after ≡ between)) ⊎ PutsInTurn outcome (record { files = named_from args.prefix.now 0 collection.files; text = text }) between after)
     (c.as_str.ensures.value ∙ c.kept_lines-lines.ensures) put in
     subst (λ (said : Outcome). DoesWith (Some (gc_meant args)) left said before after) (sym c.alone-in-Ok-collect.ensures.outcome)
-    (subst (λ all. DoesWith (Some (Gc args.prefix.now (texts all))) left outcome before after) c.as_slice.ensures.value
-    (with_result args.prefix.now names files before between (record { shelf = c.read_objects.ensures.reads; desk = refl }) c.in-Ok.ensures.ok
+    (subst (λ all. DoesWith (Some (Gc args.options args.prefix.now (texts all))) left outcome before after) c.as_slice.ensures.value
+    (with_result args.options args.prefix.now names files before between (record { shelf = c.read_objects.ensures.reads; desk = refl }) c.in-Ok.ensures.ok
     left outcome collection after collected done c.put_and_print.ensures.puts c.put_and_print.ensures.writes c.put_and_print.ensures.line))
 
 pub returns-in-Err-collect : goal.returns-in-Err-collect
@@ -62,9 +60,8 @@ returns-in-Err-collect g c =
     let between = world (g.S.Store.shown c.read_objects.new.store) (g.C.Console.shown c.args.console.now) in
     let fault = c.in-Err-collect.fault in
     let given = ap contents_of c.as_slice-2.ensures.value in
-    let is : IsGcFault (inputs_in standard_map files) fault =
-    subst (λ map. IsGcFault (inputs_in map files) fault) c.standard.ensures
-    (subst (λ all. IsGcFault (inputs_in c.standard.result all) fault) given c.in-Err-collect.ensures.err) in
+    let is : IsGcFault (inputs_in args.options files) fault =
+    subst (λ all. IsGcFault (inputs_in args.options all) fault) given c.in-Err-collect.ensures.err in
     subst (λ (said : Outcome). DoesWith (Some (gc_meant args)) files said before between) (sym c.from.ensures)
-    (subst (λ all. DoesWith (Some (Gc args.prefix.now (texts all))) files (gc_outcome fault) before between) c.as_slice.ensures.value
-    (without_result args.prefix.now names files before between (record { shelf = c.read_objects.ensures.reads; desk = refl }) c.in-Ok.ensures.ok fault is))
+    (subst (λ all. DoesWith (Some (Gc args.options args.prefix.now (texts all))) files (gc_outcome fault) before between) c.as_slice.ensures.value
+    (without_result args.options args.prefix.now names files before between (record { shelf = c.read_objects.ensures.reads; desk = refl }) c.in-Ok.ensures.ok fault is))

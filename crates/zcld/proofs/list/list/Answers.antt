@@ -1,7 +1,6 @@
 -- The file can't be had, or it is refused, or its listing is written. No line names anything, so it is the same for any files.
 use Rattle.std.proofs.Common.{◌≡◌, [], ◌∷◌, Some, None, rules, refl, sym, inl, inr, subst}
 use Rattle.elf32_read.specs.Image.{image_fault}
-use Rattle.zc_base.specs.MemMap.{standard_map}
 use Rattle.zc_outside.specs.World.{world}
 use Rattle.zcld.specs.List.{IsListing, list_wanted}
 use Rattle.zcld.specs.Puts.{PutsInTurn, text_alone}
@@ -18,7 +17,7 @@ returns-in-Err g c = λ left. record {
   does = inl (record {
     only = record { shelf = c.read_file.ensures.reads; desk = refl };
     cause =
-        unread (list_wanted c.args.image.now) (g.S.Store.shown c.args.store.now) (g.S.Store.shown c.read_file.new.store) c.in-Err.fault c.from.result c.from.ensures c.in-Err.ensures.cause;
+        unread (list_wanted c.args.args.image.now) (g.S.Store.shown c.args.store.now) (g.S.Store.shown c.read_file.new.store) c.in-Err.fault c.from.result c.from.ensures c.in-Err.ensures.cause;
   });
 }
 
@@ -29,11 +28,11 @@ returns g c = λ left.
     elim c.in-Err-listing.ensures.err [
       | inl refused ↦ record {
         files = file ∷ [];
-        line = names_in_none outcome left (file ∷ []) (image_names_nothing (image_fault c.as_slice.result.now standard_map) outcome refused);
+        line = names_in_none outcome left (file ∷ []) (image_names_nothing (image_fault c.as_slice.result.now c.args.args.map) outcome refused);
         does = inr (inl (record {
           only = record { shelf = c.read_file.ensures.reads; desk = refl };
           read = search rules;
-          refused = subst (λ f. image_refusal standard_map f ≡ Some outcome) c.as_slice.ensures.value refused;
+          refused = subst (λ f. image_refusal c.args.args.map f ≡ Some outcome) c.as_slice.ensures.value refused;
         }));
       }
       | inr memory ↦ record {
@@ -41,7 +40,7 @@ returns g c = λ left.
         line = refl;
         does = inl (record {
           only = record { shelf = c.read_file.ensures.reads; desk = refl };
-          cause = subst (λ o. UnreadCause (list_wanted c.args.image.now) (g.S.Store.shown c.args.store.now) (g.S.Store.shown c.read_file.new.store) o) (sym memory) tt;
+          cause = subst (λ o. UnreadCause (list_wanted c.args.args.image.now) (g.S.Store.shown c.args.store.now) (g.S.Store.shown c.read_file.new.store) o) (sym memory) tt;
         });
       }
     ]
@@ -60,7 +59,7 @@ returns-in-Ok-listing g c = λ left.
         between = between;
         only = record { shelf = c.read_file.ensures.reads; desk = refl };
         read = search rules;
-        accepted = subst (λ f. image_refusal standard_map f ≡ None) c.as_slice.ensures.value c.in-Ok-listing.ensures.accepted;
+        accepted = subst (λ f. image_refusal c.args.args.map f ≡ None) c.as_slice.ensures.value c.in-Ok-listing.ensures.accepted;
         work = inr (record {
           text = text;
           listing = subst (λ f. IsListing f text) c.as_slice.ensures.value c.in-Ok-listing.ensures.ok;

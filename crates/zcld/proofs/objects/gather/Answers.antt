@@ -10,7 +10,7 @@ pub returns-in-Some-clause-err : goal.returns-in-Some-clause-err
 returns-in-Some-clause-err c = λ read all.
     let fault = c.in-Some.fault in
     let left = contents_of c.alone.result.files.items in
-    let is = c.in-Some.ensures.some read all c.args.map in
+    let is = c.in-Some.ensures.some read all c.args.options.now in
     let outcome_is = c.alone.ensures.outcome ∙ c.from.ensures in
     record {
       fault = fault;

@@ -9,5 +9,5 @@ pub returns-in-Ok-clause-err : goal.returns-in-Ok-clause-err
 returns-in-Ok-clause-err g c =
     let kept = c.in-Ok.ensures.ok in
     if_err c.gather.result
-    (λ ending is. ungathered c.args.map (texts c.args.names.now) (contents_of ending.files.items) (g.S.Store.shown c.args.store.now) (g.S.Store.shown c.read_all.new.store) kept.files ending.outcome kept.read (is kept.files kept.kept))
+    (λ ending is. ungathered c.args.options.now (texts c.args.names.now) (contents_of ending.files.items) (g.S.Store.shown c.args.store.now) (g.S.Store.shown c.read_all.new.store) kept.files ending.outcome kept.read (is kept.files kept.kept))
     c.gather.ensures.err

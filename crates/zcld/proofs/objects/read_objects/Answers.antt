@@ -22,4 +22,4 @@ returns-in-Some-clause-err g c =
     let fault = c.in-Some.fault in
     let is = c.in-Some.ensures.some kept.files kept.kept in
     rw c.from.ensures
-    (λ map left. gather_refused map (texts c.args.names.now) left before after kept.files fault kept.read (is map).0 (names_in_none (link_outcome fault) left kept.files (names_none fault (is map).1)))
+    (λ options left. gather_refused options (texts c.args.names.now) left before after kept.files fault kept.read (is options).0 (names_in_none (link_outcome fault) left kept.files (names_none fault (is options).1)))

@@ -17,7 +17,7 @@ returns-in-Err g c =
     let wants : objects_wanted (texts args.objects.items) ≡ objects_wanted names = ap (λ all. objects_wanted (texts all)) (sym c.as_slice.ensures.value) in
     let before = world (g.S.Store.shown c.args.store.now) (g.C.Console.shown c.args.console.now) in
     let after = world (g.S.Store.shown c.gather_named.new.store) (g.C.Console.shown c.args.console.now) in
-    without_objects _ args.map names _ _ before after wants refl (record { shelf = c.gather_named.ensures.reads; desk = refl }) c.in-Err.ensures.err
+    without_objects _ args.options names _ _ before after wants refl (record { shelf = c.gather_named.ensures.reads; desk = refl }) c.in-Err.ensures.err
 
 pub returns-in-Err-link_plain : goal.returns-in-Err-link_plain
 returns-in-Err-link_plain g c =
@@ -28,8 +28,8 @@ returns-in-Err-link_plain g c =
     let before = world (g.S.Store.shown c.args.store.now) (g.C.Console.shown c.args.console.now) in
     let after = world (g.S.Store.shown c.gather_named.new.store) (g.C.Console.shown c.args.console.now) in
     subst (λ (outcome : Outcome). DoesWith (Some (plain_meant args)) left outcome before after) (sym (c.alone-in-Err-link_plain.ensures.outcome ∙ c.from.ensures))
-    (without_objects _ args.map names left _ before after wants refl (record { shelf = c.gather_named.ensures.reads; desk = refl })
-    (link_refused args.map names left before.shelf after.shelf c.in-Ok.objects c.in-Err-link_plain.fault c.in-Ok.ensures.ok c.in-Err-link_plain.ensures.err))
+    (without_objects _ args.options names left _ before after wants refl (record { shelf = c.gather_named.ensures.reads; desk = refl })
+    (link_refused args.options names left before.shelf after.shelf c.in-Ok.objects c.in-Err-link_plain.fault c.in-Ok.ensures.ok c.in-Err-link_plain.ensures.err))
 
 pub returns-in-Ok-link_plain : goal.returns-in-Ok-link_plain
 returns-in-Ok-link_plain g c =
@@ -41,7 +41,7 @@ returns-in-Ok-link_plain g c =
     let between = world (g.S.Store.shown c.gather_named.new.store) (g.C.Console.shown c.args.console.now) in
     let after = world (g.S.Store.shown c.put_and_print.new.store) (g.C.Console.shown c.put_and_print.new.console) in
     subst (λ (outcome : Outcome). DoesWith (Some (plain_meant args)) left outcome before after) (sym c.alone.ensures.outcome)
-    (with_objects _ args.map names left _ before after between c.in-Ok.objects wants refl (record { shelf = c.gather_named.ensures.reads; desk = refl })
+    (with_objects _ args.options names left _ before after between c.in-Ok.objects wants refl (record { shelf = c.gather_named.ensures.reads; desk = refl })
     c.in-Ok.ensures.ok c.in-Ok-link_plain.ensures.faultless c.put_and_print.ensures.line
     (inr (record {
       link = c.in-Ok-link_plain.linked;

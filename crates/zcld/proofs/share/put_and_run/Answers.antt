@@ -37,7 +37,7 @@ returns-clause-runs g c =
     let between = g.S.Store.shown c.put.new.store in
     let image_is = c.in-Ok.ensures.0 in
     let machine_is =
-    c.in-Ok-make_ready.ensures.loads ∙ ap (λ i. first_core_of i.0 i.1) image_is ∙ ap₂ first_core_of c.as_slice.ensures.value c.standard.ensures in
+    c.in-Ok-make_ready.ensures.loads ∙ ap (λ i. first_core_of i.0 i.1) image_is ∙ ap₂ first_core_of c.as_slice.ensures.value c.map.ensures in
     inr (record {
       input = ready.input.items;
       between = g.C.Console.shown c.make_ready.new.console;

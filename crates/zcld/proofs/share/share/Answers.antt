@@ -1,18 +1,16 @@
 -- The files can't be had, or they are refused, or the image ran that is the objects' link.
-use Rattle.std.proofs.Common.{◌≡◌, ◌⊎◌, ◌∙◌, ℕ, List, None, Some, refl, sym, ap, subst}
+use Rattle.std.proofs.Common.{◌≡◌, ◌⊎◌, None, Some, refl, sym, subst}
 use Rattle.std.specs.Option.{option_or}
 use Rattle.block_cut.specs.Faults.{first_fault}
 use Rattle.command_words.specs.Command.{share_meant, texts}
 use Rattle.interrupt_plan.specs.Text.{shared_in}
 use Rattle.psabi_sym.specs.Inputs.{Inputs, inputs_in}
 use Rattle.psabi_sym.specs.Objects.{contents_of}
-use Rattle.zc_base.specs.MemMap.{standard_map}
-use Rattle.zc_base.specs.declared.mem_map.MemMap.{MemMap}
 use Rattle.zc_outside.specs.World.{world}
 use Rattle.load_runner.proofs.ExitLaws.{image_faultless}
 use Rattle.elf32_read.specs.Image.{image_fault}
 use Rattle.zcld.specs.Call.{DoesWith}
-use Rattle.zcld.specs.Objects.{IsUngathered, refused_for}
+use Rattle.zcld.specs.Objects.{refused_for}
 use Rattle.zcld.specs.Run.{plan_refusal}
 use Rattle.zcld.specs.Share.{IsReadyToShare}
 use Rattle.zcld.specs.declared.outcome.Outcome.{Outcome}
@@ -28,7 +26,7 @@ returns-in-Err g c =
     let after = world (g.S.Store.shown c.read_files.new.store) desk in
     let left = contents_of c.alone.result.files.items in
     subst (λ (outcome : Outcome). DoesWith (Some (share_meant args)) left outcome before after) (sym c.alone.ensures.outcome)
-    (without_files args.out.now args.plan.now args.steps (texts args.objects.items) left c.in-Err.outcome before after (record { shelf = c.read_files.ensures.reads; desk = refl }) c.in-Err.ensures.err)
+    (without_files args.options args.out.now args.plan.now args.steps (texts args.objects.items) left c.in-Err.outcome before after (record { shelf = c.read_files.ensures.reads; desk = refl }) c.in-Err.ensures.err)
 
 pub returns-in-Err-gather : goal.returns-in-Err-gather
 returns-in-Err-gather g c =
@@ -39,31 +37,24 @@ returns-in-Err-gather g c =
     let after = world (g.S.Store.shown c.read_files.new.store) desk in
     let ending = c.in-Err-gather.ending in
     let left = contents_of ending.files.items in
-    ungathered_files args.out.now args.plan.now args.steps (texts args.objects.items) read.0 c.in-Ok.files.plan.items before after
-    (record { shelf = c.read_files.ensures.reads; desk = refl }) read.2 left ending.outcome
-    (subst (λ (map : MemMap). IsUngathered map read.0 left ending.outcome) c.standard.ensures (c.in-Err-gather.ensures.err read.0 read.1))
+    ungathered_files args.options args.out.now args.plan.now args.steps (texts args.objects.items) read.0 c.in-Ok.files.plan.items before after
+    (record { shelf = c.read_files.ensures.reads; desk = refl }) read.2 left ending.outcome (c.in-Err-gather.ensures.err read.0 read.1)
 
--- the objects that were gathered are those that were read
-inputs_are : (map : MemMap) (read : List (List ℕ)) (objects : Inputs) → objects ≡ inputs_in map read → map ≡ standard_map → objects ≡ inputs_in standard_map read
-inputs_are map read objects is standard = is ∙ ap (λ (m : MemMap). inputs_in m read) standard
-
-pub put_and_run-requires : goal.put_and_run-requires
-put_and_run-requires g c =
+pub put_and_run-requires-clause-faultless : goal.put_and_run-requires-clause-faultless
+put_and_run-requires-clause-faultless g c =
+    let args = c.args.args.now in
     let read = c.in-Ok.ensures.ok in
     let gathered = c.in-Ok-gather.ensures.ok read.0 read.1 in
-    let objects = c.in-Ok-gather.objects in
     let ready = c.in-Ok-shared_image.ensures.ok in
-    let same = inputs_are c.standard.result read.0 objects gathered.0 c.standard.ensures in
     let image = ready.linked.image in
-    subst (λ file. image_fault file standard_map ≡ None) (sym ready.image_is)
-    (subst (λ (is : Inputs). image_fault ready.link.elf is.map ≡ None) same (image_faultless ready.link.elf objects.map image.loaded image.read))
+    subst (λ file. image_fault file args.options.map ≡ None) (sym ready.image_is)
+    (subst (λ (is : Inputs). image_fault ready.link.elf is.map ≡ None) gathered.0 (image_faultless ready.link.elf c.in-Ok-gather.objects.map image.loaded image.read))
 
 pub returns-in-Ok-shared_image : goal.returns-in-Ok-shared_image
 returns-in-Ok-shared_image g c =
     let args = c.args.args.now in
     let read = c.in-Ok.ensures.ok in
     let gathered = c.in-Ok-gather.ensures.ok read.0 read.1 in
-    let same = inputs_are c.standard.result read.0 c.in-Ok-gather.objects gathered.0 c.standard.ensures in
     let text = c.in-Ok.files.plan.items in
     let shared = c.in-Ok-shared_image.shared in
     let desk = g.C.Console.shown c.args.console.now in
@@ -71,17 +62,16 @@ returns-in-Ok-shared_image g c =
     let after = world (g.S.Store.shown c.read_files.new.store) desk in
     let end = world (g.S.Store.shown c.put_and_run.new.store) (g.C.Console.shown c.put_and_run.new.console) in
     let left = contents_of c.alone-in-Ok-shared_image.result.files.items in
-    let ready = subst (λ (is : Inputs). IsReadyToShare is c.as_slice.result.now shared) same c.in-Ok-shared_image.ensures.ok in
+    let ready = subst (λ (is : Inputs). IsReadyToShare is c.as_slice.result.now shared) gathered.0 c.in-Ok-shared_image.ensures.ok in
     subst (λ (outcome : Outcome). DoesWith (Some (share_meant args)) left outcome before end) (sym c.alone-in-Ok-shared_image.ensures.outcome)
-    (shared_ran args.out.now args.plan.now args.steps (texts args.objects.items) read.0 text before after (record { shelf = c.read_files.ensures.reads; desk = refl }) read.2
-    left c.put_and_run.result shared end c.put_and_run.ensures.line (subst (λ t. IsReadyToShare (inputs_in standard_map read.0) t shared) c.as_slice.ensures.value ready) c.put_and_run.ensures.runs)
+    (shared_ran args.options args.out.now args.plan.now args.steps (texts args.objects.items) read.0 text before after (record { shelf = c.read_files.ensures.reads; desk = refl }) read.2
+    left c.put_and_run.result shared end c.put_and_run.ensures.line (subst (λ t. IsReadyToShare (inputs_in args.options read.0) t shared) c.as_slice.ensures.value ready) c.put_and_run.ensures.runs)
 
 pub returns : goal.returns
 returns g c =
     let args = c.args.args.now in
     let read = c.in-Ok.ensures.ok in
     let gathered = c.in-Ok-gather.ensures.ok read.0 read.1 in
-    let same = inputs_are c.standard.result read.0 c.in-Ok-gather.objects gathered.0 c.standard.ensures in
     let text = c.in-Ok.files.plan.items in
     let outcome = c.in-Err-shared_image.outcome in
     let desk = g.C.Console.shown c.args.console.now in
@@ -89,8 +79,8 @@ returns g c =
     let after = world (g.S.Store.shown c.read_files.new.store) desk in
     let left = contents_of c.alone-in-Err-shared_image.result.files.items in
     let why =
-    subst (λ t. (outcome ≡ OutOfMemory) ⊎ (option_or (refused_for (first_fault (inputs_in standard_map read.0))) (plan_refusal (shared_in t)) ≡ Some outcome)) c.as_slice.ensures.value
-    (subst (λ (is : Inputs). (outcome ≡ OutOfMemory) ⊎ (option_or (refused_for (first_fault is)) (plan_refusal (shared_in c.as_slice.result.now)) ≡ Some outcome)) same c.in-Err-shared_image.ensures.err) in
+    subst (λ t. (outcome ≡ OutOfMemory) ⊎ (option_or (refused_for (first_fault (inputs_in args.options read.0))) (plan_refusal (shared_in t)) ≡ Some outcome)) c.as_slice.ensures.value
+    (subst (λ (is : Inputs). (outcome ≡ OutOfMemory) ⊎ (option_or (refused_for (first_fault is)) (plan_refusal (shared_in c.as_slice.result.now)) ≡ Some outcome)) gathered.0 c.in-Err-shared_image.ensures.err) in
     subst (λ (outcome : Outcome). DoesWith (Some (share_meant args)) left outcome before after) (sym c.alone-in-Err-shared_image.ensures.outcome)
-    (unshared_files args.out.now args.plan.now args.steps (texts args.objects.items) read.0 text before after (record { shelf = c.read_files.ensures.reads; desk = refl }) read.2
+    (unshared_files args.options args.out.now args.plan.now args.steps (texts args.objects.items) read.0 text before after (record { shelf = c.read_files.ensures.reads; desk = refl }) read.2
     left outcome c.in-Err-shared_image.ensures.line why)

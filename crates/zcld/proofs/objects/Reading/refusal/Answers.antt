@@ -10,10 +10,10 @@ use Rattle.psabi_sym.proofs.Gathered.{too_many}
 use Rattle.zcld.proofs.objects.Reading.refusal.Goals as goal
 
 pub returns-then-self-clause-some : goal.returns-then-self-clause-some
-returns-then-self-clause-some c = λ read all map. (too_many (inputs_in map read) (ltb-true 256 (length read) (sym all.many ∙ c.if-self.true)), refl)
+returns-then-self-clause-some c = λ read all options. (too_many (inputs_in options read) (ltb-true 256 (length read) (sym all.many ∙ c.if-self.true)), refl)
 
 pub returns-then-self-gt-MOST_BYTES-clause-some : goal.returns-then-self-gt-MOST_BYTES-clause-some
-returns-then-self-gt-MOST_BYTES-clause-some c = λ read all map.
+returns-then-self-gt-MOST_BYTES-clause-some c = λ read all options.
     let keeps = all.keeps in
     let files = c.as_slice.result.now in
     let kept = contents_of files in
@@ -23,5 +23,5 @@ returns-then-self-gt-MOST_BYTES-clause-some c = λ read all map.
     let same : kept ++ keeps.others ≡ read = ap (λ k. k ++ keeps.others) kept_are ∙ sym keeps.read_are in
     let both : length files + length keeps.others ≤ 256 = omega (arith, few, count, length-append kept keeps.others, ap length same) in
     let later = keeps.later_is c.if-self.false ∙ ap (λ n. fault_from n keeps.others) (sym (ap length kept_are) ∙ count) in
-    let refused = c.long_files_refusal.ensures keeps.others map both later in
-    (subst (λ files. IsRefusal (gather_fault (inputs_in map files)) c.long_files_refusal.result) same refused.0, refused.1)
+    let refused = c.long_files_refusal.ensures keeps.others options both later in
+    (subst (λ files. IsRefusal (gather_fault (inputs_in options files)) c.long_files_refusal.result) same refused.0, refused.1)
