@@ -3,6 +3,7 @@
 use crate::rows::{cut, expect, word};
 use std::alloc::Global;
 use std::test::Fail;
+use zc_base::extensions::Extensions;
 use zc_base::fields::{put_u16, put_u32, u16_at, u32_at};
 use zc_base::mem_map::MemMap;
 use zc_base::place::Place;
@@ -24,36 +25,54 @@ fn the_standard_map_has_room_for_text_and_a_stack_of_a_megabyte(rt: HostRuntime)
     assert!(rt; text == 0xF_0000 && stack == 0x10_0000);
 }
 
-/// The addresses of text, data and both ends of the stack in the map of three addresses, or `none`.
+/// The addresses of text, data and both ends of the stack in the map of these four, and the most bytes of data; or `none`.
 pub fn map_of(alloc: Global, given: &str) -> Result<String, Fail> {
     let (text, rest) = cut(given);
-    let (data_low, stack) = cut(rest);
-    let Some(map) = MemMap::checked(word(text)?, word(data_low)?, word(stack)?) else {
+    let (data_low, rest) = cut(rest);
+    let (stack_low, stack_high) = cut(rest);
+    let given = MemMap {
+        text: word(text)?,
+        data_low: word(data_low)?,
+        stack_low: word(stack_low)?,
+        stack_high: word(stack_high)?,
+        extensions: Extensions::all(),
+    };
+    let Some(map) = MemMap::checked(given) else {
         return Ok(String::from_str(alloc, "none")?);
     };
     let code = format!(in alloc; "{:08X} {:08X}", map.text, map.data_low)?;
-    Ok(format!(in alloc; "{code} {:08X} {:08X}", map.stack_low, map.stack_high)?)
+    let stack = format!(in alloc; "{:08X} {:08X}", map.stack_low, map.stack_high)?;
+    Ok(format!(in alloc; "{code} {stack} {}", map.data_limit())?)
 }
 
 const MAPS: &str =
-    "00010000 00100000 10000000 = 00010000 00100000 0FF00000 10000000 | the standard map
-20000000 80000000 80500000 = 20000000 80000000 80400000 80500000 | flash, and RAM above 2 GiB
-00001000 000F1000 005F1000 = 00001000 000F1000 004F1000 005F1000 | the lowest
-FFA0F000 FFAFF000 FFFFF000 = FFA0F000 FFAFF000 FFEFF000 FFFFF000 | the highest
-00001000 000F1000 FFFFF000 = 00001000 000F1000 FFEFF000 FFFFF000 | the most room
-00000000 000F1000 005F1000 = none | text at address 0
-00001000 000F0000 005F1000 = none | a page too few for code
-00001000 000F1000 005F0000 = none | and for data
-00001800 000F2000 005F2000 = none | text amid a page
-00001000 000F1004 005F2000 = none | data amid a page
-00001000 000F1000 005F1800 = none | a stack that ends amid a page
-FFF20000 00010000 10000000 = none | room for code passes the end of the addresses
-00010000 FFC00000 10000000 = none | room for data does
-10000000 00100000 20000000 = none | data below text
-00010000 20000000 10000000 = none | the stack below data";
+    "00010000 00100000 0FF00000 10000000 = 00010000 00100000 0FF00000 10000000 4194304 | the standard map
+10000000 20000000 20081000 20082000 = 10000000 20000000 20081000 20082000 528384 | flash, and RAM on the chip
+20000000 80000000 80400000 80500000 = 20000000 80000000 80400000 80500000 4194304 | flash, and RAM above 2 GiB
+00001000 000F1000 000F1000 000F1010 = 00001000 000F1000 000F1000 000F1010 0 | the lowest, without data
+00001000 000F1000 000F1080 000F1090 = 00001000 000F1000 000F1080 000F1090 128 | 128 bytes of data, and the smallest stack
+08000000 20000000 203FFFF0 20500000 = 08000000 20000000 203FFFF0 20500000 4194288 | 16 bytes below the most data
+08000000 20000000 20400010 20500000 = 08000000 20000000 20400010 20500000 4194304 | and 16 above them
+FFB0F000 FFBFF000 FFBFF000 FFFFFFF0 = FFB0F000 FFBFF000 FFBFF000 FFFFFFF0 0 | the highest
+00001000 FFBFF000 FFFFFFE0 FFFFFFF0 = 00001000 FFBFF000 FFFFFFE0 FFFFFFF0 4194304 | the most room for code
+00001000 000F1000 000F1000 FFFFFFF0 = 00001000 000F1000 000F1000 FFFFFFF0 0 | the largest stack
+00000000 000F0000 004F0000 005F0000 = none | text at address 0
+00001000 000F0FF0 004F1000 005F1000 = none | 16 bytes too few for code
+00001800 000F2000 004F2000 005F2000 = none | text amid a page
+00001010 000F2000 004F2000 005F2000 = none | text at a multiple of 16 alone
+00001000 000F1008 004F2000 005F2000 = none | data at no multiple of 16
+00001000 000F1000 004F1808 005F1800 = none | a stack that begins at none
+00001000 000F1000 004F1800 005F1808 = none | a stack that ends at none
+FFF20000 00010000 0FF00000 10000000 = none | room for code passes the end of the addresses
+FFB0F000 FFBFF010 FFFFFFE0 FFFFFFF0 = none | room for the most data does
+00010000 00100010 00100000 10000000 = none | the stack begins below data
+00010000 20000000 10000000 20000000 = none | and far below
+00010000 00100000 10000000 10000000 = none | a stack of no bytes
+00010000 00100000 10000000 0FFFFFF0 = none | a stack that ends below its start
+10000000 00100000 0FF00000 20000000 = none | data below text";
 
 #[test]
-fn three_addresses_give_a_map_if_everything_has_room(rt: HostRuntime) -> Result<(), Fail> {
+fn addresses_give_a_map_if_everything_has_room(rt: HostRuntime) -> Result<(), Fail> {
     expect(&rt, "map", MAPS)
 }
 

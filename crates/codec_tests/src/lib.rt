@@ -6,6 +6,8 @@
 #[cfg(test)]
 mod base;
 #[cfg(test)]
+mod extensions;
+#[cfg(test)]
 mod forms;
 #[cfg(test)]
 mod halfwords;

@@ -427,11 +427,61 @@ const CELL_IMAGE: &str = "\
 3c000000000000000000000004000000000000001f000000030000000000000000000000d00000002900000000000000
 000000000100000000000000";
 
+// An object with a second section of code `.trap.v`, aligned to 4: two jumps to the third of its instructions, which is
+// `addi a0,a0,1`, and `ret`. The first has `li a0,3`, `li a1,1`, `li a7,93` and `ecall`. And what `zc` makes of it if `.trap` is to
+// stay as it is: the second section has its 16 bytes behind the 10 of the first, and 2 between them.
+const TRAPS: &str = "\
+7f454c460101010000000000000000000100f300010000000000000000000000a8000000000000003400000000002800
+0600050013053000930510009308d005730000006f0080006f0040001305150067800000000000000000000000000000
+0000000001000000000000000000000010000100005f737461727400002e74657874002e747261702e76002e73796d74
+6162002e737472746162002e736873747274616200000000000000000000000000000000000000000000000000000000
+000000000000000000000000000000000100000001000000060000000000000034000000100000000000000000000000
+040000000000000007000000010000000600000000000000440000001000000000000000000000000400000000000000
+0f0000000200000000000000000000005400000020000000040000000100000004000000100000001700000003000000
+00000000000000007400000008000000000000000000000001000000000000001f000000030000000000000000000000
+7c0000002900000000000000000000000100000000000000";
+
+const TRAPS_IMAGE: &str = "\
+7f454c460101010000000000000000000200f30001000000000001003400000034010000010000003400200002002800
+06000500010000007400000000000100000001001c0000001c0000000500000004000000010000009000000000001000
+00001000000000000000000006000000040000000d4585459308d005730000006f0080006f0040001305150067800000
+000001000000000000000100000001000400000002000100000001000800000004000100000001000c00000008000100
+00000100100000000c00010000000200000000000c000100000002000400000010000100000002000800000014000100
+000002000c0000001800010000000200100000001c000100002e74657874002e64617461002e627373002e7a636c642e
+706c61636573002e73687374727461620000000000000000000000000000000000000000000000000000000000000000
+00000000000000000000000001000000010000000600000000000100740000001c000000000000000000000004000000
+00000000070000000100000003000000000010009000000000000000000000000000000004000000000000000d000000
+080000000300000000001000900000000000000000000000000000000400000000000000120000000100000000000000
+000000009000000078000000000000000000000004000000000000001f00000003000000000000000000000008010000
+2900000000000000000000000100000000000000";
+
+// An object with a common symbol `room`, by its size, whose byte 14 its code stores, loads, and exits with. Its code is
+//
+//     addi sp,sp,-16; sw ra,12(sp); lui a1,%hi(room+14); addi a1,a1,%lo(room+14)
+//     addi a0,x0,3; sb a0,0(a1); lbu a0,0(a1); addi a7,x0,93; ecall
+const ROOM_FRONT: &str = "\
+7f454c460101010000000000000000000100f300010000000000000000000000dc000000000000003400000000002800
+06000500130101ff23261100b705000093850500130530002380a50003c505009308d00573000000080000001a020000
+0e0000000c0000001b0200000e0000000000000000000000000000000000000001000000000000000000000010000100
+0800000001000000";
+
+const ROOM_SIZES: [(&str, &str); 3] = [("room15", "0f"), ("room16", "10"), ("room17", "11")];
+
+const ROOM_BACK: &str = "\
+0000001000f2ff005f737461727400726f6f6d00000000002e74657874002e72656c612e74657874002e73796d746162
+002e737472746162002e7368737472746162000000000000000000000000000000000000000000000000000000000000
+000000000000000000000001000000010000000600000000000000340000002400000000000000000000000400000000
+0000000700000004000000400000000000000058000000180000000300000001000000040000000c0000001200000002
+00000000000000000000007000000030000000040000000100000004000000100000001a000000030000000000000000
+000000a00000000d0000000000000000000000010000000000000022000000030000000000000000000000b00000002c
+00000000000000000000000100000000000000";
+
 // Plans: two whose second and third line is at fault, one that changes nothing, since no push or pop stands where
 // its interrupt comes and its byte lies above the stack, one that writes the byte below the stack pointer, and one that
 // interrupts the push of `frames.elf`, after which it writes the byte that the push saved, and the pop. Plans with cells: one that
-// writes the shared data of `cell` before they are loaded, one that writes them after that, and one that writes beside them.
-const PLANS: [(&str, &str); 8] = [
+// writes the shared data of `cell` before they are loaded, one that writes them after that, one that writes beside them, and one that
+// writes them where they lie if data begin at 20000000.
+const PLANS: [(&str, &str); 9] = [
     ("number", "zcld plan 1\ncut 05\n"),
     ("order", "zcld plan 1\ncut 3\ncut 2\n"),
     ("outside", "zcld plan 1\ncut 0 a0 d10000000:ee\n"),
@@ -443,6 +493,7 @@ const PLANS: [(&str, &str); 8] = [
     ("cells", "zcld shared 1\ncut 1 s00100000:07\n"),
     ("late", "zcld shared 1\ncut 2 s00100000:07\n"),
     ("beside", "zcld shared 1\ncut 1 s00100004:07\n"),
+    ("elsewhere", "zcld shared 1\ncut 1 s20000000:07\n"),
 ];
 
 // Texts of devices, all but one of a device that `poll` loads from and stores to: one whose answers are the input's bytes; one with
@@ -564,9 +615,9 @@ fn zeros(alloc: Global, special: &str, letter: &str) -> Result<Vec<u8>, Fail> {
 // `echo.elf` are the program that reads, `load.elf` is the image that loads, `poll` and `poll.elf` are the program that a device
 // answers, `unnamed` and `named` are the objects with a second
 // section of code, `far` is the object whose branch must stay in reach, `ends` and `inner` are the objects with two equal ends of
-// functions, `wide` is the one with these whose branch must stay in reach, `cell` is the object with shared data, and `bad` is no
-// ELF file.
-const FILES: [(&str, &str); 26] = [
+// functions, `wide` is the one with these whose branch must stay in reach, `cell` is the object with shared data, `traps` is the one
+// with a section for traps, and `bad` is no ELF file. `room15`, `room16` and `room17` are added beside them.
+const FILES: [(&str, &str); 27] = [
     ("x", OBJECT),
     ("z", OBJECT),
     ("short", SHORT),
@@ -592,12 +643,23 @@ const FILES: [(&str, &str); 26] = [
     ("inner", INNER),
     ("wide", WIDE),
     ("cell", CELL),
+    ("traps", TRAPS),
     ("bad", "00"),
 ];
 
 fn add_files(alloc: Global, store: &mut MemStore) -> Result<(), Fail> {
     for (name, digits) in FILES {
         let bytes = bytes_of(alloc, digits)?;
+        store.add(name, bytes.as_slice())?;
+    }
+    Ok(())
+}
+
+// The objects with room.
+fn add_rooms(alloc: Global, store: &mut MemStore) -> Result<(), Fail> {
+    for (name, size) in ROOM_SIZES {
+        let digits = format!(in alloc; "{ROOM_FRONT}{size}{ROOM_BACK}")?;
+        let bytes = bytes_of(alloc, digits.as_str())?;
         store.add(name, bytes.as_slice())?;
     }
     Ok(())
@@ -626,6 +688,7 @@ fn store_of(alloc: Global, special: &str) -> Result<MemStore, Fail> {
     let zeros = zeros(alloc, special, "f")?;
     let mut store = MemStore::new(alloc, fails.as_slice())?;
     add_files(alloc, &mut store)?;
+    add_rooms(alloc, &mut store)?;
     add_texts(&PLANS, &mut store)?;
     add_texts(&DEVICES, &mut store)?;
     add_texts(&CERTIFICATES, &mut store)?;
@@ -675,12 +738,15 @@ fn object_marks(alloc: Global, call: &str, store: &MemStore) -> Result<(char, ch
     ))
 }
 
-// What `p0.o` and `p1.o` should be in a call of `gc` or `merge`, which leave `start` and `main` as they are.
+// What `p0.o` and `p1.o` should be in a call of `gc` or `merge`, which leave `start` and `main` as they are, and `ends` if it is
+// named.
 fn left_wanted(call: &str) -> (&str, &str) {
     if call.contains(" unnamed") {
         (UNNAMED_LEFT, "")
     } else if call.contains(" named") {
         (NAMED_LEFT, "")
+    } else if call.contains(" ends") && call.contains("--fixed") {
+        (ENDS, "")
     } else if call.contains(" ends") {
         (ENDS_LEFT, "")
     } else if call.contains(" inner") {
@@ -702,13 +768,16 @@ fn left_marks(alloc: Global, call: &str, store: &MemStore) -> Result<(char, char
 }
 
 // What `o` should be: what `plain` or `zc` makes of the object, or of `short` or `frames` if that is named last, or of `echo` or
-// `cell`; in a call with `--text`, what `plain` makes of the object elsewhere, or `zc` of the two objects.
+// `cell`, or of `traps` with `.trap` as it is; in a call with `--text`, what `plain` makes of the object elsewhere, or `zc` of the two objects.
 fn image_wanted(call: &str) -> &str {
     if call.contains(" echo") {
         return ECHO_LINKED;
     }
     if call.contains(" cell") {
         return CELL_IMAGE;
+    }
+    if call.ends_with(" traps") {
+        return TRAPS_IMAGE;
     }
     if call.ends_with(" short") {
         return SHORT_IMAGE;

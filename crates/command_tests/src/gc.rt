@@ -44,7 +44,7 @@ gc --out p y => -- 122 5 "" "read fault\n"
 gc --out p zeros with f4194305 => -- 122 5 "" "read fault\n"
 gc --out p => -- 120 5 "" "usage\n"
 gc unnamed => -- 120 5 "" "usage\n"
-gc --out p --text 00010000 unnamed => -- 120 5 "" "usage\n"
+gc --out p --text 00011000 unnamed => -- 120 5 "" "usage\n"
 gc --out p --out p unnamed => -- 120 5 "" "usage\n""#;
     expect(&rt, lines)
 }

@@ -7,6 +7,8 @@ mod check;
 #[cfg(test)]
 mod device_runs;
 #[cfg(test)]
+mod fixed;
+#[cfg(test)]
 mod fixture;
 #[cfg(test)]
 mod gc;
@@ -14,6 +16,8 @@ mod gc;
 mod list;
 #[cfg(test)]
 mod make;
+#[cfg(test)]
+mod maps;
 #[cfg(test)]
 mod merge;
 #[cfg(test)]

@@ -44,7 +44,7 @@ merge --out p y => -- 122 5 "" "read fault\n"
 merge --out p zeros with f4194305 => -- 122 5 "" "read fault\n"
 merge --out p => -- 120 5 "" "usage\n"
 merge ends => -- 120 5 "" "usage\n"
-merge --out p --text 00010000 ends => -- 120 5 "" "usage\n"
+merge --out p --text 00011000 ends => -- 120 5 "" "usage\n"
 merge --out p --out p ends => -- 120 5 "" "usage\n""#;
     expect(&rt, lines)
 }

@@ -2,7 +2,7 @@
 
 ghost use Rattle.std.specs.Prelude.{◌≡◌, IfOk, None};
 
-use crate::row::{bytes_of, column, devices_of, image_end, lines_of, number_of, shown};
+use crate::row::{bytes_of, column, devices_of, image_end, lines_of, map_of, number_of, shown};
 use crate::rows::{AFTER_LOAD, BEFORE_LOAD, BEFORE_STORE, EXIT, IMAGES, LOADS, PROGRAMS, STORES};
 use devices::environment::Environment;
 use elf32_read::image::Image;
@@ -10,7 +10,6 @@ use interrupt_plan::read_plan::read_plan;
 use std::alloc::{AllocError, Global};
 use std::process::Abort;
 use std::test::Fail;
-use zc_base::mem_map::MemMap;
 use zc_machine::machine::Machine;
 use zc_machine::run::{RunEnd, run_with};
 use zc_machine::schedule_cursor::ScheduleCursor;
@@ -33,7 +32,7 @@ fn load(alloc: Global, row: &str) -> Result<Machine, Fail>
     let headers = format!(in alloc; "{HEADERS} {size:08x} {size:08x} 00000005 00000004")?;
     let mut file = bytes_of(alloc, headers.as_str())?;
     file.extend_from_slice(code.as_slice())?;
-    let image = Image::read(file.as_slice(), MemMap::standard())?;
+    let image = Image::read(file.as_slice(), map_of(row)?)?;
     Ok(Machine::load(alloc, &image)?)
 }
 

@@ -1,6 +1,6 @@
 // Objects with devices, run by the symbolic machine.
 
-use crate::row::{bytes_of, column, devices_of, number_of, object_end, shown};
+use crate::row::{bytes_of, column, devices_of, map_of, number_of, object_end, shown};
 use crate::rows::{AFTER_LOAD, BEFORE_LOAD, BEFORE_STORE, EXIT, LOADS, OBJECTS, PROGRAMS, STORES};
 use block_cut::cut::Cut;
 use devices::environment::DeviceMap;
@@ -10,7 +10,7 @@ use std::process::Abort;
 use std::test::Fail;
 use sym_machine::run::{TraceEnd, run_with};
 use sym_machine::sym::Sym;
-use zc_base::mem_map::MemMap;
+use zc_base::link_options::LinkOptions;
 use zc_outside::mem_console::MemConsole;
 
 // The header of an object up to its flags, and what follows them.
@@ -64,7 +64,8 @@ fn cut_of(alloc: Global, row: &str) -> Result<Cut, Fail> {
     add(alloc, &mut object, SECTIONS, 456)?;
     let mut files = Vec::new(alloc);
     files.push(object)?;
-    let objects = Objects::gather(alloc, &files, MemMap::standard())?;
+    let options = LinkOptions::of_map(alloc, map_of(row)?);
+    let objects = Objects::gather(alloc, &files, &options)?;
     Ok(Cut::new(alloc, objects)?)
 }
 

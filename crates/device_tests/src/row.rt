@@ -1,10 +1,14 @@
 // Rows of tables: a row is a line of a text, with columns between `|`. A column begins with its key, and may be
 // missing.
 
+ghost use Rattle.std.specs.Prelude.{IfOk};
+ghost use Rattle.zc_base.specs.MemMap.{IsMap};
+
 use devices::device_list::Devices;
 use devices::read_devices::read_devices;
 use std::alloc::{AllocError, Global};
 use std::test::Fail;
+use zc_base::extensions::Extensions;
 use zc_base::mem_map::MemMap;
 use zc_outside::mem_console::MemConsole;
 
@@ -25,6 +29,30 @@ pub fn number_of(row: &str, key: &str) -> Result<u32, Fail> {
         return Ok(99);
     }
     Ok(u32::from_str_radix(text, 10)?)
+}
+
+// Where data lie, and where the stack begins and ends, in the standard map.
+const STANDARD: &str = "00100000 0FF00000 10000000";
+
+/// The map of a row, or the standard one.
+pub fn map_of(row: &str) -> Result<MemMap, Fail>
+    ensures { IfOk result IsMap }
+{
+    let text = column(row, "map");
+    let text = if text.is_empty() { STANDARD } else { text };
+    let (data, stack) = text.split_once(' ').ok_or("no stack")?;
+    let (low, high) = stack.split_once(' ').ok_or("no end")?;
+    let map = MemMap {
+        text: 0x0001_0000,
+        data_low: u32::from_str_radix(data, 16)?,
+        stack_low: u32::from_str_radix(low, 16)?,
+        stack_high: u32::from_str_radix(high, 16)?,
+        extensions: Extensions::all(),
+    };
+    match MemMap::checked(map) {
+        Some(map) => Ok(map),
+        None => Err("no map".into()),
+    }
 }
 
 /// The bytes of hexadecimal numbers of two digits, four or eight, the low byte of each first.
@@ -64,7 +92,7 @@ pub fn devices_of(alloc: Global, row: &str) -> Result<Devices, Fail> {
         (None, None) => String::from_str(alloc, text)?,
     };
     let text = lines_of(alloc, "zcld devices 1", lines.as_str())?;
-    Ok(read_devices(alloc, text.as_slice(), MemMap::standard())?)
+    Ok(read_devices(alloc, text.as_slice(), map_of(row)?)?)
 }
 
 /// The end of a run, with the bytes of the output.

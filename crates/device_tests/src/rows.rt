@@ -111,6 +111,10 @@ FF010113 00300593 00B12623 100002B7 FFC2A503 05D00893 00000073 | devices + | in 
 100005B7 00400613 03F00893 00000513 00000073 | devices + | in 01 02 03 04 | ends stopped BadAccess | stuck BadAddress
 # a jump: lui t0,0x10000; jalr x0,0(t0)
 100002B7 00028067 | devices + | in 13 00 00 00 | ends stopped BadAccess | stuck TargetUnknown
+# a device behind a stack of 16 bytes, and the stack's last word: lui t0,0x100; lw a0,128(t0); sw a0,132(t0); addi a7,x0,93; ecall
+001002B7 0802A503 08A2A223 05D00893 00000073 | map 00100000 00100070 00100080 | devices /device 00100080 00000010/output 00100084 | in 05 01 00 00 | out 05 | ends exited 5
+# addi sp,sp,-16; addi a1,x0,3; sw a1,12(sp); lui t0,0x100; lw a0,124(t0); addi a7,x0,93; ecall
+FF010113 00300593 00B12623 001002B7 07C2A503 05D00893 00000073 | map 00100000 00100070 00100080 | devices /device 00100080 00000010/output 00100084 | in 05 00 00 00 | ends exited 3
 # compressed: lui a1,0x10000; c.lw a0,4(a1); c.sw a0,8(a1); addi a7,x0,93; ecall
 100005B7 41C8 C588 05D00893 00000073 | devices * | flags 1 | in 01 02 03 84 | out 01 02 03 84 | ends exited 1
 # lui a1,0x10000; c.lw a0,4(a1); c.lw a0,4(a1); c.sw a0,12(a1); addi a7,x0,93; ecall

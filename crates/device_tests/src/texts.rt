@@ -1,5 +1,6 @@
 // Texts of devices, and what is read from them. A `/` means a line feed.
 
+use crate::row::map_of;
 use devices::answers::Answers;
 use devices::device_list::Devices;
 use devices::read_devices::read_devices;
@@ -124,6 +125,15 @@ once 2 lh lhu = [1, 2] 131 0
 read lw 1 = 8585729 []
 read lb 9 lw = 1 [2, 131] 0";
 
+// Texts as above. Memory lies from 0x00010000 to below 0x20000080, and the stack has its last 16 bytes.
+const AROUND: &str = "+device 00000000 00010000/ = 1
++device 0000ffff 00000002/ = line 2 isn't one of devices
++device 10000000 00000010/ = line 2 isn't one of devices
++device 20000070 00000010/ = line 2 isn't one of devices
++device 2000007f 00000001/ = line 2 isn't one of devices
++device 20000080 00000001/ = 1
++device 20000080 dfffff80/ = 1";
+
 // The bytes of a text, behind the title if it begins with `+`.
 fn bytes_of(alloc: Global, text: &str) -> Result<Vec<u8>, AllocError> {
     let (title, rest) = match text.strip_prefix("+") {
@@ -138,8 +148,8 @@ fn bytes_of(alloc: Global, text: &str) -> Result<Vec<u8>, AllocError> {
 }
 
 // The number of lines of a text, or its fault.
-fn told(alloc: Global, text: &[u8]) -> Result<String, AllocError> {
-    match read_devices(alloc, text, MemMap::standard()) {
+fn told(alloc: Global, text: &[u8], map: MemMap) -> Result<String, AllocError> {
+    match read_devices(alloc, text, map) {
         Ok(devices) => format!(in alloc; "{}", devices.len()),
         Err(fault) => format!(in alloc; "{fault}"),
     }
@@ -214,7 +224,20 @@ fn a_text_is_read_or_its_first_fault_is_named(rt: HostRuntime) -> Result<(), Fai
     for row in TEXTS.lines() {
         let (text, want) = row.split_once(" = ").ok_or("no answer")?;
         let bytes = bytes_of(rt.alloc(), text)?;
-        assert_eq!(rt; told(rt.alloc(), bytes.as_slice())?.as_str(), want, "{row}");
+        let told = told(rt.alloc(), bytes.as_slice(), MemMap::standard())?;
+        assert_eq!(rt; told.as_str(), want, "{row}");
+    }
+    Ok(())
+}
+
+#[test]
+fn a_device_lies_outside_memory(rt: HostRuntime) -> Result<(), Fail> {
+    let map = map_of("map 20000000 20000070 20000080")?;
+    for row in AROUND.lines() {
+        let (text, want) = row.split_once(" = ").ok_or("no answer")?;
+        let bytes = bytes_of(rt.alloc(), text)?;
+        let told = told(rt.alloc(), bytes.as_slice(), map)?;
+        assert_eq!(rt; told.as_str(), want, "{row}");
     }
     Ok(())
 }
@@ -240,10 +263,11 @@ fn a_text_has_at_most_8_mib(rt: HostRuntime) -> Result<(), Fail> {
         text.extend_from_slice(b" 00")?;
     }
     text.push(b'\n')?;
-    assert_eq!(rt; told(rt.alloc(), text.as_slice())?.as_str(), "2");
+    let map = MemMap::standard();
+    assert_eq!(rt; told(rt.alloc(), text.as_slice(), map)?.as_str(), "2");
     text.push(b'\n')?;
     assert_eq!(rt;
-        told(rt.alloc(), text.as_slice())?.as_str(),
+        told(rt.alloc(), text.as_slice(), map)?.as_str(),
         "the devices are too large"
     );
     Ok(())

@@ -1,5 +1,8 @@
 // What objects are cut into and linked to, as lines of text.
 
+ghost use Rattle.std.specs.Prelude.{IfOk};
+ghost use Rattle.zc_base.specs.MemMap.{IsMap};
+
 use crate::images::image_text;
 use crate::objects::{files_of, numbers_of};
 use block_cut::cut::Cut;
@@ -14,6 +17,8 @@ use shrink_layout::settled::{Settled, settle};
 use std::alloc::{AllocError, Global};
 use std::process::Abort;
 use std::test::Fail;
+use zc_base::extensions::Extensions;
+use zc_base::link_options::LinkOptions;
 use zc_base::mem_map::MemMap;
 use zc_base::place::Place;
 use zc_link::plain::link_plain;
@@ -223,10 +228,49 @@ fn told(alloc: Global, cut: &Cut, question: &str) -> Result<String, Fail> {
     }
 }
 
-// The fault of the objects with these changes, or the answer to a question about them.
-fn answer(alloc: Global, changes: &str, question: &str) -> Result<String, Fail> {
+// The extensions that a word names.
+fn extensions_of(word: &str) -> Extensions {
+    Extensions {
+        zcb: word.contains("zcb"),
+        zcmp: word.contains("zcmp"),
+        zcmt: word.contains("zcmt"),
+    }
+}
+
+// The standard map of a chip with these extensions.
+fn map_of(extensions: Extensions) -> Result<MemMap, Fail>
+    ensures { IfOk result IsMap }
+{
+    let map = MemMap {
+        extensions,
+        ..MemMap::standard()
+    };
+    Ok(MemMap::checked(map).ok_or("no map")?)
+}
+
+// Names with commas between; none in an empty text.
+fn names_of(alloc: Global, text: &str) -> Result<Vec<Vec<u8>>, AllocError> {
+    let mut names = Vec::new(alloc);
+    if !text.is_empty() {
+        for name in text.split(',') {
+            names.push(Vec::from_slice(alloc, name.as_bytes())?)?;
+        }
+    }
+    Ok(names)
+}
+
+// The fault of the objects with these changes, or the answer to a question about them. The names of sections that stay as
+// they were compiled stand behind the changes and a `!`.
+fn answer(
+    alloc: Global,
+    extensions: Extensions,
+    changes: &str,
+    question: &str,
+) -> Result<String, Fail> {
+    let (changes, names) = changes.split_once('!').unwrap_or((changes, ""));
     let files = files_of(alloc, changes)?;
-    let objects = Objects::gather(alloc, &files, MemMap::standard())?;
+    let options = LinkOptions::new(map_of(extensions)?, names_of(alloc, names.trim())?);
+    let objects = Objects::gather(alloc, &files, &options)?;
     if let Some(asked) = question.strip_prefix("zc ") {
         return image_text(alloc, &link_zc(alloc, objects)?, asked);
     }
@@ -247,8 +291,23 @@ pub fn expect<R: Abort + AllocGlobal>(rt: &R, rows: &str) -> Result<(), Fail> {
         let (cells, _what) = row.split_once('|').unwrap_or((row, ""));
         let (given, want) = cells.split_once('=').ok_or("no answer")?;
         let (changes, question) = given.split_once('@').unwrap_or((given, ""));
-        let found = answer(rt.alloc(), changes, question.trim())?;
+        let found = answer(rt.alloc(), Extensions::all(), changes, question.trim())?;
         assert_eq!(rt; found.as_str().trim(), want.trim(), "{row}");
+    }
+    Ok(())
+}
+
+/// Checks the answer of each row about one list of objects, on each chip that the row names: a row has the extensions of
+/// chips, such as `zca_zcb`, a question after `@`, the answer after `=`, and what it shows after `|`.
+pub fn expect_on<R: Abort + AllocGlobal>(rt: &R, changes: &str, rows: &str) -> Result<(), Fail> {
+    for row in rows.trim().lines() {
+        let (cells, _what) = row.split_once('|').unwrap_or((row, ""));
+        let (given, want) = cells.split_once('=').ok_or("no answer")?;
+        let (chips, question) = given.split_once('@').ok_or("no question")?;
+        for chip in chips.split_whitespace() {
+            let found = answer(rt.alloc(), extensions_of(chip), changes, question.trim())?;
+            assert_eq!(rt; found.as_str().trim(), want.trim(), "{chip} {row}");
+        }
     }
     Ok(())
 }

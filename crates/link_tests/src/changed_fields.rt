@@ -8,6 +8,7 @@ use psabi_sym::objects::Objects;
 use std::alloc::Global;
 use std::test::Fail;
 use zc_base::fields::{put_u16, put_u32};
+use zc_base::link_options::LinkOptions;
 use zc_base::mem_map::MemMap;
 
 // `li a0,3`, `li a7,93` and `ecall`, at 52; two symbols, at 64 and 80, of which the second is `_start`; its name,
@@ -100,7 +101,8 @@ fn changed(alloc: Global, change: &str) -> Result<Vec<u8>, Fail> {
 fn fault_of(alloc: Global, file: Vec<u8>) -> Result<u32, Fail> {
     let mut files = Vec::new(alloc);
     files.push(file)?;
-    let whole = match Objects::gather(alloc, &files, MemMap::standard()) {
+    let options = LinkOptions::of_map(alloc, MemMap::standard());
+    let whole = match Objects::gather(alloc, &files, &options) {
         Ok(objects) => cut(alloc, objects),
         Err(fault) => Err(fault),
     };

@@ -7,6 +7,10 @@ mod answers;
 #[cfg(test)]
 mod changed_fields;
 #[cfg(test)]
+mod chip_rows;
+#[cfg(test)]
+mod chips;
+#[cfg(test)]
 mod compressed;
 #[cfg(test)]
 mod compressed_rows;
@@ -18,6 +22,10 @@ mod cuts;
 mod fault_rows;
 #[cfg(test)]
 mod faults;
+#[cfg(test)]
+mod fixed;
+#[cfg(test)]
+mod fixed_rows;
 #[cfg(test)]
 mod group_rows;
 #[cfg(test)]

@@ -5,6 +5,7 @@ use psabi_sym::objects::Objects;
 use std::alloc::Global;
 use std::process::Abort;
 use std::test::Fail;
+use zc_base::link_options::LinkOptions;
 use zc_base::mem_map::MemMap;
 use zc_link::linked::Linked;
 use zc_link::plain::link_plain;
@@ -63,7 +64,8 @@ const SMALL: &str = "
 fn link(alloc: Global, is_smaller: bool) -> Result<Linked, Fail> {
     let mut files = Vec::new(alloc);
     files.push(bytes_of(alloc, OBJECT)?)?;
-    let objects = Objects::gather(alloc, &files, MemMap::standard())?;
+    let options = LinkOptions::of_map(alloc, MemMap::standard());
+    let objects = Objects::gather(alloc, &files, &options)?;
     if is_smaller {
         Ok(link_zc(alloc, objects)?)
     } else {

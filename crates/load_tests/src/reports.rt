@@ -2,7 +2,7 @@
 
 use pick_check::certificate::Certificate;
 use pick_check::saving::Saving;
-use size_report::report::report;
+use size_report::report::{LinkCounts, report};
 use std::alloc::{AllocError, Global};
 use std::test::Fail;
 use zc_base::counts::Counts;
@@ -54,9 +54,32 @@ fn certificate(alloc: Global) -> Result<Certificate, AllocError> {
 }
 
 #[test]
+fn a_report_ends_with_the_number_of_fixed_sections_if_it_is_told(
+    rt: HostRuntime,
+) -> Result<(), Fail> {
+    let certificate = certificate(rt.alloc())?;
+    for (count, line) in [(0, "fixed 0\n"), (4294967295, "fixed 4294967295\n")] {
+        let counts = LinkCounts {
+            plain: PLAIN,
+            zc: ZC,
+            fixed: Some(count),
+        };
+        let text = report(rt.alloc(), &counts, &[SAVING], &certificate)?;
+        let rest = str::from_utf8(text.as_slice())?.strip_prefix(REPORT);
+        assert_eq!(rt; rest, Some(line));
+    }
+    Ok(())
+}
+
+#[test]
 fn a_report_has_its_counts_and_the_lines_of_the_certificate(rt: HostRuntime) -> Result<(), Fail> {
     let certificate = certificate(rt.alloc())?;
-    let text = report(rt.alloc(), &PLAIN, &ZC, &[SAVING], &certificate)?;
+    let counts = LinkCounts {
+        plain: PLAIN,
+        zc: ZC,
+        fixed: None,
+    };
+    let text = report(rt.alloc(), &counts, &[SAVING], &certificate)?;
     assert_eq!(rt; str::from_utf8(text.as_slice())?, REPORT);
     Ok(())
 }

@@ -7,16 +7,15 @@ mod file;
 mod frames;
 mod rows;
 
-use crate::row::{bytes_of, column, end_of, number_of, shown};
+use crate::row::{bytes_of, column, end_of, map_of, number_of, shown};
 use elf32_read::image::Image;
 use file::file_of;
 use interrupt_plan::plan::empty_plan;
-use rows::{AGAIN, HALFWORDS, PAGES, PROGRAMS, STEPS};
+use rows::{AGAIN, DATA_ENDS, HALFWORDS, MAPS, PAGES, PROGRAMS, STEPS};
 use rv_decode::device_access::DeviceAccess;
 use std::alloc::{AllocError, Global};
 use std::process::Abort;
 use std::test::Fail;
-use zc_base::mem_map::MemMap;
 use zc_base::reg::Reg;
 use zc_machine::answer::{EnvCall, Step};
 use zc_machine::machine::Machine;
@@ -24,14 +23,21 @@ use zc_machine::reason::Reason;
 use zc_machine::run::{RunEnd, run};
 use zc_outside::mem_console::MemConsole;
 
-// The machine with this text and these segments of data, as `file_of` takes them.
+// The machine with this text and these segments of data, as `file_of` takes them, and with the map of a row.
 #[tactic(auto, unfolding(zc_machine::specs::Load::first_core))]
-fn load_with(alloc: Global, text: &str, data: &str) -> Result<Machine, Fail>
+fn load_in(alloc: Global, row: &str, text: &str, data: &str) -> Result<Machine, Fail>
     ensures { IfOk result (λ machine. (machine.exit ≡ None) × (machine.commits ≡ 0)) }
 {
     let file = file_of(alloc, text, data)?;
-    let image = Image::read(file.as_slice(), MemMap::standard())?;
+    let image = Image::read(file.as_slice(), map_of(row)?)?;
     Ok(Machine::load(alloc, &image)?)
+}
+
+// The machine with this text and these segments of data.
+fn load_with(alloc: Global, text: &str, data: &str) -> Result<Machine, Fail>
+    ensures { IfOk result (λ machine. (machine.exit ≡ None) × (machine.commits ≡ 0)) }
+{
+    load_in(alloc, "", text, data)
 }
 
 // Loads an image without data.
@@ -47,7 +53,7 @@ fn ran(alloc: Global, row: &str) -> Result<String, Fail> {
     let fails = [number_of(row, "fails")?];
     let input = bytes_of(alloc, column(row, "in"))?;
     let mut console = MemConsole::new(alloc, b"", &fails)?;
-    let mut machine = load_with(alloc, column(row, "text"), column(row, "data"))?;
+    let mut machine = load_in(alloc, row, column(row, "text"), column(row, "data"))?;
     let plan = empty_plan(alloc);
     let end = run(&mut machine, &plan, input.as_slice(), steps, &mut console);
     let a0 = machine.register(Reg::new(10).ok_or("no register")?);
@@ -92,6 +98,29 @@ fn programs_end_with_their_status_or_reason(rt: HostRuntime) -> Result<(), Fail>
 #[test]
 fn memory_in_pages_is_that_of_its_addresses(rt: HostRuntime) -> Result<(), Fail> {
     expect_runs(&rt, PAGES, "")
+}
+
+#[test]
+fn memory_lies_where_the_map_says(rt: HostRuntime) -> Result<(), Fail> {
+    expect_runs(&rt, MAPS, "")
+}
+
+// Whether the image of a row fits its map.
+fn fit_text(alloc: Global, row: &str) -> Result<String, Fail> {
+    let file = file_of(alloc, "0001", column(row, "data"))?;
+    match Image::read(file.as_slice(), map_of(row)?) {
+        Ok(_) => Ok(String::from_str(alloc, "fit")?),
+        Err(fault) => Ok(format!(in alloc; "{fault}")?),
+    }
+}
+
+#[test]
+fn data_end_at_the_stack_at_the_latest(rt: HostRuntime) -> Result<(), Fail> {
+    for row in DATA_ENDS.trim().lines() {
+        let fit = fit_text(rt.alloc(), row)?;
+        assert_eq!(rt; fit.as_str(), column(row, "ends"), "{row}");
+    }
+    Ok(())
 }
 
 #[test]

@@ -10,13 +10,16 @@ pub mod parts;
 mod relocated;
 mod rows;
 
-use crate::row::{bytes_of, column, end_of, number_of, shown};
+use crate::row::{bytes_of, column, end_of, map_of, number_of, shown};
 use block_cut::cut::Cut;
 use object::{object_of, set_rvc};
 use parts::{PARTS, part_of};
+use psabi_sym::link_fault::LinkFault;
 use psabi_sym::objects::Objects;
 use relocated::RELOCATED;
-use rows::{ACROSS, BRANCHES, CALLS, COMPRESSED, PAGES, PROGRAMS, RESULTS, STACKS, STEPS};
+use rows::{
+    ACROSS, BRANCHES, CALLS, COMPRESSED, DATA_ENDS, MAPS, PAGES, PROGRAMS, RESULTS, STACKS, STEPS,
+};
 use std::alloc::{AllocError, Global};
 use std::process::Abort;
 use std::test::Fail;
@@ -24,6 +27,7 @@ use sym_machine::answer::SymStep;
 use sym_machine::run::{TraceEnd, run};
 use sym_machine::sym::Sym;
 use sym_machine::why::Why;
+use zc_base::link_options::LinkOptions;
 use zc_base::mem_map::MemMap;
 use zc_base::place::Place;
 use zc_outside::mem_console::MemConsole;
@@ -42,7 +46,8 @@ fn cut_of(alloc: Global, row: &str) -> Result<Cut, Fail> {
     }
     let mut files = Vec::new(alloc);
     files.push(object)?;
-    let objects = Objects::gather(alloc, &files, MemMap::standard())?;
+    let options = LinkOptions::of_map(alloc, map_of(row)?);
+    let objects = Objects::gather(alloc, &files, &options)?;
     Ok(Cut::new(alloc, objects)?)
 }
 
@@ -138,6 +143,34 @@ fn a_stack_is_undefined_where_sp_rose_until_it_is_written(rt: HostRuntime) -> Re
     expect_runs(&rt, "", STACKS, "")
 }
 
+#[test]
+fn memory_lies_where_the_map_says(rt: HostRuntime) -> Result<(), Fail> {
+    expect_runs(&rt, "", MAPS, "")
+}
+
+// Whether the objects of a row fit its map.
+fn fit_text(alloc: Global, row: &str) -> Result<String, Fail> {
+    let mut files = Vec::new(alloc);
+    files.push(object_of(alloc, "", "", "")?)?;
+    let options = LinkOptions::of_map(alloc, map_of(row)?);
+    match Objects::gather(alloc, &files, &options) {
+        Ok(_) => Ok(String::from_str(alloc, "fit")?),
+        Err(LinkFault::Object { index, fault }) => {
+            Ok(format!(in alloc; "object {index} {fault}")?)
+        }
+        Err(LinkFault::OutOfMemory) => Err("no memory".into()),
+    }
+}
+
+#[test]
+fn data_end_at_the_stack_at_the_latest(rt: HostRuntime) -> Result<(), Fail> {
+    for row in DATA_ENDS.trim().lines() {
+        let fit = fit_text(rt.alloc(), row)?;
+        assert_eq!(rt; fit.as_str(), column(row, "ends"), "{row}");
+    }
+    Ok(())
+}
+
 // lui t1,1; sub sp,sp,t1; addi sp,sp,-64; addi a0,x0,0; addi a1,sp,28; addi a2,x0,40; addi a7,x0,63; ecall
 const READ_FORTY: &str = "00001337 40610133 FC010113 00000513 01C10593 02800613 03F00893 00000073";
 
@@ -170,7 +203,8 @@ fn parts_cut(alloc: Global, row: &str) -> Result<Cut, Fail> {
     let mut files = Vec::new(alloc);
     files.push(part_of(alloc, row, true)?)?;
     files.push(part_of(alloc, row, false)?)?;
-    let objects = Objects::gather(alloc, &files, MemMap::standard())?;
+    let options = LinkOptions::of_map(alloc, MemMap::standard());
+    let objects = Objects::gather(alloc, &files, &options)?;
     Ok(Cut::new(alloc, objects)?)
 }
 

@@ -2,8 +2,13 @@
 // table is a text, and a row one of its lines, with columns between `|`. A column begins with its key, and may be
 // missing.
 
+ghost use Rattle.std.specs.Prelude.{IfOk};
+ghost use Rattle.zc_base.specs.MemMap.{IsMap};
+
 use std::alloc::Global;
 use std::test::Fail;
+use zc_base::extensions::Extensions;
+use zc_base::mem_map::MemMap;
 use zc_outside::mem_console::MemConsole;
 
 /// The column with a key, or an empty text.
@@ -23,6 +28,30 @@ pub fn number_of(row: &str, key: &str) -> Result<u32, Fail> {
         return Ok(99);
     }
     Ok(u32::from_str_radix(text, 10)?)
+}
+
+// Where data lie, and where the stack begins and ends, in the standard map.
+const STANDARD: &str = "00100000 0FF00000 10000000";
+
+/// The map of a row, or the standard one.
+pub fn map_of(row: &str) -> Result<MemMap, Fail>
+    ensures { IfOk result IsMap }
+{
+    let text = column(row, "map");
+    let text = if text.is_empty() { STANDARD } else { text };
+    let (data, stack) = text.split_once(' ').ok_or("no stack")?;
+    let (low, high) = stack.split_once(' ').ok_or("no end")?;
+    let map = MemMap {
+        text: 0x0001_0000,
+        data_low: u32::from_str_radix(data, 16)?,
+        stack_low: u32::from_str_radix(low, 16)?,
+        stack_high: u32::from_str_radix(high, 16)?,
+        extensions: Extensions::all(),
+    };
+    match MemMap::checked(map) {
+        Some(map) => Ok(map),
+        None => Err("no map".into()),
+    }
 }
 
 /// The bytes of hexadecimal numbers of two digits, four or eight, the low byte of each first.

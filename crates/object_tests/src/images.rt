@@ -79,7 +79,11 @@ const FAULTS: &str = "0 as it is
 4 172:100001 an address past it";
 
 fn fault_of(bytes: &[u8]) -> u32 {
-    match Image::read(bytes, MemMap::standard()) {
+    fault_in(MemMap::standard(), bytes)
+}
+
+fn fault_in(map: MemMap, bytes: &[u8]) -> u32 {
+    match Image::read(bytes, map) {
         Ok(_) => 0,
         Err(fault) => fault.number(),
     }
@@ -95,6 +99,30 @@ fn the_first_fault_of_an_image_is_numbered(rt: HostRuntime) -> Result<(), Fail> 
     assert_eq!(rt; bytes_of(rt.alloc(), IMAGE)?.len(), 460);
     let zeros = vec![in rt.alloc(); 0; 0x80_0001]?;
     assert_eq!(rt; (fault_of(&zeros), fault_of(&zeros[1..])), (5, 1));
+    Ok(())
+}
+
+// Each line: the number of the fault, or 0 for none, where the stack begins in the standard map, the changes, and what
+// they make.
+const ROOM: &str = "0 100000 104:0 no data, and the stack where they would begin
+3 100000 104:1 a byte of data there
+0 100010 104:10 data up to the stack
+3 100010 104:11 data into the stack
+0 4ffff0 104:3ffff0 data up to the stack, 16 bytes fewer than 4 MiB
+3 4ffff0 104:3ffff1 and a byte more
+0 500010 104:400000 data of 4 MiB
+3 500010 104:400001 data of 4 MiB and a byte, below the stack";
+
+#[test]
+fn data_of_an_image_lie_below_the_stack(rt: HostRuntime) -> Result<(), Fail> {
+    for line in ROOM.lines() {
+        let (fault, rest) = line.split_once(" ").ok_or("no fault")?;
+        let (low, changes) = rest.split_once(" ").ok_or("no changes")?;
+        let mut map = MemMap::standard();
+        map.stack_low = u32::from_str_radix(low, 16)?;
+        let bytes = changed(rt.alloc(), IMAGE, changes)?;
+        assert_eq!(rt; fault_in(map, &bytes), fault.parse::<u32>()?, "{line}");
+    }
     Ok(())
 }
 

@@ -3,6 +3,8 @@
 #![tactic(auto)]
 
 #[cfg(test)]
+mod fixed;
+#[cfg(test)]
 mod fixture;
 #[cfg(test)]
 mod images;

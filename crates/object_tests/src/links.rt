@@ -1,5 +1,8 @@
 // Objects gathered by hand.
 
+ghost use Rattle.std.specs.Prelude.{IfOk};
+ghost use Rattle.zc_base.specs.MemMap.{IsMap};
+
 use crate::fixture::{bytes_of, changed};
 use psabi_sym::link_fault::LinkFault;
 use psabi_sym::objects::Objects;
@@ -7,6 +10,7 @@ use psabi_sym::target::Target;
 use std::alloc::{AllocError, Global};
 use std::process::Abort;
 use std::test::Fail;
+use zc_base::link_options::LinkOptions;
 use zc_base::mem_map::MemMap;
 
 // An object without sections: a header alone.
@@ -304,10 +308,12 @@ fn told(alloc: Global, objects: &Objects, question: &str) -> Result<String, Fail
     }
 }
 
-// The fault of objects, or the answer to a question about them.
-fn answer(alloc: Global, list: &str, question: &str) -> Result<String, Fail> {
+// The fault of objects in a map, or the answer to a question about them.
+fn answer(alloc: Global, map: MemMap, list: &str, question: &str) -> Result<String, Fail>
+    requires { IsMap map }
+{
     let files = files_of(alloc, list)?;
-    match Objects::gather(alloc, &files, MemMap::standard()) {
+    match Objects::gather(alloc, &files, &LinkOptions::of_map(alloc, map)) {
         Ok(objects) => told(alloc, &objects, question),
         Err(fault) => Ok(fault_text(alloc, fault)?),
     }
@@ -319,7 +325,7 @@ fn expect<R: Abort + AllocGlobal>(rt: &R, before: &str, lines: &str) -> Result<(
         let row = format!(in rt.alloc(); "{before}{line}")?;
         let (given, want) = row.as_str().split_once(" = ").ok_or("no answer")?;
         let (list, question) = given.split_once(" @ ").ok_or("no question")?;
-        let text = answer(rt.alloc(), list, question)?;
+        let text = answer(rt.alloc(), MemMap::standard(), list, question)?;
         assert_eq!(rt; text.as_str().trim(), want.trim(), "{line}");
     }
     Ok(())
@@ -475,4 +481,38 @@ caller 36:1 96:20 216:3fffa0 @ linked = 0 TooLarge";
 #[test]
 fn code_of_compressed_objects_counts_twice(rt: HostRuntime) -> Result<(), Fail> {
     expect(&rt, "", SUMS)
+}
+
+// The standard map with a stack that begins at an address.
+fn map_with_stack(low: &str) -> Result<MemMap, Fail>
+    ensures { IfOk result IsMap }
+{
+    let mut map = MemMap::standard();
+    map.stack_low = u32::from_str_radix(low, 16)?;
+    Ok(MemMap::checked(map).ok_or("no map")?)
+}
+
+// Each line: where the stack begins in the standard map, the objects, and what they come to. Data end at a multiple of
+// 16, unless there are common symbols. Sums and names come first, and the first object is named, whosever data they are.
+const ROOM: &str = "100000 caller 96:20 216:0 = linked
+100000 caller 96:20 216:1 = 0 TooLarge
+100010 caller 96:20 216:10 = linked
+100010 caller 96:20 216:11 = 0 TooLarge
+100010 header;caller 96:20 216:11 = 0 TooLarge
+100050 first;second = 0 TooLarge
+100060 first;second = linked
+100010 caller 216:11 = 0 Undefined 1
+100010 caller;first;first = 2 Duplicate 2
+500000 caller 96:20 216:3fff9f = linked
+500000 header;caller 96:20 216:3fffa0 = 1 TooLarge";
+
+#[test]
+fn data_that_end_above_the_start_of_the_stack_are_too_large(rt: HostRuntime) -> Result<(), Fail> {
+    for line in ROOM.lines() {
+        let (given, want) = line.split_once(" = ").ok_or("no answer")?;
+        let (low, list) = given.split_once(" ").ok_or("no objects")?;
+        let text = answer(rt.alloc(), map_with_stack(low)?, list, "linked")?;
+        assert_eq!(rt; text.as_str(), want, "{line}");
+    }
+    Ok(())
 }

@@ -155,3 +155,63 @@ text 10013537 C148 | answers committed; asks Sw 10013004 10013000 2
 # lh a1,-1(sp), which isn't aligned, and lh a1,0(sp), which is outside the stack
 text FFF11583 | answers stopped 3 Misaligned
 text 00011583 | answers asks Lh 10000000 11 4";
+
+/// Programs as in `PAGES`, in maps of their own: where data lie, and where the stack begins and ends.
+pub const MAPS: &str = "
+# RAM of 128 bytes, of which the stack has 16: lui t0,0x20000; addi t1,x0,5; sw t1,0(t0); sw t1,108(t0); lw a0,0(t0); lw a1,108(t0); add a0,a0,a1; addi a7,x0,93; ecall
+200002B7 00500313 0062A023 0662A623 0002A503 06C2A583 00B50533 05D00893 00000073 | map 20000000 20000070 20000080 | data 20000000 00000070 0; | ends exited 10 10020 a
+# lui t0,0x20000; addi sp,t0,112; addi t1,x0,6; sw t1,0(sp); lui t2,0x20000; sw t1,124(t2); lw a0,0(sp); lw a1,124(t2); add a0,a0,a1; addi a7,x0,93; ecall
+200002B7 07028113 00600313 00612023 200003B7 0663AE23 00012503 07C3A583 00B50533 05D00893 00000073 | map 20000000 20000070 20000080 | data 20000000 00000070 0; | ends exited 12 10028 c
+# of 48, where data end at the stack: lui t0,0x20000; addi t1,x0,5; sw t1,0(t0); sw t1,28(t0); lw a0,0(t0); lw a1,28(t0); add a0,a0,a1; addi a7,x0,93; ecall
+200002B7 00500313 0062A023 0062AE23 0002A503 01C2A583 00B50533 05D00893 00000073 | map 20000000 20000020 20000030 | data 20000000 00000020 0; | ends exited 10 10020 a
+# lui t0,0x20000; addi sp,t0,32; addi t1,x0,6; sw t1,0(sp); lui t2,0x20000; sw t1,44(t2); lw a0,0(sp); lw a1,44(t2); add a0,a0,a1; addi a7,x0,93; ecall
+200002B7 02028113 00600313 00612023 200003B7 0263A623 00012503 02C3A583 00B50533 05D00893 00000073 | map 20000000 20000020 20000030 | data 20000000 00000020 0; | ends exited 12 10028 c
+# of 2 KiB: lui t0,0x20000; addi t1,x0,5; sw t1,0(t0); sw t1,1020(t0); lw a0,0(t0); lw a1,1020(t0); add a0,a0,a1; addi a7,x0,93; ecall
+200002B7 00500313 0062A023 3E62AE23 0002A503 3FC2A583 00B50533 05D00893 00000073 | map 20000000 20000400 20000800 | data 20000000 00000400 0; | ends exited 10 10020 a
+# lui t0,0x20000; addi sp,t0,1024; addi t1,x0,6; sw t1,0(sp); lui t2,0x20000; sw t1,2044(t2); lw a0,0(sp); lw a1,2044(t2); add a0,a0,a1; addi a7,x0,93; ecall
+200002B7 40028113 00600313 00612023 200003B7 7E63AE23 00012503 7FC3A583 00B50533 05D00893 00000073 | map 20000000 20000400 20000800 | data 20000000 00000400 0; | ends exited 12 10028 c
+# of 520 KiB: lui t0,0x20000; lui t2,0x20081; addi t1,x0,5; sw t1,0(t0); sw t1,-4(t2); lw a0,0(t0); lw a1,-4(t2); add a0,a0,a1; addi a7,x0,93; ecall
+200002B7 200813B7 00500313 0062A023 FE63AE23 0002A503 FFC3A583 00B50533 05D00893 00000073 | map 20000000 20081000 20082000 | data 20000000 00081000 0; | ends exited 10 10024 a
+# lui t0,0x20081; addi sp,t0,0; addi t1,x0,6; sw t1,0(sp); lui t2,0x20082; sw t1,-4(t2); lw a0,0(sp); lw a1,-4(t2); add a0,a0,a1; addi a7,x0,93; ecall
+200812B7 00028113 00600313 00612023 200823B7 FE63AE23 00012503 FFC3A583 00B50533 05D00893 00000073 | map 20000000 20081000 20082000 | data 20000000 00081000 0; | ends exited 12 10028 c
+# of 16 MiB: lui t0,0x20000; lui t2,0x20400; addi t1,x0,5; sw t1,0(t0); sw t1,-4(t2); lw a0,0(t0); lw a1,-4(t2); add a0,a0,a1; addi a7,x0,93; ecall
+200002B7 204003B7 00500313 0062A023 FE63AE23 0002A503 FFC3A583 00B50533 05D00893 00000073 | map 20000000 20800000 21000000 | data 20000000 00400000 0; | ends exited 10 10024 a
+# lui t0,0x20800; addi sp,t0,0; addi t1,x0,6; sw t1,0(sp); lui t2,0x21000; sw t1,-4(t2); lw a0,0(sp); lw a1,-4(t2); add a0,a0,a1; addi a7,x0,93; ecall
+208002B7 00028113 00600313 00612023 210003B7 FE63AE23 00012503 FFC3A583 00B50533 05D00893 00000073 | map 20000000 20800000 21000000 | data 20000000 00400000 0; | ends exited 12 10028 c
+# before data: lui t2,0x20000; lbu a0,-1(t2)
+200003B7 FFF3C503 | map 20000000 20000070 20000080 | data 20000000 0000006c 0; | ends stopped 2 BadAccess 10004 0
+# behind data: lui t2,0x20000; lbu a0,108(t2)
+200003B7 06C3C503 | map 20000000 20000070 20000080 | data 20000000 0000006c 0; | ends stopped 2 BadAccess 10004 0
+# before the stack: lui t2,0x20000; lbu a0,111(t2)
+200003B7 06F3C503 | map 20000000 20000070 20000080 | data 20000000 0000006c 0; | ends stopped 2 BadAccess 10004 0
+# behind the stack: lui t2,0x20000; lbu a0,128(t2)
+200003B7 0803C503 | map 20000000 20000070 20000080 | data 20000000 0000006c 0; | ends stopped 2 BadAccess 10004 0
+# lui t2,0x20000; lbu a0,-1(t2)
+200003B7 FFF3C503 | map 20000000 20800000 21000000 | data 20000000 00400000 0; | ends stopped 2 BadAccess 10004 0
+# lui t2,0x20400; lbu a0,0(t2)
+204003B7 0003C503 | map 20000000 20800000 21000000 | data 20000000 00400000 0; | ends stopped 2 BadAccess 10004 0
+# lui t2,0x20800; lbu a0,-1(t2)
+208003B7 FFF3C503 | map 20000000 20800000 21000000 | data 20000000 00400000 0; | ends stopped 2 BadAccess 10004 0
+# lui t2,0x21000; lbu a0,0(t2)
+210003B7 0003C503 | map 20000000 20800000 21000000 | data 20000000 00400000 0; | ends stopped 2 BadAccess 10004 0
+# a buffer from data into the stack: addi a0,x0,1; lui a1,0x20000; addi a1,a1,28; addi a2,x0,8; addi a7,x0,64; ecall
+00100513 200005B7 01C58593 00800613 04000893 00000073 | map 20000000 20000020 20000030 | data 20000000 00000020 0; | ends stopped 2 BadAccess 10014 1
+# a frame of the whole stack: addi ra,x0,7; cm.push {ra, s0},-16; addi ra,x0,0; cm.pop {ra, s0},16; addi a0,ra,0; addi a7,x0,93; ecall
+00700093 B852 00000093 BA52 00008513 05D00893 00000073 | map 20000000 20000070 20000080 | ends exited 7 10014 7
+# one more: cm.push {ra, s0},-16; cm.push {ra},-16
+B852 B842 | map 20000000 20000070 20000080 | ends stopped 2 BadAccess 10002 0";
+
+/// Maps, and whether a segment of data ends early enough: at the stack's low end, and 4 MiB behind its start.
+pub const DATA_ENDS: &str = "
+map 20000000 20000070 20000080 | data 20000000 0000006f 0; | ends fit
+map 20000000 20000070 20000080 | data 20000000 00000070 0; | ends fit
+map 20000000 20000070 20000080 | data 20000000 00000071 0; | ends BadSegment
+map 20000000 20000400 20000800 | data 20000000 000003ff 0; | ends fit
+map 20000000 20000400 20000800 | data 20000000 00000400 0; | ends fit
+map 20000000 20000400 20000800 | data 20000000 00000401 0; | ends BadSegment
+map 20000000 20081000 20082000 | data 20000000 00080fff 0; | ends fit
+map 20000000 20081000 20082000 | data 20000000 00081000 0; | ends fit
+map 20000000 20081000 20082000 | data 20000000 00081001 0; | ends BadSegment
+map 20000000 20800000 21000000 | data 20000000 003fffff 0; | ends fit
+map 20000000 20800000 21000000 | data 20000000 00400000 0; | ends fit
+map 20000000 20800000 21000000 | data 20000000 00400001 0; | ends BadSegment";

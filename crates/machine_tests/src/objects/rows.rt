@@ -372,3 +372,54 @@ words 4081 B842 BE42 | flags 1 | answers done; done; stuck 0:1:4 3 TargetUnknown
 words 4081 B842 BC42 | flags 1 | answers done; done; stuck 0:1:4 3 TargetUnknown; stuck 0:1:4 3 TargetUnknown; stuck 0:1:4 3 TargetUnknown
 # cm.pop {ra},16
 words BA42 | flags 1 | answers stuck 0:1:0 5 BadAddress; stuck 0:1:0 5 BadAddress";
+
+/// Programs as in `PAGES`, in maps of their own: where data lie, and where the stack begins and ends.
+pub const MAPS: &str = "
+# RAM of 128 bytes, of which the stack has 16: lui t0,0x20000; addi t1,x0,5; sw t1,0(t0); sw t1,28(t0); lw a0,0(t0); lw a1,28(t0); add a0,a0,a1; addi a7,x0,93; ecall
+200002B7 00500313 0062A023 0062AE23 0002A503 01C2A583 00B50533 05D00893 00000073 | map 20000000 20000070 20000080 | ends exited a
+# lui t0,0x20000; addi sp,t0,112; addi t1,x0,6; sw t1,0(sp); lui t2,0x20000; sw t1,124(t2); lw a0,0(sp); lw a1,124(t2); add a0,a0,a1; addi a7,x0,93; ecall
+200002B7 07028113 00600313 00612023 200003B7 0663AE23 00012503 07C3A583 00B50533 05D00893 00000073 | map 20000000 20000070 20000080 | ends exited c
+# of 48, where data end at the stack: lui t0,0x20000; addi t1,x0,5; sw t1,0(t0); sw t1,28(t0); lw a0,0(t0); lw a1,28(t0); add a0,a0,a1; addi a7,x0,93; ecall
+200002B7 00500313 0062A023 0062AE23 0002A503 01C2A583 00B50533 05D00893 00000073 | map 20000000 20000020 20000030 | ends exited a
+# lui t0,0x20000; addi sp,t0,32; addi t1,x0,6; sw t1,0(sp); lui t2,0x20000; sw t1,44(t2); lw a0,0(sp); lw a1,44(t2); add a0,a0,a1; addi a7,x0,93; ecall
+200002B7 02028113 00600313 00612023 200003B7 0263A623 00012503 02C3A583 00B50533 05D00893 00000073 | map 20000000 20000020 20000030 | ends exited c
+# of 2 KiB: lui t0,0x20000; addi t1,x0,5; sw t1,0(t0); sw t1,28(t0); lw a0,0(t0); lw a1,28(t0); add a0,a0,a1; addi a7,x0,93; ecall
+200002B7 00500313 0062A023 0062AE23 0002A503 01C2A583 00B50533 05D00893 00000073 | map 20000000 20000400 20000800 | ends exited a
+# lui t0,0x20000; addi sp,t0,1024; addi t1,x0,6; sw t1,0(sp); lui t2,0x20000; sw t1,2044(t2); lw a0,0(sp); lw a1,2044(t2); add a0,a0,a1; addi a7,x0,93; ecall
+200002B7 40028113 00600313 00612023 200003B7 7E63AE23 00012503 7FC3A583 00B50533 05D00893 00000073 | map 20000000 20000400 20000800 | ends exited c
+# of 520 KiB: lui t0,0x20000; addi t1,x0,5; sw t1,0(t0); sw t1,28(t0); lw a0,0(t0); lw a1,28(t0); add a0,a0,a1; addi a7,x0,93; ecall
+200002B7 00500313 0062A023 0062AE23 0002A503 01C2A583 00B50533 05D00893 00000073 | map 20000000 20081000 20082000 | ends exited a
+# lui t0,0x20081; addi sp,t0,0; addi t1,x0,6; sw t1,0(sp); lui t2,0x20082; sw t1,-4(t2); lw a0,0(sp); lw a1,-4(t2); add a0,a0,a1; addi a7,x0,93; ecall
+200812B7 00028113 00600313 00612023 200823B7 FE63AE23 00012503 FFC3A583 00B50533 05D00893 00000073 | map 20000000 20081000 20082000 | ends exited c
+# of 16 MiB: lui t0,0x20000; addi t1,x0,5; sw t1,0(t0); sw t1,28(t0); lw a0,0(t0); lw a1,28(t0); add a0,a0,a1; addi a7,x0,93; ecall
+200002B7 00500313 0062A023 0062AE23 0002A503 01C2A583 00B50533 05D00893 00000073 | map 20000000 20800000 21000000 | ends exited a
+# lui t0,0x20800; addi sp,t0,0; addi t1,x0,6; sw t1,0(sp); lui t2,0x21000; sw t1,-4(t2); lw a0,0(sp); lw a1,-4(t2); add a0,a0,a1; addi a7,x0,93; ecall
+208002B7 00028113 00600313 00612023 210003B7 FE63AE23 00012503 FFC3A583 00B50533 05D00893 00000073 | map 20000000 20800000 21000000 | ends exited c
+# before data: lui t2,0x20000; lbu a0,-1(t2)
+200003B7 FFF3C503 | map 20000000 20000070 20000080 | ends stuck 0:1:4 5 BadAddress
+# behind data: lui t2,0x20000; lbu a0,32(t2)
+200003B7 0203C503 | map 20000000 20000070 20000080 | ends stuck 0:1:4 5 BadAddress
+# before the stack: lui t2,0x20000; lbu a0,111(t2)
+200003B7 06F3C503 | map 20000000 20000070 20000080 | ends stuck 0:1:4 5 BadAddress
+# behind the stack: lui t2,0x20000; lbu a0,128(t2)
+200003B7 0803C503 | map 20000000 20000070 20000080 | ends stuck 0:1:4 5 BadAddress
+# lui t2,0x20000; lbu a0,-1(t2)
+200003B7 FFF3C503 | map 20000000 20800000 21000000 | ends stuck 0:1:4 5 BadAddress
+# lui t2,0x20000; lbu a0,32(t2)
+200003B7 0203C503 | map 20000000 20800000 21000000 | ends stuck 0:1:4 5 BadAddress
+# lui t2,0x20800; lbu a0,-1(t2)
+208003B7 FFF3C503 | map 20000000 20800000 21000000 | ends stuck 0:1:4 5 BadAddress
+# lui t2,0x21000; lbu a0,0(t2)
+210003B7 0003C503 | map 20000000 20800000 21000000 | ends stuck 0:1:4 5 BadAddress
+# a buffer from data into the stack: addi a0,x0,1; lui a1,0x20000; addi a1,a1,28; addi a2,x0,8; addi a7,x0,64; ecall
+00100513 200005B7 01C58593 00800613 04000893 00000073 | map 20000000 20000020 20000030 | ends stuck 0:1:14 5 BadAddress
+# a frame of the whole stack: addi ra,x0,7; cm.push {ra, s0},-16; addi ra,x0,0; cm.pop {ra, s0},16; addi a0,ra,0; addi a7,x0,93; ecall
+00700093 B852 00000093 BA52 00008513 05D00893 00000073 | flags 1 | map 20000000 20000070 20000080 | ends exited 7
+# one more: cm.push {ra, s0},-16; cm.push {ra},-16
+B852 B842 | flags 1 | map 20000000 20000070 20000080 | ends stuck 0:1:2 7 StackPointer";
+
+/// Maps, and whether the 32 bytes of data of an object end in front of the stack, or at its low end.
+pub const DATA_ENDS: &str = "
+map 20000000 20000010 20000020 | ends object 0 TooLarge
+map 20000000 20000020 20000030 | ends fit
+map 20000000 20000030 20000040 | ends fit";
