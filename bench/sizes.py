@@ -11,7 +11,8 @@ the others link the same objects of RV32IM, the same ones with C, and the same o
 relax, but where a column says otherwise. With `gc` they leave out the sections that nothing needs; for `zcld` GNU ld does
 that before, in a link that keeps relocations (`ld -r --gc-sections`), or `zcld gc` does where a column says so. Where one says
 `merge`, `zcld merge` shares equal ends of functions in a section before; in the columns with `one`, all functions of a file are in
-one section, and in those with `save`, functions of libgcc save and restore registers for them (-msave-restore). GNU ld and LLD
+one section, and in those with `save`, functions of libgcc save and restore registers for them (-msave-restore). One table has links
+of `zc` for chips without some extensions. GNU ld and LLD
 put constants after the text, and in the columns of far constants where `zcld` puts them. In those of GNU ld without gp nothing is
 called `__global_pointer$`, so that it doesn't reach data by gp, and all data, constants too, lie where `zcld` puts them.
 
@@ -201,10 +202,10 @@ class Links:
         told([self.zcld, 'merge', '--out', self.path('merged'), *objects])
         return [self.path(f'merged{k}.o') for k in range(len(objects))]
 
-    def by_zcld(self, link, paths):
-        """The text that `plain` or `zc` makes of objects, whose image does what they do."""
+    def by_zcld(self, link, paths, *options):
+        """The text that `plain` or `zc` makes of objects with options of a chip, whose image does what they do."""
         out = self.path(link)
-        told([self.zcld, link, '--out', out, *(['--cert', self.path('cert')] if link == 'zc' else []), *paths])
+        told([self.zcld, link, *options, '--out', out, *(['--cert', self.path('cert')] if link == 'zc' else []), *paths])
         ran, traced = (programs.run([self.zcld, words, '--steps', '1000000000', *files], self.program.given)
                        for words, files in (('run', [out]), ('trace', paths)))
         if ran != traced or not ran.err.startswith(b'exited '):
@@ -224,14 +225,14 @@ class Links:
             return self.without_gp(objects, *words)
         if linker not in LINKERS:
             before = {OWN: self.collected, SHARED: self.merged, GC: self.gathered}
-            for word in words:
+            for word in filter(before.get, words):
                 objects = before[word](objects)
-            return self.by_zcld(linker, objects)
+            return self.by_zcld(linker, objects, *(word for word in words if word not in before))
         return self.other(linker, objects, *words)
 
 
 # The columns of the tables: the head, who links, the objects' target, and words. Those of `zc` say what leaves out sections before
-# it, `ld -r` or `zcld gc`, or that `zcld merge` shares equal ends of functions before it.
+# it, `ld -r` or `zcld gc`, that `zcld merge` shares equal ends of functions before it, or which extensions the chip has.
 GC, OWN, SHARED = '--gc-sections', 'zcld gc', 'zcld merge'
 FAR = f'--section-start=.rodata={DATA_AT:#x}', f'-Tdata={DATA_AT + 0x80000:#x}'
 SAME = (('`plain`', 'plain', PLAIN), ('`zc`', 'zc', PLAIN), ('GNU ld, no relaxation', 'ld', PLAIN, '--no-relax'),
@@ -260,7 +261,10 @@ MERGED = (('`zc`', 'zc', PLAIN), ('`merge`, `zc`', 'zc', PLAIN, SHARED), ('one: 
           ('one, C: `merge`, `zc`', 'zc', ONE_COMPRESSED, SHARED))
 BOTH = tuple((head + names, 'zc', target, *words) for head, target in (('one: ', ONE), ('one, save: ', SAVING))
              for names, words in (('`zc`', ()), ('`merge`, `zc`', (SHARED,)), ('`gc`, `zc`', (OWN,)), ('`gc`, `merge`, `zc`', (OWN, SHARED))))
-TABLES = SAME, SHORT, TODAY, COLLECTED, MERGED, BOTH, FRAMES
+CHIPS = (('all', 'zc', PLAIN), *((head, 'zc', PLAIN, f'--extensions={word}') for head, word in (
+    ('without Zcmt', 'zca_zcb_zcmp'), ('without Zcmp', 'zca_zcb_zcmt'), ('without Zcb', 'zca_zcmp_zcmt'), ('Zca and Zcb', 'zca_zcb'),
+    ('Zca alone', 'zca'))))
+TABLES = SAME, SHORT, TODAY, COLLECTED, MERGED, BOTH, CHIPS, FRAMES
 
 
 def measured(zcld, zlib, room):

@@ -9,13 +9,14 @@ It takes files of the corpus, or makes some, and mutates them or not: the object
 here make, compressed ones among them, the images of both links, texts of devices, plans and certificates, and lists of words
 that scripts/checks has.
 
-N cases are compared with the models: `plain` and `zc` with plain_link.py, zc_link.py and size_report.py, their refusals and
-those of `trace` and `share` with object_items.py, all in the memory map that the words give (memory_maps.py), `trace` with
-symbolic_machine.py, `run` of an image that wasn't mutated with zc_machine.py, both with devices by devices.py, `share` and
-faults of plans with shared_cells.py, `list` of such an image with listing.py, `check` with certificates.py, words with
-`is_command` below, and `make` with made_load.py; a file that is too long is a read fault. Of N more cases only this is looked
-at: the call ends by itself within the limit of seconds of elapsed time, and its status has its line at the end of standard
-error (docs/FORMATS.md, "Messages on standard error, and the status").
+N cases are compared with the models: `plain` and `zc` with plain_link.py, zc_link.py and size_report.py, their refusals
+and those of `trace` and `share` with object_items.py, all with the memory map and the names that the words give
+(memory_maps.py), `trace` with symbolic_machine.py, `run` of an image that wasn't mutated with zc_machine.py, both with
+devices by devices.py, `share` and faults of plans with shared_cells.py, `list` of such an image with listing.py,
+`check` with certificates.py, words with `is_command` below, and `make` with made_load.py; a file that is too long is a
+read fault. Of N more cases only this is looked at: the call ends by itself within the limit of seconds of elapsed time,
+and its status has its line at the end of standard error (docs/FORMATS.md, "Messages on standard error, and the
+status").
 
 Half of T seconds at most goes to cases that are compared, if both are asked for. N processes share the cases, one if none is
 given; files of calls are in the system's folder for these ($TMPDIR), and calls end sooner if that is in memory. It prints how
@@ -51,8 +52,9 @@ from groups import LISTS
 from made_frames import ENDINGS, sizes
 from listing import listed
 from made_objects import made_list, made_program
-from memory_maps import USUAL, lies_in, made_map, map_in, words_of_map
-from object_faults import told
+from memory_maps import (FIXED, OPTIONS, WORDS, lies_in, made_map, made_names, map_in, names_in, some_words_of_map, words_of_map,
+                         words_of_names)
+from object_faults import Object, gather_cause, told
 from object_items import first_fault
 from plain_link import plain as plain_of
 from shared_cells import PLAN_TITLE, SHARED_TITLE, plan_fault, share as shared_run
@@ -61,7 +63,7 @@ from size_report import left_by_zc
 from symbolic_machine import trace as trace_of
 from zcld_tools import TOP, programs
 from zcld_tools.files import files_in, random_bytes, read, read_all, write
-from zcld_tools.images import DATA_AT, STANDARD
+from zcld_tools.images import STANDARD
 from zcld_tools.programs import Failed
 
 TITLE = PLAN_TITLE + b'\n'
@@ -84,10 +86,12 @@ LINES = ((0, r'', ('plain', 'zc', 'check', 'make', 'list')), (120, r'usage\n', N
 
 
 # Each command: its options, those that it must have, and how many other words it takes, at least and at most.
-GIVEN = {'plain': ((*USUAL, '--out'), ('--out',), 1, None), 'zc': ((*USUAL, '--out', '--cert'), ('--out', '--cert'), 1, None),
-         'run': ((*USUAL, '--devices', '--plan', '--steps'), (), 1, 1), 'trace': ((*USUAL, '--devices', '--steps'), (), 1, None),
-         'check': ((), (), 1, 1),
-         'share': (('--out', '--plan', '--steps'), ('--out', '--plan'), 1, None), 'list': ((), (), 1, 1),
+MAP = *OPTIONS, FIXED
+GIVEN = {'plain': ((*MAP, '--out'), ('--out',), 1, None),
+         'zc': ((*MAP, '--out', '--cert'), ('--out', '--cert'), 1, None),
+         'run': ((*MAP, '--devices', '--plan', '--steps'), (), 1, 1),
+         'trace': ((*MAP, '--devices', '--steps'), (), 1, None), 'check': ((), (), 1, 1),
+         'share': ((*MAP, '--out', '--plan', '--steps'), ('--out', '--plan'), 1, None), 'list': (MAP, (), 1, 1),
          'make': (('--out',), (), 2, 2)}
 
 
@@ -118,6 +122,7 @@ def is_command(words):
             values[name] = rest.pop(0)
     return (all(name in values for name in needed) and least <= len(others) <= (most or len(others))
             and is_number(values.get('--steps', '0'), 10**9) and map_in(values) is not None
+            and names_in(values.get(FIXED, '.text')) is not None
             and (words[0] != 'zc' or values['--out'] != values['--cert'])
             and (words[0] != 'make' or is_number(others[0], (1 << 64) - 1) and is_number(others[1], 1600)))
 
@@ -208,12 +213,12 @@ def plan(rng, stack):
     return text if rng.random() < 0.6 else with_slip(rng, text)
 
 
-def shared_plan(rng):
+def shared_plan(rng, memory):
     """The same with a shared plan's first line, and with cells at the start of data in some lines."""
-    title, *lines = plan(rng, STANDARD.stack_high).split(b'\n')
+    title, *lines = plan(rng, memory.stack_high).split(b'\n')
     for k, line in enumerate(lines):
         for _ in range(rng.choice((0, 1, 3)) if line else 0):
-            lines[k] += b' s%08x:%02x' % (DATA_AT + rng.randrange(-1, 300), rng.randrange(256))
+            lines[k] += b' s%08x:%02x' % (memory.data + rng.randrange(-1, 300), rng.randrange(256))
     return b'\n'.join((title.replace(PLAN_TITLE, SHARED_TITLE), *lines))
 
 
@@ -257,8 +262,9 @@ def addresses_by_chance(rng):
     """Options of a map that is valid or nearly so, together and as single words."""
     words = words_of_map(made_map(rng))
     if rng.random() < 0.5:
-        at = rng.randrange(0, 6, 2) + 1
-        words[at] = rng.choice((words[at].upper(), words[at][1:], '0' + words[at], f'{rng.getrandbits(32):08x}', '0x000000', ''))
+        at = rng.randrange(0, 10, 2) + 1
+        words[at] = rng.choice((words[at].upper(), words[at][1:], '0' + words[at], f'{rng.getrandbits(32):08x}', '0x000000', '',
+                                *WORDS, 'zcb', 'zca_', 'zca_zcmp_zcb', 'rv32imc'))
     return [*words, *map('='.join, zip(words[::2], words[1::2]))]
 
 
@@ -273,7 +279,7 @@ class Case:
         self.is_compared, self.command, self.files = mode == 'compare', rng.choice(OFTEN), {}
         self.steps = STEPS if self.is_compared else STEPS_LOOKED_AT
         self.given, self.words = rng.choice((b'', b'input', random_bytes(rng, rng.randrange(40)))), []
-        self.memory = made_map(rng) if rng.random() < 0.3 else STANDARD
+        self.memory, self.names = made_map(rng) if rng.random() < 0.3 else STANDARD, ()
         getattr(self, f'take_{"objects" if self.command in BY_OBJECTS else self.command}')(rng, corpus)
 
     def take_objects(self, rng, corpus):
@@ -287,10 +293,13 @@ class Case:
             rng.shuffle(files)
         self.objects = files
         self.files = {f'{k}.o': data for k, data in enumerate(files)}
+        if rng.random() < 0.2 and not gather_cause(files):
+            self.names = made_names(rng, [Object(data) for data in files])
+        fixing = words_of_names(self.names)
         if self.command == 'share':
-            self.memory = STANDARD
-            self.words = ['share', '--out', 'out', '--plan', 'plan', '--steps', self.steps, *self.files]
-            self.files['plan'] = shared_plan(rng)
+            self.words = ['share', *some_words_of_map(rng, self.memory), *fixing, '--out', 'out', '--plan', 'plan', '--steps',
+                          self.steps, *self.files]
+            self.files['plan'] = shared_plan(rng, self.memory)
             return
         options = {'plain': ('--out', 'out'), 'zc': ('--out', 'out', '--cert', 'cert'), 'trace': ('--steps', self.steps)}
         if self.command == 'trace' and rng.random() < 0.3:
@@ -298,7 +307,7 @@ class Case:
             if rng.random() < 0.7:
                 self.take_driver(rng, ranges)
             options['trace'] += '--devices', 'devices'
-        self.words = [self.command, *self.map_words(rng), *options[self.command], *self.files]
+        self.words = [self.command, *some_words_of_map(rng, self.memory), *fixing, *options[self.command], *self.files]
         if 'devices' in self.words:
             self.files['devices'] = text
 
@@ -307,13 +316,6 @@ class Case:
         made = made_program(rng, rng.random() < 0.1, functools.partial(Driver, ranges))
         self.objects = [read.bytes() for read in made.objects]
         self.files = {f'{k}.o': data for k, data in enumerate(self.objects)}
-
-    def map_words(self, rng):
-        """The words of the map, of which those of the standard one may be left out."""
-        words = words_of_map(self.memory)
-        usual = words_of_map(STANDARD)
-        kept = [at for at in (0, 2, 4) if words[at + 1] != usual[at + 1] or rng.random() < 0.1]
-        return [word for at in rng.sample(kept, len(kept)) for word in words[at:at + 2]]
 
     def take_run(self, rng, corpus):
         image, self.is_whole = corpus.image(rng, self.memory), rng.random() < (0.7 if self.is_compared else 0.2)
@@ -327,7 +329,7 @@ class Case:
             if rng.random() < 0.7 and self.is_whole:
                 self.take_image_of_driver(rng, ranges)
         texts = [word for name in ('plan', 'devices') if name in self.files for word in (f'--{name}', name)]
-        self.words = ['run', *self.map_words(rng), *texts, '--steps', self.steps, 'image']
+        self.words = ['run', *some_words_of_map(rng, self.memory), *texts, '--steps', self.steps, 'image']
 
     def take_image_of_driver(self, rng, ranges):
         """Takes the image of objects that access devices, if it can be linked."""
@@ -338,7 +340,10 @@ class Case:
 
     def take_list(self, rng, corpus):
         image, self.is_whole = corpus.image(rng, self.memory), rng.random() < (0.7 if self.is_compared else 0.2)
-        self.files, self.words = {'image': image if self.is_whole else mutated(rng, image)}, ['list', 'image']
+        if rng.random() < 0.1:
+            self.memory = made_map(rng)
+        self.files = {'image': image if self.is_whole else mutated(rng, image)}
+        self.words = ['list', *some_words_of_map(rng, self.memory), 'image']
 
     def take_check(self, rng, _):
         text = made_text(rng)
@@ -391,7 +396,7 @@ class Case:
 
     def is_refused(self, ended, left):
         """The objects have a fault, which is named, and nothing was written."""
-        fault = first_fault(self.objects, self.memory)
+        fault = first_fault(self.objects, self.memory, self.names)
         if fault:
             self.wanted(ended, 121, b'', told(fault) + b'\n')
             if set(left) - set(self.files):
@@ -406,7 +411,7 @@ class Case:
             self.wanted(ended, 0, b'plain text %d\n' % length, b'')
             files = {'out': image}
         else:
-            image, cert, report = left_by_zc(self.objects, self.memory)
+            image, cert, report = left_by_zc(self.objects, self.memory, self.names)
             self.wanted(ended, 0, report, b'')
             files = {'out': image, 'cert': cert}
         for name, data in {**self.files, **files}.items():
@@ -445,7 +450,7 @@ class Case:
         self.wanted(ended, status_of(line), machine.written[1], machine.written[2] + line + b'\n')
 
     def compare_share(self, ended, left):
-        model = shared_run(self.objects, self.files['plan'], self.given, int(STEPS))
+        model = shared_run(self.objects, self.files['plan'], self.given, int(STEPS), self.memory, self.names)
         self.wanted(ended, *model[:3])
         if {**left, 'out': left.get('out')} != {**self.files, 'out': model.image}:
             raise Failed(f'other files are there: {sorted(left)}')
@@ -454,7 +459,7 @@ class Case:
         if not self.is_whole:
             return
         image = self.files['image']
-        if lies_in(image, STANDARD):
+        if lies_in(image, self.memory):
             self.wanted(ended, 0, listed(image), b'')
         else:
             self.wanted(ended, 125, b'', b'bad image 3\n')

@@ -1,8 +1,9 @@
 """Compares what a command writes of lists of objects with what its model makes of them, and runs both.
 
-Of a list that has a fault the command must name the first, and where the result has one, the first of that; then no file is there.
-Otherwise the objects, byte for byte, and the lines must be the model's, and the image that `zc` makes of the objects must write what
-`trace` of the given ones does, and end in the same way, unless that is stuck.
+A third of the lists are in a memory map by chance (memory_maps.py), and some sections of code are fixed by chance. Of a list that
+has a fault the command must name the first, and where the result has one, the first of that; then no file is there. Otherwise the
+objects, byte for byte, and the lines must be the model's, and the image that `zc` makes of the objects must write what `trace` of
+the given ones does, and end in the same way, unless that is stuck.
 """
 import argparse
 import collections
@@ -12,10 +13,12 @@ import tempfile
 from typing import Callable, NamedTuple
 
 from checks.harness import LINK, Folder
-from object_faults import NAMES, told
+from object_faults import NAMES, Object, gather_cause, told
+from memory_maps import made_map, made_names, some_words_of_map, words_of_names
 from object_items import first_fault
 from zcld_tools import programs
 from zcld_tools.files import files_in
+from zcld_tools.images import STANDARD, MemoryMap
 
 STEPS = 3000
 # As many commits as an image may need for a step.
@@ -23,27 +26,30 @@ COMMITS_OF_STEP = 64
 
 
 class Rewriting(NamedTuple):
-    """A command that writes objects again: its name, its model and the model's lines, and how many steps an image of the result
-    may take for one of the given objects'."""
+    """A command that writes objects again: its name, its model and the model's lines, how many steps an image of the result may take
+    for one of the given objects', and the memory map and the names of fixed sections, with the words that give them."""
 
     command: str
     made: Callable
     lines: Callable
     steps: int = 1
+    memory: MemoryMap = STANDARD
+    names: tuple = ()
+    words: tuple = ()
 
     def called(self, folder, names):
         """How the command ends with these files, and the objects that stand then."""
-        ended = folder.run((self.command, '--out', 'left', *names))
+        ended = folder.run((self.command, *self.words, '--out', 'left', *names))
         return ended, {name: data for name, data in files_in(folder.place).items() if name.startswith('left')}
 
     def expected(self, files):
         """How it must end, the objects that must stand then, and what happened."""
-        fault = first_fault(files)
+        fault = first_fault(files, self.memory, self.names)
         if fault:
             return (121, b'', told(fault) + b'\n'), {}, 'refused'
-        made = self.made(files)
+        made = self.made(files, self.memory, self.names)
         result = [it.bytes() for it in made]
-        fault = first_fault(result)
+        fault = first_fault(result, self.memory, self.names)
         if fault:
             line = f'broken {fault[0]} {fault[1]} {NAMES[fault[1]]}\n'
             return (119, b'', line.encode()), {}, 'broken'
@@ -51,9 +57,9 @@ class Rewriting(NamedTuple):
 
     def runs(self, folder, names, result):
         """How the objects end, and the image of the result."""
-        given = folder.run(('trace', '--steps', str(STEPS), *names))
-        folder.run((*LINK, *result))
-        return given, folder.run(('run', '--steps', str(COMMITS_OF_STEP * self.steps * STEPS + 3), 'out'))
+        given = folder.run(('trace', *self.words, '--steps', str(STEPS), *names))
+        folder.run((*LINK, *self.words, *result))
+        return given, folder.run(('run', *self.words, '--steps', str(COMMITS_OF_STEP * self.steps * STEPS + 3), 'out'))
 
     def look(self, folder, files, counts):
         """Says what differs of a list, if anything does."""
@@ -81,9 +87,13 @@ class Rewriting(NamedTuple):
         given, counts = words.parse_args(), collections.Counter()
         program = programs.built(given.program)
         for seed in range(given.seed, given.seed + given.count):
-            source = random.Random(seed)
+            source, rng = random.Random(seed), random.Random(f'map {seed}')
+            memory = made_map(rng) if rng.random() < 0.3 else STANDARD
+            files = made_list(source, source.random() < 0.15)
+            names = () if gather_cause(files) else made_names(rng, [Object(data) for data in files])
+            words = *some_words_of_map(rng, memory), *words_of_names(names)
             with tempfile.TemporaryDirectory() as place:
-                wrong = self.look(Folder(program, place), made_list(source, source.random() < 0.15), counts)
+                wrong = self._replace(memory=memory, names=names, words=words).look(Folder(program, place), files, counts)
             if wrong:
                 sys.exit(f'seed {seed}: {wrong}')
         print(f'{given.count} lists: ' + ', '.join(f'{count} {what}' for what, count in sorted(counts.items())))

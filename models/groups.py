@@ -5,9 +5,9 @@
 lists the groups of the files, or says their first fault. It is independent of the program, so that both can be compared.
 
 A group is a push, a pop, a pop that returns, one that sets a0 to 0 too, or two moves between a0 and a1 and two of s0 to s7. No
-item of it has a relocation, and no basic block begins at one but the first. Groups are taken from the left in each section, and
-of those that start at one item that with the most items. An item of 2 bytes has the word that its halfword expands to, in its
-normal form, so `c.mv` is a move, as `addi` is, and `add` isn't.
+item of it has a relocation, and no basic block begins at one but the first. Groups are taken from the left in each section that
+may change, and of those that start at one item that with the most items. An item of 2 bytes has the word that its halfword expands
+to, in its normal form, so `c.mv` is a move, as `addi` is, and `add` isn't.
 """
 import os
 import struct
@@ -169,12 +169,14 @@ def run_from(places, words, blocks, at):
 
 
 def groups_of(code):
-    """The groups of all code, by the places of their first items."""
+    """The groups of all code, by the places of their first items. For a chip without Zcmp there are none."""
+    if not code.memory.extensions.zcmp:
+        return {}
     blocks, found = leaders(code), {}
     for (i, k), part in code.code_parts():
         places = [(i, k, offset) for offset in part.starts]
         items = [code.item(place) for place in places]
-        words = [item.words[0] if item.kind == 'Op' else None for item in items]
+        words = [item.words[0] if item.kind == 'Op' and (i, k) not in code.fixed else None for item in items]
         at = 0
         while at < len(places):
             group = group_in(run_from(places, words, blocks, at))

@@ -178,6 +178,23 @@ def short_form(word):
     return kinds[i.opcode](i) if i.opcode in kinds else None
 
 
+def extension_of(half):
+    """The extension that a halfword is of, as a name in `Extensions`, or none if it is one of Zca; by the opcodes that the
+    extensions beside Zca add."""
+    row = half >> 10 & 7
+    if half & 3 == 0 and half >> 13 == 4 or half & 3 == 1 and half >> 13 == 4 and row == 7:
+        return 'zcb'
+    if half & 3 == 2 and half >> 13 == 5:
+        return 'zcmp' if row else 'zcmt'
+    return None
+
+
+def has_half(extensions, half):
+    """Whether a chip with these extensions beside Zca has a halfword that some chip has."""
+    needed = extension_of(half)
+    return needed is None or getattr(extensions, needed)
+
+
 def main():
     for word in sys.argv[1:]:
         made = short_form(int(word, 16))

@@ -10,14 +10,19 @@ def aligned(at, align):
     return -(-at // max(1, align)) * max(1, align)
 
 
+def is_of_kin(name, base):
+    """Whether a section's name is this one, or begins with it and a dot."""
+    return name == base or name.startswith(base + b'.')
+
+
 def class_of(read, section):
     """The class of a section of data."""
     name = read.name_of(section)
     if section.kind == NOBITS:
-        return SMALL_ZERO if name == b'.sbss' or name.startswith(b'.sbss.') else ZERO
+        return SMALL_ZERO if is_of_kin(name, b'.sbss') else ZERO
     if not section.flags & WRITE:
         return READ_ONLY
-    return SMALL_DATA if name == b'.sdata' or name.startswith(b'.sdata.') else DATA
+    return SMALL_DATA if is_of_kin(name, b'.sdata') else DATA
 
 
 class Names:

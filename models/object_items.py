@@ -13,7 +13,7 @@ sys.path.insert(0, os.path.join(os.path.dirname(os.path.abspath(__file__)), os.p
 
 from expansions import expanded
 from halfwords import Instruction
-from object_data import ABSENT, CODE, NOWHERE, NUMBER, Symbols, aligned
+from object_data import ABSENT, CODE, NOWHERE, NUMBER, Symbols, aligned, is_of_kin
 from object_faults import Cause, Object, Relocation, gather_cause, row_of, told
 from zcld_tools.elf import (ALIGN, BRANCH, CALL, CALL_PLT, HI20, JAL, LO12_I, LO12_S, NOBITS, NONE, PCREL_HI20,
                             PCREL_LO12_I, PCREL_LO12_S, RELA, RELAX, RVC_BRANCH, RVC_JUMP, R_32)
@@ -31,7 +31,7 @@ WAYS = {BRANCH: 'Branch', RVC_BRANCH: 'Branch', JAL: 'Jump', RVC_JUMP: 'Jump'}
 REACHES = {'Branch': {2: (-256, 254), 4: (-4096, 4094)}, 'Jump': {2: (-2048, 2046)}, 'Call': {2: (-2048, 2046)}}
 FIELDS = {R_32: 4, BRANCH: 4, JAL: 4, CALL: 8, CALL_PLT: 8, PCREL_HI20: 4, PCREL_LO12_I: 4, PCREL_LO12_S: 4, HI20: 4,
           LO12_I: 4, LO12_S: 4, RVC_BRANCH: 2, RVC_JUMP: 2}
-KIND_FAULT, PLACE_FAULT, PAIR_FAULT, TARGET_FAULT, RANGE_FAULT, ENTRY_FAULT = 11, 12, 13, 14, 15, 16
+KIND_FAULT, PLACE_FAULT, PAIR_FAULT, TARGET_FAULT, RANGE_FAULT, ENTRY_FAULT, SIZE_FAULT = 11, 12, 13, 14, 15, 16, 17
 
 
 # ---- words and halfwords (RISC-V unprivileged manual, "RV32I" and "RVC Instruction Set Listings")
@@ -215,11 +215,14 @@ def raw_item(words, half):
 
 
 class Code:
-    """The code of a list of objects without a fault between objects, in a memory map."""
+    """The code of a list of objects without a fault between objects, in a memory map, with the sections of code that stay as they
+    are: those of these names, or of names that begin with one of them and a dot."""
 
-    def __init__(self, objects, memory=STANDARD):
-        self.objects, self.memory, self.symbols = objects, memory, Symbols(objects, memory)
+    def __init__(self, objects, memory=STANDARD, names=()):
+        self.objects, self.memory, self.names, self.symbols = objects, memory, names, Symbols(objects, memory)
         self.parts = {(i, k): Part(read, k) for i, read in enumerate(objects) for k in range(read.count) if read.kept[k]}
+        self.fixed = {place for place, part in self.code_parts()
+                      if any(is_of_kin(objects[place[0]].name_of(part.section), name) for name in names)}
 
     def code_parts(self):
         return ((place, part) for place, part in self.parts.items() if part.is_code)
@@ -325,22 +328,31 @@ class Code:
         return found
 
     def far_branch(self):
-        """The first branch or jump that doesn't reach in the plain layout: its object, and the fault; or none."""
+        """The first branch or jump that doesn't reach in the plain layout, or that leads out of a section that stays as it is: its
+        object, and the fault; or none."""
         addresses, _ = self.plain_layout()
         for place in self.places():
             item = self.item(place)
             reach = REACHES.get(item.kind, {}).get(4 if item.half is None else 2)
-            if reach:
-                distance = addresses[item.target[1:]] - addresses[place]
-                if not reach[0] <= distance <= reach[1]:
-                    i, k, offset = place
-                    why = f'its target is {distance:,} bytes away, and it reaches from {reach[0]:,} to {reach[1]:,}'
-                    entry = self.parts[i, k].at.get(offset)
-                    return i, Cause(RANGE_FAULT, why, k, entry, entry and entry.symbol, offset=offset)
+            why = reach and self.why_out_of_reach(place, item.target[1:], addresses, reach)
+            if why:
+                i, k, offset = place
+                entry = self.parts[i, k].at.get(offset)
+                return i, Cause(RANGE_FAULT, why, k, entry, entry and entry.symbol, offset=offset)
         return None
+
+    def why_out_of_reach(self, place, to, addresses, reach):
+        """Why what stands at a place may not lead to another, or none."""
+        distance = addresses[to] - addresses[place]
+        if not reach[0] <= distance <= reach[1]:
+            return f'its target is {distance:,} bytes away, and it reaches from {reach[0]:,} to {reach[1]:,}'
+        return 'its target is in another section, and its own is fixed' if place[:2] in self.fixed and to[:2] != place[:2] else None
 
     def cause(self):
         """The first fault, and the index of its object; or none."""
+        data_end, low = self.symbols.data.end, self.memory.stack_low
+        if data_end > low:
+            return 0, Cause(SIZE_FAULT, f'data end at {data_end:08x}, above the low end of the stack at {low:08x}')
         for (i, k), part in self.parts.items():
             for entry in part.entries:
                 cause = self.entry_cause(i, k, entry)
@@ -354,14 +366,14 @@ class Code:
         return self.far_branch()
 
 
-def first_cause(files, memory=STANDARD):
+def first_cause(files, memory=STANDARD, names=()):
     """The first fault of a list of files, and the index of its object; or none."""
-    return gather_cause(files) or Code([Object(data) for data in files], memory).cause()
+    return gather_cause(files) or Code([Object(data) for data in files], memory, names).cause()
 
 
-def first_fault(files, memory=STANDARD):
+def first_fault(files, memory=STANDARD, names=()):
     """The first fault of a list of files: the object's index, the fault's number, and the name of a symbol or none; or none."""
-    return row_of(first_cause(files, memory))
+    return row_of(first_cause(files, memory, names))
 
 
 def without_fault(paths):

@@ -23,8 +23,8 @@ from zcld_tools.instructions import NOP, SHORT_NOP, halves_of, with_branch, with
 class Plain:
     """The plain link of code without a fault."""
 
-    def __init__(self, objects, memory=STANDARD):
-        self.memory, self.code = memory, Code(objects, memory)
+    def __init__(self, objects, memory=STANDARD, names=()):
+        self.memory, self.code = memory, Code(objects, memory, names)
         self.addresses, self.end = self.layout()
 
     def layout(self):

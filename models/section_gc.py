@@ -4,8 +4,8 @@
     models/section_gc.py PREFIX FILE...
 
 writes the objects of the files under PREFIX0.o and so on, and prints how much of their code is kept, or prints their first fault.
-A program needs the section that it starts in, all data, and the code that relocations of these lead to, and so on. The model is
-independent of the program, so that both can be compared.
+A program needs the section that it starts in, all data, the sections of code that stay as they are, and the code that relocations
+of these lead to, and so on. The model is independent of the program, so that both can be compared.
 """
 import os
 import sys
@@ -17,12 +17,13 @@ from object_faults import Object
 from object_items import Code, without_fault
 from object_parts import Rewritten, relocations
 from zcld_tools.files import write
+from zcld_tools.images import STANDARD
 
 
 def needed(code):
     """The sections that the program needs, each by its object's index and its own."""
     found = {(i, k) for i, read in enumerate(code.objects) for k in range(read.count) if read.kept[k] and not read.is_code(k)}
-    found.add(code.entry()[:2])
+    found |= {code.entry()[:2], *code.fixed}
     todo = list(found)
     while todo:
         i, k = todo.pop()
@@ -49,9 +50,9 @@ class Cleaned(Rewritten):
         return (0, 0) if home in self.empty else (value, size)
 
 
-def collected(files):
-    """What is left of each of the files."""
-    wanted = needed(Code([Object(data) for data in files]))
+def collected(files, memory=STANDARD, names=()):
+    """What is left of each of the files in a memory map, if sections of these names stay."""
+    wanted = needed(Code([Object(data) for data in files], memory, names))
     return [Cleaned(data, i, wanted) for i, data in enumerate(files)]
 
 

@@ -24,6 +24,7 @@ from object_items import first_fault
 from symbolic_machine import HIGH, MASK, PLACE, UNDEFINED, holds
 from zc_link import link_of
 from zcld_tools.files import read, read_all, write
+from zcld_tools.images import STANDARD
 
 SHARED, PLAN_TITLE, SHARED_TITLE = b'.shared', b'zcld plan 1', b'zcld shared 1'
 MOST_TEXT, MOST_INPUT, STUB_COMMITS = 8 << 20, 16 << 20, 3
@@ -118,8 +119,8 @@ def is_shared(ranges, at):
 class SharedImage(zc_machine.Machine):
     """The run of an image under a shared plan."""
 
-    def __init__(self, image, given, cuts, ranges):
-        super().__init__(image, given)
+    def __init__(self, image, given, cuts, ranges, memory=STANDARD):
+        super().__init__(image, given, memory)
         self.waiting, self.ranges, self.status = list(reversed(cuts)), ranges, None
 
     def poke(self, at, byte):
@@ -185,7 +186,7 @@ class Pace:
             return size % 4 // 2 + size // 4
         if item.kind == 'Branch' and link.sizes[place] == 8:
             return 2 if self.is_taken(item.words[0], registers) else 1
-        return 1
+        return 2 if item.kind == 'Call' and link.sizes[place] == 8 else 1
 
     @staticmethod
     def is_taken(word, registers):
@@ -200,7 +201,7 @@ class SharedProgram(symbolic_machine.Machine):
     """The run of the objects under a shared plan. `taken` is how many commits the image has made after the steps so far."""
 
     def __init__(self, objects, given, cuts, pace):
-        super().__init__(objects, given)
+        super().__init__(objects, given, pace.link.memory)
         self.waiting, self.ranges, self.pace, self.status = list(reversed(cuts)), shared_ranges(self.code.symbols), pace, None
         self.taken = self.after = pace.start()
         self.left = 0
@@ -280,7 +281,7 @@ def compared(objects, link, given, cuts, steps, each=1):
     """Runs the objects and their image side by side, and gives how many steps were made before the program was stuck, exited or
     had made all. After each step the events must be the same, and at places with an address, every so many steps, the states."""
     program = SharedProgram(objects, given, cuts, Pace(link))
-    machine = SharedImage(link.image(), given, cuts, program.ranges)
+    machine = SharedImage(link.image(), given, cuts, program.ranges, link.memory)
     for step in range(steps + 1):
         try:
             if step:
@@ -321,20 +322,20 @@ def status_of(line):
     return min(118, int(line.split()[1])) if word == 'exited' else {'stopped': 126, 'spent': 127}[word]
 
 
-def share(files, text, given=b'', steps=10_000_000):
+def share(files, text, given=b'', steps=10_000_000, memory=STANDARD, names=()):
     """What `share` does with files that can be read, if OUT can be written and no memory is wanting: the objects are judged, and
     then the plan; the input is taken; and OUT is put before the image runs."""
-    fault = first_fault(files)
+    fault = first_fault(files, memory, names)
     if fault:
         return Ended(121, b'', told(fault) + b'\n')
     why = plan_fault(text)
     if why:
         return Ended(125, b'', f'bad plan {why}\n'.encode())
-    link = link_of(files).link
+    link = link_of(files, memory, names).link
     if len(given) > MOST_INPUT:
         return Ended(122, b'', b'read fault\n')
     image = link.image()
-    machine = SharedImage(image, given, read_plan(text), shared_ranges(link.code.symbols))
+    machine = SharedImage(image, given, read_plan(text), shared_ranges(link.code.symbols), memory)
     line = run(machine, steps)
     return Ended(status_of(line), machine.written[1], machine.written[2] + line.encode() + b'\n', image)
 

@@ -4,7 +4,8 @@
     models/size_report.py FILE...
 
 prints the report of the files, or says their first fault. It is independent of the program, so that both can be compared: the
-counts are those of the layout in zc_link.py, and the savings, the slots and the net those of its table.
+counts are those of the layout in zc_link.py, and the savings, the slots and the net those of its table. The number of sections that
+stay as they are is only there if any names of such are given.
 """
 import os
 import sys
@@ -33,12 +34,14 @@ def report(linked):
     rows = {'plain text': plain_end - link.memory.text, 'zc text': link.length(), **link.counts(), 'slots': len(certificate.slots),
             'net': certificate.net}
     lines = [*(f'{name} {number}' for name, number in rows.items()), *lines_of(savings, certificate.slots)]
+    if link.code.names:
+        lines.append(f'fixed {len(link.code.fixed)}')
     return ''.join(line + '\n' for line in lines).encode()
 
 
-def left_by_zc(files, memory=STANDARD):
+def left_by_zc(files, memory=STANDARD, names=()):
     """What `zc` leaves of files without a fault."""
-    linked = link_of(files, memory)
+    linked = link_of(files, memory, names)
     return Left(linked.link.image(), linked.certificate_text(), report(linked))
 
 

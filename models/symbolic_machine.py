@@ -125,8 +125,8 @@ class Machine:
     # memory
 
     def is_memory(self, at, size):
-        _, data, stack_low, stack_high = self.memory
-        return data <= at and at + size <= data + len(self.data) or stack_low <= at and at + size <= stack_high
+        data, stack = self.memory.data, (self.memory.stack_low, self.memory.stack_high)
+        return data <= at and at + size <= data + len(self.data) or stack[0] <= at and at + size <= stack[1]
 
     def load(self, at, size):
         if at < self.memory.stack_low:

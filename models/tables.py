@@ -32,11 +32,14 @@ def link_register(item):
 def sites_of(link):
     """The jumps and calls of a link without a table that one could serve, by their places: register and target."""
     return {place: (link_register(item), item.target[1:]) for place, item in link.items.items()
-            if item.kind in ('Jump', 'Call') and link.sizes[place] == 4 and link_register(item) in (ZERO, RA)}
+            if item.kind in ('Jump', 'Call') and link.sizes[place] == 4 and link_register(item) in (ZERO, RA)
+            and not link.is_fixed(place)}
 
 
 def savings_of(link):
-    """The targets of these jumps and calls, in their order, with how many of each lead there."""
+    """The targets of these jumps and calls, in their order, with how many of each lead there. A chip without Zcmt saves nothing."""
+    if not link.memory.extensions.zcmt:
+        return []
     found = {}
     for register, target in sites_of(link).values():
         found.setdefault(target, [0, 0])[register] += 1

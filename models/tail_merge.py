@@ -26,6 +26,7 @@ from object_items import Code, without_fault
 from object_parts import Rewritten, relocations
 from zcld_tools.elf import ALIGN
 from zcld_tools.files import write
+from zcld_tools.images import STANDARD
 from zcld_tools.instructions import (ZERO, halves_of, is_auipc, is_branch, is_jalr, jal, with_branch, with_jump, words_of)
 
 JUMP = 4
@@ -33,7 +34,7 @@ JUMP = 4
 
 class CodeItem(NamedTuple):
     """An item of a section: where it stands, how many bytes it has, its instruction's word if it is one without a relocation
-    that doesn't lead anywhere, and whether a basic block begins there."""
+    that doesn't lead anywhere, in a section that may change, and whether a basic block begins there."""
 
     offset: int
     size: int
@@ -188,14 +189,15 @@ def shared_code(code):
         items = []
         for offset, size in part.starts.items():
             item = code.item((*place, offset))
-            items.append(CodeItem(offset, size, item.words[0] if item.kind == 'Op' else None, (*place, offset) in blocks))
+            word = item.words[0] if item.kind == 'Op' and place not in code.fixed else None
+            items.append(CodeItem(offset, size, word, (*place, offset) in blocks))
         made[place] = Shared(items)
     return made
 
 
-def merged(files):
-    """The objects of the files with equal tails shared."""
-    code = Code([Object(data) for data in files])
+def merged(files, memory=STANDARD, names=()):
+    """The objects of the files with equal tails shared, in a memory map, but for those in sections of these names."""
+    code = Code([Object(data) for data in files], memory, names)
     shared = shared_code(code)
     return [Merged(data, i, code, shared) for i, data in enumerate(files)]
 

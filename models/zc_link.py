@@ -5,7 +5,7 @@
 writes the image of the files under OUT, and prints the certificate of its jump table; or it says their first fault. It is independent
 of the program, so that both can be compared. A group (groups.py) is a piece of a fixed size, and what is inside
 one has no address. The table (tables.py) is the best one (certificates.py) for the layout without one, and then all sizes are
-settled anew. What is printed of the sizes is in size_report.py.
+settled anew. In sections of given names all stays as in the object. What is printed of the sizes is in size_report.py.
 """
 import os
 import sys
@@ -15,7 +15,7 @@ sys.path.insert(0, os.path.join(os.path.dirname(os.path.abspath(__file__)), os.p
 
 from certificates import Certificate, best, write_certificate
 from groups import FROM_SAVED, TO_SAVED, groups_of, places_outside
-from halfwords import short_form
+from halfwords import has_half, short_form
 from object_data import CODE, aligned
 from object_faults import Object
 from object_items import REACHES, without_fault
@@ -27,15 +27,17 @@ from zcld_tools.images import COMPRESSED, STANDARD
 from zcld_tools.instructions import OPCODE_JAL, halves_of, with_branch, with_high, with_jump, with_low, words_of
 
 # The sizes of what isn't read, and none of padding, whose size is that of its place.
-FIXED = {'Align': [], 'RawPair': [8], 'RawShort': [2]}
+COPIED = {'Align': [], 'RawPair': [8], 'RawShort': [2]}
+# The sizes that a branch or jump of a section that stays as it is would grow to, if it didn't reach.
+LONGER = {'Branch': (4, 8), 'Jump': (4,)}
 
 
 class Zc(Plain):
-    """The link of code without a fault that makes it smaller, with a table."""
+    """The link of code without a fault that makes it smaller, but for sections of these names, with a table."""
 
-    def __init__(self, objects, table=Table(), memory=STANDARD):
+    def __init__(self, objects, table=Table(), memory=STANDARD, names=()):
         self.table, self.groups, self.items, self.sizes, self.rounds = table, {}, {}, {}, 0
-        super().__init__(objects, memory)
+        super().__init__(objects, memory, names)
 
     # forms
 
@@ -45,8 +47,10 @@ class Zc(Plain):
             return [len(self.groups[place].code)]
         if place in self.table.through:
             return [2]
-        if item.kind in FIXED:
-            return FIXED[item.kind]
+        if item.kind in COPIED:
+            return COPIED[item.kind]
+        if self.is_fixed(place):
+            return self.kept_forms(place, item)
         word = item.words[0]
         if item.kind == 'Branch':
             return [2, 4, 8] if short_form(with_branch(word, 0)) is not None else [4, 8]
@@ -55,11 +59,25 @@ class Zc(Plain):
         if item.kind == 'Call':
             return [2, 4] if short_form(self.call_word(item, 0)) is not None else [4]
         if item.kind == 'Op':
-            return [4] if short_form(word) is None else [2]
+            return [self.size_of(word)]
         if item.kind in ('Hi', 'Lo') and item.target[0] != CODE:
-            whole = (with_high if item.kind == 'Hi' else with_low)(word, item.target[1])
-            return [4] if short_form(whole) is None else [2]
+            return [self.size_of((with_high if item.kind == 'Hi' else with_low)(word, item.target[1]))]
         return [4]
+
+    def is_fixed(self, place):
+        """Whether a place is in a section that stays as it is."""
+        return place[:2] in self.code.fixed
+
+    def kept_forms(self, place, item):
+        """The size that an item has in its object, and the longer ones of a branch or jump."""
+        i, k, offset = place
+        own = self.code.parts[i, k].starts[offset]
+        return [own, *(size for size in LONGER.get(item.kind, ()) if size > own)]
+
+    def size_of(self, word):
+        """The size of an instruction that doesn't depend on addresses of code: 2 bytes if the chip has such a halfword."""
+        half = short_form(word)
+        return 4 if half is None or not has_half(self.memory.extensions, half) else 2
 
     def call_word(self, item, distance):
         """A call as one `jal`."""
@@ -71,7 +89,7 @@ class Zc(Plain):
         """The address of each place at the sizes so far, and where the text ends."""
         addresses, at = {}, self.memory.text + self.table.size
         for (i, k), part in self.code.code_parts():
-            at = aligned(at, part.section.align if part.section.align > 4 else 2)
+            at = aligned(at, part.section.align if part.section.align > 4 else 4 if (i, k) in self.code.fixed else 2)
             for place in ((i, k, offset) for offset in part.starts):
                 if place in self.items:
                     addresses[place] = at
@@ -118,7 +136,7 @@ class Zc(Plain):
             return self.groups[place].code
         if place in self.table.through:
             return halves_of(table_half(self.table.through[place]))
-        if item.kind in FIXED:
+        if item.kind in COPIED or self.is_fixed(place) and item.kind not in LONGER:
             return super().item_bytes(place, item)
         size = self.sizes[place]
         if item.kind == 'Branch' and size == 8:
@@ -152,20 +170,20 @@ class Linked(NamedTuple):
         return write_certificate(self.savings, self.certificate)
 
 
-def link_of(files, memory=STANDARD):
+def link_of(files, memory=STANDARD, names=()):
     """The link of files without a fault, with the best table."""
     objects = [Object(data) for data in files]
-    link = Zc(objects, memory=memory)
+    link = Zc(objects, memory=memory, names=names)
     savings = savings_of(link)
     certificate = best(savings)
     if certificate.slots:
-        link = Zc(objects, Table(link, savings, certificate.slots), memory)
+        link = Zc(objects, Table(link, savings, certificate.slots), memory, names)
     return Linked(link, savings, certificate)
 
 
-def zc(files, memory=STANDARD):
+def zc(files, memory=STANDARD, names=()):
     """The image of files without a fault, how many bytes of text it has, and the text of its certificate."""
-    linked = link_of(files, memory)
+    linked = link_of(files, memory, names)
     return linked.link.image(), linked.link.length(), linked.certificate_text()
 
 

@@ -100,12 +100,17 @@ def text_of(lines):
 
 
 def device_texts(group):
-    """texts that name devices, and texts that name none, with the line that is named, by both commands"""
+    """texts that name devices, and texts that name none, the driver's broken at each line among them, with the line that is
+    named, by both commands"""
     folder = group.folder(image=THREE_IMAGE)
     rows = [(text_of(lines) if lines else TITLE, 3, 'exited 3') for lines in TEXTS]
     rows += [(text_of(line), 125, 'bad devices line 2') for line in BAD_LINES]
     rows += [(text_of(lines), 125, f'bad devices line {number}') for lines, number in LATER_LINES]
     rows += [(text, 125, f'bad devices line {number}') for text, number in BAD_TEXTS]
+    lines = read('driver', 'devices').splitlines()
+    for k, line in enumerate(lines):
+        broken = b'\n'.join((*lines[:k], line + b'?', *lines[k + 1:])) + b'\n'
+        rows.append((broken, 125, f'bad devices line {k + 1}'))
     for text, status, line in rows:
         folder.write('devices', text)
         for words in (('run', 'image'), ('trace', 'object')):

@@ -12,13 +12,15 @@ import plain_examples
 from changed_files import HALF, WORD, changed, changed_objects
 from close_relocs import close_relocs
 from made_objects import made_list
+from memory_maps import WORDS
 from object_faults import NAMES
 from object_items import first_cause
 from zcld_tools import TOP, files as disk, programs
 from zcld_tools.elf import ADD32, ALLOC, CALL, COMMON, DATA_FLAGS, GOT_HI20, GROUP, LO12_I, LOCAL, PCREL_LO12_I, PROGBITS
-from zcld_tools.instructions import (A0, CALL_WORDS, EXIT_WORDS, NOP, RA, T0, T1, ZERO, addi, auipc, branch, jal, jalr, lui,
-                                     words_of)
-from zcld_tools.objects import object_with
+from zcld_tools.images import STANDARD
+from zcld_tools.instructions import (A0, CALL_WORDS, EXIT_WORDS, NOP, RA, SHORT_NOP, T0, T1, ZERO, addi, auipc, branch, halves_of,
+                                     jal, jalr, lui, words_of)
+from zcld_tools.objects import compressed_with, object_with
 
 from checks.c_programs import FOLDERS, STATUSES, objects_of
 from checks.made_files import MIB, THREE, long_code, object_of
@@ -26,6 +28,8 @@ from checks.maps import ELSEWHERE
 from checks.symbols import by_hand, listed, monitors, run as run_symbols
 
 SCRIPT = os.path.join(TOP, 'tools/explain')
+# A push of ra, and a load of a byte, which `zc` writes anew.
+PUSH_RA, C_LBU = 0xB842, 0x8188
 
 
 def run(folder, *words, **how):
@@ -223,7 +227,11 @@ def check_printed(group):
                    (1, 'read fault', [f'file     {it}' for it in wanted]))
     group.same('at the limit', run(folder, 'at_limit').out[:18], b'refused 0 1 NotElf')
     for words, wanted in ((('--text', '0001'), '--text 0001: not eight hexadecimal digits in lower case'),
-                          (('--data', '00100001'), '--data 00100001: no multiple of 4,096')):
+                          (('--text', '00010010'), '--text 00010010: no multiple of 4,096'),
+                          (('--data', '00100001'), '--data 00100001: no multiple of 16'),
+                          (('--stack-low', '0ff00008'), '--stack-low 0ff00008: no multiple of 16'),
+                          (('--extensions', 'zcb'), '--extensions zcb: none of the 8 words for extensions'),
+                          (('--fixed', '.a,,.b'), '--fixed .a,,.b: an empty name, or one twice')):
         lines = run(folder, *words, 'object').out.decode().splitlines()
         group.same(f'{words}', lines[:2], ['usage', f'why      {wanted}'])
     for words in ((), ELSEWHERE, ('--out', 'out', '--cert', 'cert')):
@@ -261,6 +269,11 @@ def check_warnings(group, script):
     for what, data, wanted in rows:
         code = script.Code([script.Object(data)])
         group.same(f'warnings: {what}', [(it.place[2], it.what) for it in script.warnings(code)], wanted)
+    pushes = [script.Object(compressed_with(halves_of(SHORT_NOP, PUSH_RA, PUSH_RA, C_LBU) + words_of(*EXIT_WORDS))[0].bytes())]
+    for extensions in WORDS.values():
+        code = script.Code(pushes, STANDARD._replace(extensions=extensions))
+        wanted = [] if extensions.zcmp else [(2, 'Zcmp, which the chip lacks: halfwords that are copied, 2 in this object')]
+        group.same(f'warnings: {extensions}', [(it.place[2], it.what) for it in script.warnings(code)], wanted)
     for program in STATUSES:
         for compiler in FOLDERS:
             files = objects_of(program, compiler)

@@ -300,16 +300,17 @@ def listed_programs(group):
 
 # ---- files, streams and words
 
-# Words that spell no command: no file or two, an option, and other words for it.
+# Words that spell no command: no file or two, an option of others, no map, and other words for it.
 NO_COMMANDS = '''
 list
 list image image
 list --plan plan image
 list --steps 3 image
 list --out out image
-list --text 00010000 image
-list --data 00100000 image
-list --stack 10000000 image
+list --text 00000000 image
+list --data 00200000 --data 00200000 image
+list --stack-low 10000000 image
+list --extensions zcb image
 list -image
 list --image
 list --

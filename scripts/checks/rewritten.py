@@ -19,7 +19,7 @@ def says(group, rewriting, what, files, status, out=b'', err=b''):
     """How a command ends with files, by hand; the model must say the same."""
     folder = group.folder(left0=OLD)
     names = folder.write_list(files)
-    group.same(what, folder.run((rewriting.command, '--out', 'left', *names)), (status, out, err))
+    group.same(what, folder.run((rewriting.command, *rewriting.words, '--out', 'left', *names)), (status, out, err))
     folder.remove()
     compared(group, rewriting, f'{what}, the model', files)
 
@@ -45,7 +45,11 @@ def put_objects(group, command, files):
     group.same('the file is another', folder.read('left0.o') != OLD, True)
     group.ends('no prefix', folder.run((command, *names)), 120, 'usage')
     group.ends('no object', folder.run((command, '--out', 'left')), 120, 'usage')
-    group.ends('a map', folder.run((command, '--out', 'left', '--text', '20000000', *names)), 120, 'usage')
+    group.ends('no map', folder.run((command, '--out', 'left', '--text', '20000000', *names)), 120, 'usage')
+    written = folder.read('left0.o')
+    for words in (('--text', '08000000', '--data', '20000000', '--stack', '20600000'), ('--extensions', 'zca')):
+        group.same(f'{words}', folder.run((command, '--out', 'left', *words, *names)).status, 0)
+        group.same(f'{words}: the object', folder.read('left0.o'), written)
 
 
 def shared_names(made, count):

@@ -382,7 +382,8 @@ def shared_outputs(group):
     group.same('standard input and output', folder.run((*WORDS, 'copy'), b'abc'), (0, b'abc', b'exited 0\n'))
 
 
-# Words that spell no command: an option or an object is missing, or given twice; an option of others; no number, or one too large.
+# Words that spell no command: an option or an object is missing, or given twice; an option of others; no map; no number, or one
+# too large.
 NO_COMMANDS = '''
 share
 share object
@@ -393,9 +394,10 @@ share --out out --plan plan --steps 3
 share --out out --out out --plan plan object
 share --out out --plan plan --plan plan object
 share --out out --plan plan --cert cert object
-share --out out --plan plan --text 00010000 object
-share --out out --plan plan --data 00100000 object
-share --out out --plan plan --stack 10000000 object
+share --out out --plan plan --text 00000000 object
+share --out out --plan plan --data 00200000 --data 00200000 object
+share --out out --plan plan --stack-low 10000000 object
+share --out out --plan plan --extensions zcb object
 share --out out --plan plan --steps x object
 share --out out --plan plan --steps -1 object
 share --out out --plan plan --steps +1 object

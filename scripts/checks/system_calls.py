@@ -43,7 +43,7 @@ def faults_of_puts(group, run):
     calls = strace.calls_of(run.words, group.folder(**dict.fromkeys(run.files, OLD)), *run.begins)
     renames = [i for i, call in enumerate(calls) if call.name == 'rename']
     group.same(f'{what}: files that are renamed', len(renames), len(run.files))
-    group.same(f'{what}: files and folders that are synced', [call.name for call in calls].count('fsync'), 2 * len(run.files))
+    group.same(f'{what}: files that are synced', [call.name for call in calls].count('fsync'), len(run.files))
     asks = [i for i, call in enumerate(calls) if call.name == 'statx' and f'"{first}"' in call.words][0]
     prints = [i for i, call in enumerate(calls) if call.name == 'write' and call.words.startswith('1, ')]
     group.same(f'{what}: its text is written once, after the files', len(prints) == 1 and prints[0] > renames[-1], True)

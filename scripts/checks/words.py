@@ -13,7 +13,8 @@ FILES = {'x.o': THREE, 'y.o': OTHER, 'zc': THREE, 'help': THREE, '-': THREE, '-x
 # none of this name, and words that ask for help or a version; options before the command; an option or a file is missing; a value
 # that begins with `-`; an option twice, or not of this name; help after a command's name; the two files that are written are one;
 # no number, or one too large or too long; positional words too many or too few; and addresses of no form, or that give no map,
-# and a command that takes none, or no devices.
+# and a command that takes none, or no devices; and names of sections of which one is empty or is there twice, or of which a command
+# takes none.
 NO_COMMANDS = '''\
 frob
 help
@@ -77,13 +78,43 @@ zc --data --out a --cert c x.o
 run --stack 1 i
 run --stack=00001000 i
 trace --text 08000000 --data 080e0000 x.o
+run --extensions zcb i
+run --extensions= i
+run --extensions i
+run --extension zca i
+run --stack-low 10000000 i
+run --stacklow 0ff00000 i
+gc --text 00010000 --text 00010000 --out a x.o
+merge --extensions zca_zcmp_zcb --out a x.o
+share --stack-low 000ffff0 --out a --plan p x.o
+list --data 00100008 i
 make --text 00010000 5 0
+make --extensions zca 5 0
 check --stack 10000000 c
+check --stack-low 0ff00000 c
 plain --devices v --out a x.o
 zc --devices v --out a --cert c x.o
 share --devices v --out a --plan p x.o
 list --devices v i
-make --devices v 5 0'''.split('\n')
+make --devices v 5 0
+plain --fixed= --out a x.o
+plain --fixed  --out a x.o
+plain --fixed --out a x.o
+plain --out a x.o --fixed
+zc --fixed .text,.text --out a --cert c x.o
+zc --fixed .text --fixed .data --out a --cert c x.o
+zc --fixed .text, --out a --cert c x.o
+run --fixed ,.text i
+run --fixed .a,,.b i
+trace --fixed=, x.o
+trace --fix .text x.o
+gc --fixed .a,.b,.a --out a x.o
+merge --fixed -a --out a x.o
+share --fixed .text,.data, --out a --plan p x.o
+list --fixed= i
+list --fixed .a --fixed .a i
+make --fixed .text 5 0
+check --fixed .text c'''.split('\n')
 
 
 def plain(out, *names):
@@ -100,7 +131,7 @@ LINKED, ONE_FILE = (0, '', None, {'a': THREE_IMAGE, 'c': CERTIFICATE}), (123, 'w
 
 # Lists that spell a command, with the status, the line, the output if it is always the same, and the files. In this order: a value
 # in the option's own word; values and files that are `-`, or nothing, or have a `=`; words after `--`; options between and after
-# files; names of commands as files; and numbers.
+# files; names of commands as files; numbers; and names of sections, which may have any other byte.
 COMMANDS = (
     ('plain --out a x.o', plain('a', 'x.o')), ('plain --out=a x.o', plain('a', 'x.o')), ('plain --out= x.o', NO_OUT),
     ('plain --out=-a x.o', plain('-a', 'x.o')), ('plain --out=-- x.o', plain('--', 'x.o')),
@@ -119,8 +150,15 @@ COMMANDS = (
     ('trace x.o --devices v', EXITED), ('run --devices= i', NO_OBJECT), ('trace --devices v -- -x.o', EXITED),
     ('trace --steps 3 - --devices v', EXITED),
     ('plain --text=00010000 --out a x.o', plain('a', 'x.o')), ('zc --out a x.o --stack 10000000 --cert c', LINKED),
+    ('zc --extensions zca_zcb --out a x.o --cert c', LINKED), ('run --extensions=zca i', EXITED),
+    ('run --stack-low 0ff00010 i --extensions zca_zcb_zcmp_zcmt', EXITED), ('trace --stack=00200000 x.o', EXITED),
+    ('plain --stack 20001000 --stack-low=20000000 --out a x.o', plain('a', 'x.o')), ('list --text 00001000 i', (0, '', None, {})),
+    ('list --text=00020000 --data 00110000 i', (125, 'bad image 3', b'', {})),
     ('run --text 00001000 i', EXITED), ('run --text=00020000 --data 00110000 i', (125, 'bad image 3', b'', {})),
     ('run --steps=2 i', (127, 'spent', b'', {})), ('make 5 0', (0, '', None, {})),
+    ('plain --fixed .text --out a x.o', plain('a', 'x.o')), ('plain x.o --out a --fixed=-a,=,--,. y.o', plain('a', 'x.o', 'y.o')),
+    ('zc --fixed .other --out a x.o --cert c', LINKED), ('zc --out a x.o --cert c --fixed=.text.,.tex', LINKED),
+    ('run --fixed .text i', EXITED), ('trace x.o --fixed .text,.data', EXITED), ('list i --fixed a', (0, '', None, {})),
 )
 
 

@@ -6,18 +6,31 @@ from zcld_tools.elf import (CODE_FLAGS, DATA_FLAGS, EXECUTABLE, EXECUTE, HEADER,
                             READABLE, STRTAB, WRITABLE, Part, file_header, laid, section_headers)
 
 
+class Extensions(NamedTuple):
+    """Which extensions a chip has beside Zca."""
+
+    zcb: bool
+    zcmp: bool
+    zcmt: bool
+
+
+EVERY = Extensions(True, True, True)
+
+
 class MemoryMap(NamedTuple):
-    """Where a program's memory lies: where its code and its data begin, and between which addresses its stack lies."""
+    """Where a program's memory lies: where its code and its data begin, and between which addresses its stack lies. And the
+    extensions of the chip."""
 
     text: int
     data: int
     stack_low: int
     stack_high: int
+    extensions: Extensions = EVERY
 
 
 # The map that the program uses if it is told no other.
 STANDARD = MemoryMap(0x10000, 0x100000, 0x0FF00000, 0x10000000)
-TEXT_AT, DATA_AT, STACK_LOW, STACK_HIGH = STANDARD
+TEXT_AT, DATA_AT, STACK_LOW, STACK_HIGH = STANDARD[:4]
 # The name of each section of an image, and the flag of an image that may have short forms.
 NAMES = b'\0.text\0.data\0.bss\0.zcld.places\0.shstrtab\0'
 PLACES, COMPRESSED = b'.zcld.places', 1

@@ -11,7 +11,7 @@ from object_data import READ_ONLY, class_of
 from object_faults import Object, Section
 from zcld_tools.elf import (COMMON, DATA_TYPE, EXECUTABLE, FILE_TYPE, GLOBAL, HEADER, LOCAL, MAGIC, NOBITS, NO_TYPE, RISCV,
                             SECTION_HEADER, SECTION_TYPE, WEAK)
-from zcld_tools.images import PLACES, STANDARD
+from zcld_tools.images import PLACES, STANDARD, MemoryMap
 from zcld_tools.lines import Bad, read
 
 # RISC-V ELF psABI, "Mapping Symbol"
@@ -32,7 +32,7 @@ def is_image(data):
 
 class Image:
     """An image's list of places, as the address of each, whether it has symbols, the sizes of its sections, and the map of its
-    code and data. The map's stack is the standard one, since no symbol that is shown lies there."""
+    code and data. An image doesn't say where the stack lies: in this map it lies above all memory, so that any data fit."""
 
     def __init__(self, path):
         data = read(path)
@@ -50,7 +50,8 @@ class Image:
         self.has_symbols = bool(image.tables)
         self.sizes = {image.name_of(section): section.size for section in image.sections}
         starts = {image.name_of(section): section.address for section in image.sections}
-        self.memory = STANDARD._replace(text=starts.get(b'.text', STANDARD.text), data=starts.get(b'.data', STANDARD.data))
+        text, data = starts.get(b'.text', STANDARD.text), starts.get(b'.data', STANDARD.data)
+        self.memory = MemoryMap(text, data, stack_low=1 << 32, stack_high=1 << 32)
 
     def is_of(self, code):
         """Whether it has the places of this code, all or those outside groups, and as much data."""
