@@ -2,27 +2,37 @@
 
 A third of the lists are in a memory map by chance (memory_maps.py), and some sections of code are fixed by chance. Of a list that
 has a fault the command must name the first, and where the result has one, the first of that; then no file is there. Otherwise the
-objects, byte for byte, and the lines must be the model's, and the image that `zc` makes of the objects must write what `trace` of
-the given ones does, and end in the same way, unless that is stuck.
+objects, byte for byte, and the lines must be the model's. `trace` of these and the images that `zc` makes of them and of the given
+ones must write what `trace` of the given ones does, and end in the same way, unless that is stuck or doesn't end.
 """
 import argparse
 import collections
 import random
+import subprocess
 import sys
 import tempfile
 from typing import Callable, NamedTuple
 
-from checks.harness import LINK, Folder
+from checks.harness import Folder
 from object_faults import NAMES, Object, gather_cause, told
 from memory_maps import made_map, made_names, some_words_of_map, words_of_names
 from object_items import first_fault
 from zcld_tools import programs
 from zcld_tools.files import files_in
 from zcld_tools.images import STANDARD, MemoryMap
+from zcld_tools.programs import Ended
 
-STEPS = 3000
+# The steps of a list by chance, and of a program that is known.
+STEPS, STEPS_OF_KNOWN = 3000, 1_000_000
 # As many commits as an image may need for a step.
 COMMITS_OF_STEP = 64
+
+
+class Known(NamedTuple):
+    """A program that is known: its input, and how it ends."""
+
+    given: bytes
+    ended: Ended
 
 
 class Rewriting(NamedTuple):
@@ -55,14 +65,21 @@ class Rewriting(NamedTuple):
             return (119, b'', line.encode()), {}, 'broken'
         return (0, self.lines(made), b''), {f'left{i}.o': data for i, data in enumerate(result)}, 'alike'
 
-    def runs(self, folder, names, result):
-        """How the objects end, and the image of the result."""
-        given = folder.run(('trace', *self.words, '--steps', str(STEPS), *names))
-        folder.run((*LINK, *self.words, *result))
-        return given, folder.run(('run', *self.words, '--steps', str(COMMITS_OF_STEP * self.steps * STEPS + 3), 'out'))
+    def runs(self, folder, names, result, known):
+        """How the given objects end, and what must end so: their image, the results, and the image of these."""
+        given, steps = (known.given, STEPS_OF_KNOWN) if known else (subprocess.DEVNULL, STEPS)
 
-    def look(self, folder, files, counts):
-        """Says what differs of a list, if anything does."""
+        def traced(objects, times):
+            return folder.run(('trace', *self.words, '--steps', str(times * steps), *objects), given)
+
+        def ran(out, objects, times):
+            folder.run(('zc', '--out', out, '--cert', 'cert', *self.words, *objects))
+            return folder.run(('run', *self.words, '--steps', str(COMMITS_OF_STEP * times * steps + 3), out), given)
+        return traced(names, 1), {'image': ran('given', names, 1), 'results': traced(result, self.steps),
+                                  'image of the results': ran('out', result, self.steps)}
+
+    def look(self, folder, files, counts, known=None):
+        """Says what differs of a list, if anything does. It must be a program's that is known, if one is."""
         names = folder.write_list(files)
         ended, stands = self.called(folder, names)
         wanted, objects, what = self.expected(files)
@@ -71,12 +88,15 @@ class Rewriting(NamedTuple):
             return f'{ended} in place of {wanted}'
         if stands != objects:
             return f'other objects: {[name for name in objects if stands.get(name) != objects[name]]} of {sorted(stands)}'
-        if objects:
-            given, ran = self.runs(folder, names, objects)
-            if given.status not in (126, 127):
-                counts['runs alike'] += 1
-                return None if given == ran else f'{given} became {ran}'
-        return None
+        if not objects:
+            return what if known else None
+        given, others = self.runs(folder, names, objects, known)
+        if known and given != known.ended:
+            return f'trace: {given} in place of {known.ended}'
+        if given.status in (126, 127):
+            return None
+        counts['runs alike'] += 1
+        return '; '.join(f'{name}: {given} became {ended}' for name, ended in others.items() if ended != given) or None
 
     def compare(self, about, made_list):
         """Compares random lists, and prints counts. It stops at the first difference with status 1."""

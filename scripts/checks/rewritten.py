@@ -1,34 +1,47 @@
 """What commands that write objects again do with lists of objects, against their models and by hand."""
 import random
 
+from rewritten_objects import Known
 from zcld_tools.elf import ABS, LOCAL
+from zcld_tools.programs import Ended
 
-from checks.c_programs import FOLDERS, STATUSES, objects_of
+from checks.c_programs import FOLDERS, STATUSES, input_of, objects_of, read
 from checks.made_files import MIB, OLD
 
 
-def compared(group, rewriting, what, files):
-    """What a command does with files against the model, and the run of what it writes."""
+def exits(status, out=b'', given=b''):
+    """A program that writes this of its input, and exits with this status."""
+    return Known(given, Ended(status, out, b'exited %d\n' % status))
+
+
+def known_of(program):
+    """What is known of a program below examples/."""
+    return exits(STATUSES[program], read(program, 'output'), input_of(program))
+
+
+def compared(group, rewriting, what, files, known=None):
+    """What a command does with files against the model, and the runs of what it writes, which end as the given files do and as is
+    known, if that is."""
     folder = group.folder()
     counts = dict.fromkeys(('refused', 'broken', 'alike', 'runs alike'), 0)
-    group.same(what, rewriting.look(folder, files, counts), None)
+    group.same(what, rewriting.look(folder, files, counts, known), None)
     folder.remove()
 
 
-def says(group, rewriting, what, files, status, out=b'', err=b''):
+def says(group, rewriting, what, files, status, out=b'', err=b'', known=None):
     """How a command ends with files, by hand; the model must say the same."""
     folder = group.folder(left0=OLD)
     names = folder.write_list(files)
     group.same(what, folder.run((rewriting.command, *rewriting.words, '--out', 'left', *names)), (status, out, err))
     folder.remove()
-    compared(group, rewriting, f'{what}, the model', files)
+    compared(group, rewriting, f'{what}, the model', files, known)
 
 
 def compared_programs(group, rewriting, made_list):
-    """The same of programs that C compilers made, and of random lists."""
+    """The same of programs that C compilers made, with their input, output and status, and of random lists."""
     for program in STATUSES:
         for folder in FOLDERS:
-            compared(group, rewriting, f'{program} by {folder}', objects_of(program, folder))
+            compared(group, rewriting, f'{program} by {folder}', objects_of(program, folder), known_of(program))
     for seed in range(150):
         source = random.Random(f'{rewriting.command} {seed}')
         compared(group, rewriting, f'list {seed}', made_list(source, source.random() < 0.15))
