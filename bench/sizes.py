@@ -17,8 +17,8 @@ put constants after the text, and in the columns of far constants where `zcld` p
 called `__global_pointer$`, so that it doesn't reach data by gp, and all data, constants too, lie where `zcld` puts them.
 
 A figure is the bytes of all sections of code. What isn't installed is left out, and what a linker says of objects that it
-doesn't take is printed. Each image that `zcld` makes is run, and must do what its objects do. If both come to an instruction
-that their machines don't know, as of picolibc for RV32IMAC, or `trace` is stuck in `library`, that is printed.
+doesn't take is printed. Each image that `zcld` makes is run, and must do what the compiler's objects do. If both come to an
+instruction that their machines don't know, as of picolibc for RV32IMAC, or `trace` is stuck in `library`, that is printed.
 """
 import os
 import subprocess
@@ -161,7 +161,7 @@ class Links:
     """Links of the objects of one program and one compiler."""
 
     def __init__(self, program, zcld, folder):
-        self.program, self.zcld, self.folder, self.said = program, zcld, folder, []
+        self.program, self.zcld, self.folder, self.said, self.traced = program, zcld, folder, [], {}
 
     def path(self, name):
         return os.path.join(self.folder, name)
@@ -202,12 +202,22 @@ class Links:
         told([self.zcld, 'merge', '--out', self.path('merged'), *objects])
         return [self.path(f'merged{k}.o') for k in range(len(objects))]
 
-    def by_zcld(self, link, paths, *options):
-        """The text that `plain` or `zc` makes of objects with options of a chip, whose image does what they do."""
+    def ended(self, command, *files):
+        """How a run of these files ends."""
+        return programs.run([self.zcld, command, '--steps', '1000000000', *files], self.program.given)
+
+    def trace(self, *given):
+        """How the compiler's objects end, which are traced once."""
+        if given not in self.traced:
+            self.traced[given] = self.ended('trace', *given)
+        return self.traced[given]
+
+    def by_zcld(self, link, given, paths, *options):
+        """The text that `plain` or `zc` makes of objects with options of a chip, whose image does what those do that the compiler
+        gave."""
         out = self.path(link)
         told([self.zcld, link, *options, '--out', out, *(['--cert', self.path('cert')] if link == 'zc' else []), *paths])
-        ran, traced = (programs.run([self.zcld, words, '--steps', '1000000000', *files], self.program.given)
-                       for words, files in (('run', [out]), ('trace', paths)))
+        ran, traced = self.ended('run', out), self.trace(*given)
         if ran != traced or not ran.err.startswith(b'exited '):
             ended = f'{self.program.name}, {link}: run ends with {ran}, and trace with {traced}'
             is_known = traced.err.startswith(b'stuck ') and traced.err.split()[-1] in KNOWN_CAUSES and ran.out.startswith(traced.out)
@@ -224,10 +234,10 @@ class Links:
         if linker == WITHOUT_GP:
             return self.without_gp(objects, *words)
         if linker not in LINKERS:
-            before = {OWN: self.collected, SHARED: self.merged, GC: self.gathered}
+            before, given = {OWN: self.collected, SHARED: self.merged, GC: self.gathered}, objects
             for word in filter(before.get, words):
                 objects = before[word](objects)
-            return self.by_zcld(linker, objects, *(word for word in words if word not in before))
+            return self.by_zcld(linker, given, objects, *(word for word in words if word not in before))
         return self.other(linker, objects, *words)
 
 
