@@ -11,6 +11,8 @@ COMPILERS = ('gcc', 'clang')
 # The folders of a program's objects: of each compiler, of each with compressed code, and of Clang for Zcmp.
 ZCMP = 'clang-zcmp'
 FOLDERS = (*COMPILERS, 'gcc-compressed', 'clang-compressed', ZCMP)
+# Those of the monitor with all functions of a file in one section.
+ONE_SECTION = ('gcc-one', 'clang-compressed-one')
 STATUSES = {'monitor': 2, 'events': 0, 'numbers': 42}
 
 

@@ -1,12 +1,15 @@
 """Objects in which equal ends of functions stand once: what `merge` writes, prints and refuses, against the model and by hand."""
 from merged_objects import MERGING, some_list
 from object_faults import Object
-from zcld_tools.elf import (ALIGN, BRANCH, CALL, DATA_FLAGS, FUNCTION_TYPE, LO12_I, LOCAL, PROGBITS, RELAX, RVC, R_32, WEAK)
-from zcld_tools.instructions import (A0, A1, CALL_WORDS, EXIT_WORDS, NOP, RA, RET, T0, ZERO, addi, auipc, branch, immediate, jal,
-                                     jalr, words_of)
+from object_parts import relocations
+from zcld_tools.elf import (ALIGN, BRANCH, CALL, DATA_FLAGS, FUNCTION_TYPE, LO12_I, LOCAL, PCREL_HI20, PCREL_LO12_I, PROGBITS,
+                            RELAX, RVC, R_32, WEAK)
+from zcld_tools.instructions import (A0, A1, A7, CALL_WORDS, ECALL, EXIT_CALL, EXIT_WORDS, NOP, RA, RET, T0, ZERO, addi, auipc,
+                                     branch, immediate, jal, jalr, lw, words_of)
 from zcld_tools.objects import Written, object_with
 
 from checks import rewritten
+from checks.c_programs import ONE_SECTION, objects_of
 from checks.made_files import THREE
 
 # What two functions do before their ends, and the words of these.
@@ -15,8 +18,8 @@ ADD, MORE = addi(A0, A0, 5), addi(A0, A0, 7)
 
 
 def started(text, made, symbol=None):
-    """The object's bytes with `_start` behind its code, which calls a symbol and exits."""
-    made.symbol(b'_start', home=text, value=len(text.content))
+    """The object's bytes with `_start` behind its code, which calls a symbol with 3 and exits."""
+    made.symbol(b'_start', home=text, value=text.words(addi(A0, ZERO, 3)))
     if symbol:
         text.reloc(CALL, symbol, 0, CALL_WORDS)
     text.words(*EXIT_WORDS)
@@ -36,6 +39,56 @@ def two(first, second, *, entry=None, symbol=None):
     if symbol:
         made.symbol(b'inside', home=text, **symbol)
     return started(text, made, called)
+
+
+def with_exits():
+    """Two functions whose equal ends begin with an `ecall`, which exits, since `_start` calls the second with that number."""
+    made = Written()
+    text = made.section(b'.text')
+    text.words(XOR, ECALL, ADD, RET)
+    second = made.symbol(b'second', home=text, value=text.words(SHIFT, ECALL, ADD, RET))
+    made.symbol(b'_start', home=text, value=text.words(addi(A0, ZERO, 3), addi(A7, ZERO, EXIT_CALL)))
+    text.reloc(CALL, second, 0, CALL_WORDS)
+    text.words(addi(A0, ZERO, 50), *EXIT_WORDS)
+    return [made.bytes()]
+
+
+def alone():
+    """A section that is an end and the same one again, and nothing else."""
+    made = Written()
+    text = made.section(b'.text.f')
+    text.words(ADD, RET)
+    second = made.symbol(b'second', home=text, value=text.words(ADD, RET))
+    return started(made.section(b'.text'), made, second)
+
+
+def address_behind():
+    """Behind an equal end `_start` loads 40 from data, by an address from pc, and calls the second function."""
+    made = Written()
+    text, data = made.section(b'.text'), made.section(b'.data', PROGBITS, DATA_FLAGS)
+    data.words(0, 40)
+    numbers = made.symbol(b'numbers', home=data)
+    text.words(XOR, ADD, MORE, RET)
+    second = made.symbol(b'second', home=text, value=text.words(SHIFT, ADD, MORE, RET))
+    start, high = made.symbol(b'_start', home=text), made.symbol(b'.Lhigh', home=text, bind=LOCAL)
+    start.value = high.value = text.reloc(PCREL_HI20, numbers, 4, (auipc(A1),))
+    text.reloc(PCREL_LO12_I, high, 0, (lw(A0, A1),))
+    text.reloc(CALL, second, 0, CALL_WORDS)
+    text.words(*EXIT_WORDS)
+    return [made.bytes()]
+
+
+def padding_behind():
+    """A padding to a multiple of 16 between an equal end and `_start`."""
+    made = Written()
+    text = made.section(b'.text', align=16)
+    text.words(XOR, ADD, MORE, RET)
+    second = made.symbol(b'second', home=text, value=text.words(SHIFT, ADD, MORE, RET))
+    text.reloc(ALIGN, None, 12, [NOP] * 3)
+    made.symbol(b'_start', home=text, value=text.words(addi(A0, ZERO, 4)))
+    text.reloc(CALL, second, 0, CALL_WORDS)
+    text.words(*EXIT_WORDS)
+    return [made.bytes()]
 
 
 def with_branch():
@@ -140,11 +193,6 @@ def padding_with_symbol():
     return [made.bytes()]
 
 
-def code_of(data):
-    """The bytes of the first section."""
-    return Object(data).sections[1].content
-
-
 def says(group, what, files, *ended, **how):
     """How `merge` of files ends."""
     rewritten.says(group, MERGING, what, files, *ended, **how)
@@ -154,10 +202,14 @@ def merged_by_hand(group):
     """small lists with equal ends of functions, with the lines that say what was removed, and what can't be written"""
     counts, none = 'tails {}\nbytes {}\n', (0, b'tails 0\nbytes 0\n')
 
-    def removes(what, files, tails, size):
-        says(group, what, files, 0, counts.format(tails, size).encode())
-    removes('two ends', two((XOR, ADD, RET), (SHIFT, ADD, RET)), 1, 4)
+    def removes(what, files, tails, size, known=None):
+        says(group, what, files, 0, counts.format(tails, size).encode(), known=known)
+    removes('two ends', two((XOR, ADD, RET), (SHIFT, ADD, RET)), 1, 4, rewritten.exits(11))
     removes('no item before them', two((ADD, RET), (ADD, RET)), 1, 4)
+    removes('nothing but them', alone(), 1, 4, rewritten.exits(8))
+    removes('ends that begin with an exit', with_exits(), 1, 8, rewritten.exits(6))
+    removes('an address behind them', address_behind(), 1, 8, rewritten.exits(92))
+    removes('a padding behind them', padding_behind(), 1, 8, rewritten.exits(20))
     says(group, 'the end alone', two((XOR, RET), (SHIFT, RET)), *none)
     says(group, 'a branch to the end', with_branch(), *none)
     says(group, 'in two sections', apart(), *none)
@@ -190,16 +242,39 @@ def merged_by_hand(group):
 
 
 def written_by_hand(group):
-    """The code that `merge` writes of two functions."""
+    """What `merge` writes of a section: its words, the relocations' offsets, types and addends, and the symbols' values."""
+    leave = *CALL_WORDS, *EXIT_WORDS
+    written(group, 'a jump to the first', two((XOR, ADD, RET), (SHIFT, ADD, RET)),
+            (XOR, ADD, RET, SHIFT, 0xFF5FF06F, addi(A0, ZERO, 3), *leave), [(24, CALL, 0)], {b'second': 12, b'_start': 20})
+    written(group, 'nothing but a jump to it', alone(), (ADD, RET, 0xFF9FF06F), [], {b'second': 8, b'_start': 0})
+    written(group, 'a jump to the exit', with_exits(),
+            (XOR, ECALL, ADD, RET, SHIFT, 0xFF1FF06F, addi(A0, ZERO, 3), addi(A7, ZERO, 93), *CALL_WORDS, addi(A0, ZERO, 50),
+             *EXIT_WORDS), [(32, CALL, 0)], {b'second': 16, b'_start': 24})
+    written(group, 'an address', address_behind(),
+            (XOR, ADD, MORE, RET, SHIFT, 0xFF1FF06F, auipc(A1), lw(A0, A1), *leave),
+            [(24, PCREL_HI20, 4), (28, PCREL_LO12_I, 0), (32, CALL, 0)],
+            {b'second': 16, b'_start': 24, b'.Lhigh': 24, b'numbers': 0})
+    written(group, 'a padding', padding_behind(),
+            (XOR, ADD, MORE, RET, SHIFT, 0xFF1FF06F, *[NOP] * 3, addi(A0, ZERO, 4), *leave), [(24, ALIGN, 12), (40, CALL, 0)],
+            {b'second': 16, b'_start': 36})
+
+
+def written(group, what, files, words, entries, values):
+    """The same of one object."""
     folder = group.folder()
-    folder.run(('merge', '--out', 'left', *folder.write_list(two((XOR, ADD, RET), (SHIFT, ADD, RET)))))
-    wanted = words_of(XOR, ADD, RET, SHIFT, 0xFF5FF06F, *CALL_WORDS, *EXIT_WORDS)
-    group.same('a jump to the first', code_of(folder.read('left0.o')), wanted)
+    folder.run(('merge', '--out', 'left', *folder.write_list(files)))
+    left = Object(folder.read('left0.o'))
+    group.same(what, left.sections[1].content, words_of(*words))
+    group.same(f'{what}: relocations', [(at, kind, addend) for at, _, kind, addend in relocations(left, 1)], entries)
+    group.same(f'{what}: symbols', {name: value for _, name, value, *_ in left.named_symbols()}, values)
+    folder.remove()
 
 
 def merged_programs(group):
     """programs that C compilers made, and random lists, with equal ends of functions shared: the same output and status"""
     rewritten.compared_programs(group, MERGING, some_list)
+    for folder, line in zip(ONE_SECTION, (b'tails 4\nbytes 24\n', b'tails 3\nbytes 12\n')):
+        says(group, f'monitor by {folder}', objects_of('monitor', folder), 0, line, known=rewritten.known_of('monitor'))
 
 
 def merged_files(group):
