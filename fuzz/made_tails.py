@@ -1,17 +1,17 @@
 """Makes lists of objects by chance whose functions end alike.
 
 Most lists are programs that run to their end: `_start` calls functions, whose last instructions are those of a few tails, or nearly.
-What keeps a tail from being removed, or only a part of it, comes in now and then: a place inside it that a branch, a word of data or
-a symbol names, a relocation, a padding, or an instruction that doesn't go on. Functions lie in one section or in several, and none,
-some or all objects are compressed (compressed_code.py). An odd list has something in it that is most likely a fault, or a run is
-stuck on it.
+Some tails begin with an `ecall`, which writes a word or exits. What keeps a tail from being removed, or only a part of it, comes in
+now and then: a place inside it that a branch, a word of data or a symbol names, a relocation, a padding, or an instruction that
+doesn't go on. Functions lie in one section or in several, and none, some or all objects are compressed (compressed_code.py). An odd
+list has something in it that is most likely a fault, or a run is stuck on it.
 """
 from compressed_code import compress_some
 from made_objects import make_odd
 from zcld_tools.elf import (ALIGN, BRANCH, CALL, DATA_FLAGS, FUNCTION_TYPE, GLOBAL, HI20, JAL, LOCAL, LO12_I, NO_TYPE, PCREL_HI20,
                             PCREL_LO12_I, PROGBITS, RELAX, R_32, WEAK)
-from zcld_tools.instructions import (A0, A1, A2, A5, A7, CALL_WORDS, ECALL, EXIT_WORDS, NOP, RA, RET, S0, SP, T0, T1, WRITE_CALL,
-                                     ZERO, add, addi, auipc, branch, immediate, jal, jalr, load, lui, lw, sw)
+from zcld_tools.instructions import (A0, A1, A2, A5, A7, CALL_WORDS, ECALL, EXIT_CALL, EXIT_WORDS, NOP, RA, RET, S0, SP, T0, T1,
+                                     WRITE_CALL, ZERO, add, addi, auipc, branch, immediate, jal, jalr, load, lui, lw, sw)
 from zcld_tools.objects import Written
 
 SUM = A5
@@ -19,6 +19,8 @@ SUM = A5
 ENTER, LEAVE = (addi(SP, SP, -16), sw(RA, SP, 12), sw(S0, SP, 8)), (lw(S0, SP, 8), lw(RA, SP, 12), addi(SP, SP, 16), RET)
 WORK = (addi(SUM, SUM, 1), addi(SUM, SUM, 5), addi(SUM, SUM, 999), immediate(4, SUM, SUM, 5), immediate(1, SUM, SUM, 1),
         immediate(7, SUM, SUM, -2), add(SUM, SUM, S0), add(S0, SUM, ZERO), addi(S0, SUM), lui(S0, 1), lui(S0, 0x12345))
+# What an `ecall` does with what `_start` sets: writes to one of both streams, or exits.
+CALLS = addi(A0, ZERO, 1), addi(A0, ZERO, 2), addi(A7, ZERO, EXIT_CALL)
 
 
 class Program:
@@ -28,6 +30,8 @@ class Program:
         self.rng = rng
         self.objects = [Written() for _ in range(rng.choice((1, 1, 2)))]
         self.tails = [(*rng.choices(WORK, k=rng.randrange(5)), *LEAVE) for _ in range(rng.choice((1, 2, 3)))]
+        if rng.random() < 0.5:
+            self.tails.append((ECALL, *self.tails[0]))
         self.count = rng.choice((2, 3, 5, 8))
         self.sections, self.known, self.inside = {}, {}, []
         self.names = 0
@@ -107,7 +111,9 @@ class Function:
     def tail(self):
         """A tail, of which some words may be others, and in which something may come between."""
         words, rng = list(self.program.rng.choice(self.program.tails)), self.rng
-        if rng.random() < 0.3:
+        if words[0] == ECALL:
+            self.section.words(rng.choice((*CALLS[:2] * 3, CALLS[2])))
+        elif rng.random() < 0.3:
             words[:rng.randrange(len(words) - len(LEAVE) + 1)] = rng.choices(WORK, k=rng.randrange(3))
         start, at = self.at(), rng.randrange(len(words)) if rng.random() < 0.5 else None
         for k, word in enumerate(words):
@@ -167,15 +173,15 @@ class Function:
 
 
 def add_start(program):
-    """`_start`, which calls some functions, writes the sum and exits."""
+    """`_start`, which sets what a write needs, calls some functions, writes the sum and exits."""
     read, rng = program.objects[0], program.rng
     section = program.section_of(read)
     read.symbol(b'_start', home=section, value=len(section.content))
-    section.words(addi(SUM, ZERO, rng.randrange(2048)), addi(S0, ZERO, rng.randrange(2048)))
+    section.words(addi(SUM, ZERO, rng.randrange(2048)), addi(S0, ZERO, rng.randrange(2048)), addi(SP, SP, -16), sw(S0, SP),
+                  addi(A1, SP), addi(A2, ZERO, 4), addi(A7, ZERO, WRITE_CALL))
     for _ in range(rng.choice((1, 2, 4))):
         section.reloc(CALL, program.named(read, b'f%d' % rng.randrange(program.count)), 0, CALL_WORDS)
-    section.words(addi(SP, SP, -16), sw(SUM, SP), addi(A0, ZERO, 1), addi(A1, SP), addi(A2, ZERO, 4), addi(A7, ZERO, WRITE_CALL),
-                  ECALL, load(4, A0, SP), *EXIT_WORDS)
+    section.words(sw(SUM, SP), addi(A0, ZERO, 1), addi(A7, ZERO, WRITE_CALL), ECALL, load(4, A0, SP), *EXIT_WORDS)
 
 
 def add_words(program):
