@@ -24,11 +24,11 @@ sys.path[:0] = (os.path.join(os.path.dirname(os.path.abspath(__file__)), os.pard
 
 from costly_objects import WITHIN, write_list
 from zcld_tools import programs
-from zcld_tools.elf import (ALIGN, DATA_FLAGS, EXECUTABLE, EXECUTE, HEADER, LOCAL, NOBITS, PCREL_HI20, PCREL_LO12_I, PROGRAM_HEADER,
-                            READABLE, RELAX, RVC, RVC_BRANCH, RVC_JUMP, R_32, WRITABLE, Part, file_header)
+from zcld_tools.elf import (ABS, ALIGN, CALL, DATA_FLAGS, EXECUTABLE, EXECUTE, HEADER, LOCAL, NOBITS, PCREL_HI20, PCREL_LO12_I,
+                            PROGRAM_HEADER, READABLE, RELAX, RVC, RVC_BRANCH, RVC_JUMP, R_32, WRITABLE, Part, file_header)
 from zcld_tools.files import read, write
 from zcld_tools.images import DATA_AT, STACK_HIGH, TEXT_AT, image_bytes, load_header
-from zcld_tools.instructions import A0, EXIT_WORDS, NOP, RET, SHORT_NOP, ZERO, addi, auipc, halves_of, jalr, words_of
+from zcld_tools.instructions import A0, CALL_WORDS, EXIT_WORDS, NOP, RET, SHORT_NOP, ZERO, addi, auipc, halves_of, jalr, words_of
 from zcld_tools.objects import Reloc, Written, object_with
 from zcld_tools.programs import Failed
 
@@ -176,6 +176,53 @@ def long_end_twice():
 ENDS = {'65,000 equal ends': lambda: ends(*[(RET,)] * 65_000), '65,000 ends that differ': unequal_ends,
         '650 ends of a hundred instructions': long_ends, 'an end of 32,000 instructions, twice': long_end_twice}
 
+
+# ---- sections and names
+
+
+def many_sections_and_symbols():
+    """256 objects, which have 15,616 sections of code, 600,000 symbols and a million words of data together: calls and words name
+    symbols by chance. They differ in their names alone, of which each has some of the next one's."""
+    rng, made, words = random.Random(1), Written(), 4050
+    texts = [made.section(b'.text') for _ in range(61)]
+    made.symbol(b'own:go', texts[0])
+    symbols = [made.symbol(b'own:%x' % k, rng.choice(texts)) for k in range(2142)] + [made.symbol(b'its:%x' % k) for k in range(200)]
+    texts[0].words(*EXIT_WORDS)
+    for text in texts[1:]:
+        text.reloc(CALL, rng.choice(symbols), 0, CALL_WORDS)
+        text.words(RET)
+    data = made.section(b'.data', flags=DATA_FLAGS)
+    data.content = bytearray(4 * words)
+    data.relocs = [Reloc(4 * at, R_32, rng.choice(symbols), 0) for at in rng.sample(range(words), words)]
+    one = made.bytes()
+    files = [one.replace(b'own:', b'%03x:' % k).replace(b'its:', b'%03x:' % ((k + 1) % 256)) for k in range(256)]
+    return [files[0].replace(b'000:go', b'_start'), *files[1:]]
+
+
+def same_names(made, count, length):
+    """An object to which this many local symbols are added, whose names are the same bytes."""
+    at = made.symbol_names.add(b'x' * length)
+    for k in range(count):
+        made.symbol(at, ABS, k, LOCAL)
+    return made.bytes()
+
+
+def names_of_one_object():
+    """130,000 symbols that share a name of two million bytes."""
+    return [same_names(object_with(*WORDS)[0], 130_000, 2_000_000)]
+
+
+def names_of_each_object():
+    """256 objects, in each of which 4,096 symbols share a name of 1,000 bytes: so each result would be within the limit."""
+    return [same_names(object_with(*WORDS)[0], 4095, 1000), *[same_names(Written(), 4096, 1000)] * 255]
+
+
+# What `gc` and `merge` write again, with how they end if not as usual: names that are shared in the given objects stand each by
+# itself in the results.
+AGAIN = {'15,616 sections and 600,000 symbols': (many_sections_and_symbols, None),
+         '130,000 symbols with one name': (names_of_one_object, 'broken 0 17 TooLarge'),
+         '256 objects with one name each': (names_of_each_object, 'broken 8 17 TooLarge')}
+
 # ---- shared data
 
 
@@ -321,15 +368,16 @@ class Calls:
         # GNU time gives 128 and a signal's number as the status
         return Call(ended.status, ended.err, f'{float(user) + float(system):.2f} s {int(kib)} KiB' if is_timed else '')
 
-    def say(self, what, words, **how):
-        """Makes a call, and prints what it came to."""
+    def say(self, what, words, broken=None, **how):
+        """Makes a call, and prints what it came to. It must end with this line of `broken`, if one is given, and else without."""
         try:
             ended = self.call(words, **how)
         except Failed as why:
             self.wrong += 1
             print(f'WRONG: {what}: {why}')
             return
-        is_right = 0 <= ended.status <= 127 and ended.status not in (119, 124)
+        is_right = ((ended.status, ended.err) == (119, f'{broken}\n'.encode()) if broken else
+                    0 <= ended.status <= 127 and ended.status not in (119, 124))
         self.wrong += not is_right
         line = ended.err.decode('latin-1').strip()[-60:] or f'status {ended.status}'
         print(f'{"" if is_right else "WRONG: "}{what:42} {words[0]:6} {line:32} {ended.cost:>20}', flush=True)
@@ -412,6 +460,11 @@ def main():
             calls.links(name, write_list(folder, files))
         for name in filter(is_asked, ENDS):
             calls.say(name, ['merge', '--out', 'left', *write_list(folder, ENDS[name]())])
+        for name in filter(is_asked, AGAIN):
+            made, broken = AGAIN[name]
+            names = write_list(folder, made())
+            for command in ('gc', 'merge'):
+                calls.say(name, [command, '--out', 'left', *names], broken)
         for name in filter(is_asked, SECTIONS):
             names = write_list(folder, SECTIONS[name]())
             for cells, made in CELLS.items():
