@@ -10,6 +10,7 @@ them, are misaligned, go by sp, and store what is no number; some are made until
 
 - the events of both images in the models (models/zc_machine.py), with the plan and without, begin with those of the objects
   (models/symbolic_machine.py) within 64 times their steps and 3; if the objects exit, the images do so with the same events;
+  and so it is from first states with other registers, another jvt and another stack;
 - `trace` and `run` write and end as the models do, after as many steps and commits; the links' images are the models';
 - standard input is taken unless the devices have answers; a text with a fault is refused, by the line of its first one.
 
@@ -245,16 +246,19 @@ class Case:
         machine = symbolic_machine.Machine([Object(data) for data in self.files], self.given, self.memory, devices)
         return Run(machine, symbolic_machine.run(machine, steps))
 
-    def ran(self, image, devices, interrupts, steps=STEPS):
+    def ran(self, image, devices, interrupts, steps=STEPS, first=None):
+        """The run of an image, from where `run` starts, or from a first state by chance that this number names."""
         machine = zc_machine.Machine(image, self.given, self.memory, devices)
+        if first is not None:
+            machine.start_by_chance(random.Random(first))
         return Run(machine, zc_machine.run(machine, interrupts, steps))
 
 
-def events_agree(case, image, devices, interrupts, traced):
+def events_agree(case, image, devices, interrupts, traced, first=None):
     """The image's events begin with the program's, within 64 times its steps and 3, and end with them at an exit."""
-    most, ran = 64 * traced.steps + 3, case.ran(image, devices, interrupts)
+    most, ran = 64 * traced.steps + 3, case.ran(image, devices, interrupts, first=first)
     if len(ran.events) < len(traced.events) and ran.line == 'spent':
-        ran = case.ran(image, devices, interrupts, most)
+        ran = case.ran(image, devices, interrupts, most, first)
     is_exit = traced.line.startswith('exited')
     events = ran.events if is_exit else ran.events[:len(traced.events)]
     if events != traced.events or is_exit and (ran.line != traced.line or ran.steps > most):
@@ -346,7 +350,8 @@ def look(folder, rng, counts):
         calls.follows(['trace'], calls.names, traced, taken)
     for link, image in images.items():
         for interrupts in ([], case.interrupts):
-            events_agree(case, image, devices, interrupts, traced)
+            for first in (None, rng.getrandbits(32)):
+                events_agree(case, image, devices, interrupts, traced, first)
             if calls:
                 options = ['run', '--plan', 'plan'] if interrupts else ['run']
                 calls.follows(options, [link], case.ran(image, devices, interrupts), taken)

@@ -15,7 +15,7 @@ sys.path.insert(0, os.path.join(os.path.dirname(os.path.abspath(__file__)), os.p
 from devices import NO_DEVICES, read_devices
 from expansions import bits, expanded
 from symbolic_machine import MASK, computed, holds
-from zcld_tools.files import read
+from zcld_tools.files import random_bytes, read
 from zcld_tools.images import STANDARD, segments
 from zcld_tools.elf import EXECUTE
 from zcld_tools.instructions import (A0, A1, A2, A7, EBREAK, ECALL, EXIT_CALL, OPCODE_AUIPC, OPCODE_FENCE, OPCODE_IMMEDIATE,
@@ -82,6 +82,13 @@ class Machine:
         self.regions.append([memory.stack_low, bytearray(memory.stack_high - memory.stack_low), False])
         self.registers, self.jvt, self.pc = [0] * 32, 0, int.from_bytes(image[24:28], 'little')
         self.registers[SP] = memory.stack_high
+
+    def start_by_chance(self, rng):
+        """Gives the registers but x0 and sp, jvt and the stack any content, as they have it when a chip starts."""
+        self.registers = [word if k in (0, SP) else rng.getrandbits(32) for k, word in enumerate(self.registers)]
+        self.jvt = rng.getrandbits(32)
+        stack = self.regions[-1][1]
+        stack[:] = random_bytes(rng, len(stack))
 
     # memory
 

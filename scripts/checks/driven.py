@@ -19,6 +19,8 @@ from checks.made_files import EXIT, MIB, THREE, THREE_IMAGE, image_of, object_of
 TITLE = b'zcld devices 1\n'
 MOST = 8 * MIB
 STEPS = 100_000
+# The first states of the driver: the one that `run` starts in, and others by chance.
+FIRST_STATES = None, 1, 2, 3, 4
 # The address of the devices here, in a register.
 UPPER = lui(T0, 0x10000)
 
@@ -210,7 +212,7 @@ def driver_texts():
 
 def drivers(group):
     """a driver of two devices that C compilers made: as objects and as images of both links, under a plan too, the same output
-    with one text of devices, and in the models the same events"""
+    with one text of devices, and in the models the same events, from first states with other registers too"""
     texts, out, given = driver_texts(), read('driver', 'output'), b'given'
     devices, interrupts = read_devices(texts['devices']), zc_machine.plan_in(texts['plan'])
     for compiler in FOLDERS:
@@ -224,9 +226,12 @@ def drivers(group):
             for name, text in texts.items():
                 folder.write(name, text)
             for cuts, options in (([], ()), (interrupts, ('--plan', 'plan'))):
-                machine = zc_machine.Machine(folder.read('out'), b'', devices=devices)
-                zc_machine.run(machine, cuts, STEPS)
-                group.same(f'{what}, {link}, events {options}', machine.events, program.events)
+                for first in FIRST_STATES:
+                    machine = zc_machine.Machine(folder.read('out'), b'', devices=devices)
+                    if first is not None:
+                        machine.start_by_chance(random.Random(first))
+                    told = zc_machine.run(machine, cuts, STEPS), machine.events
+                    group.same(f'{what}, {link}, events {options}, first state {first}', told, ('exited 2', program.events))
                 ended = folder.run(('run', *options, '--devices', 'devices', 'out'), given)
                 group.exits(f'{what}, {link} {options}', ended, 2, out)
 
