@@ -1,22 +1,25 @@
 #!/usr/bin/env python3
-"""Measures plans of interrupts: how long one takes to read, and what interrupts and fused instructions cost in a run.
+"""Measures plans of interrupts and texts of devices: how long one takes to read, and what interrupts and fused instructions cost
+in a run.
 
     bench/plans.py [--repeats R] [PROGRAM]        PROGRAM is build/zcld if none is given
 
 Plans of about 8 MiB are read with `--steps 0`: with short lines, with one line of many accesses and bytes, and with a bad line
-at the end. A loop of 10,000 commits is run under plans of up to 100,000 interrupts, all of them before its commits; it is run
-by `share` too, under as many, which write nothing to shared data, or a byte each. What both take with `--steps 0` is left out,
-and so is the link. Pushes are counted against the stores and the `addi` that they stand for: instructions of the processor by
-`valgrind --tool=callgrind`, if it is installed. Each call is made R times, and a time is the least of the processor's.
+at the end; and so are texts of devices of 1 to 8 MiB, with devices in any order, and with one line of answers. A loop of 10,000
+commits is run under plans of up to 100,000 interrupts, all of them before its commits; it is run by `share` too, under as many,
+which write nothing to shared data, or a byte each. What both take with `--steps 0` is left out, and so is the link. Pushes are
+counted against the stores and the `addi` that they stand for: instructions of the processor by `valgrind --tool=callgrind`, if
+it is installed. Each call is made R times, and a time is the least of the processor's.
 """
 import os
+import random
 import sys
 import tempfile
 
 sys.path.insert(0, os.path.join(os.path.dirname(os.path.abspath(__file__)), os.pardir, 'scripts'))
 sys.path[:0] = (os.path.join(os.path.dirname(os.path.abspath(__file__)), os.pardir, it) for it in ('fuzz', 'models'))
 
-from machine import followed, least
+from machine import DEVICE_AT, TITLE, followed, least
 from run import SPENT
 from zcld_tools.elf import DATA_FLAGS, NOBITS
 from zcld_tools.files import write
@@ -49,6 +52,19 @@ def plans_of_8_mib():
     return {'short lines': (filled(b'cut 7\n'), SPENT), 'longer lines': (filled(line), SPENT),
             'one line': (HEAD + b'cut 7' + dirt * ((LIMIT - 20) // len(dirt)) + b'\n', SPENT),
             'a bad line at the end': (filled(line)[:-len(line)] + b'cut 07\n', BAD)}
+
+
+def devices_of(size):
+    """A text of at most so many bytes, of devices of 4 bytes in any order."""
+    line = b'device %08x 00000004\n'
+    places = [*range((size - len(TITLE)) // len(line % 0))]
+    random.Random(size).shuffle(places)
+    return TITLE + b''.join(line % (DEVICE_AT + 8 * place) for place in places)
+
+
+def answers_of(size):
+    """A text of at most so many bytes, with one line of answers."""
+    return TITLE + b'answer' + b' 00' * ((size - len(TITLE) - 7) // 3) + b'\n'
 
 
 def plan_of(count):
@@ -110,7 +126,7 @@ def pushes(program, folder):
 
 
 def main():
-    given = words_of_bench('Measures plans of interrupts.', 5).parse_args()
+    given = words_of_bench('Measures plans of interrupts and texts of devices.', 5).parse_args()
     program = built(given.program)
     print(f'Processor: {processor_name()}, load {os.getloadavg()[0]:.1f}.')
     with tempfile.TemporaryDirectory() as folder:
@@ -122,6 +138,14 @@ def main():
             took = least([program, 'run', '--plan', plan, '--steps', '0', image], status, given.repeats)
             rows.append((what, len(text), text.count(b'\n') - 1, f'{took * 1000:.0f}'))
         table(('plan', 'bytes', 'interrupts', 'ms to read'), rows, 1)
+        rows = []
+        for mib in (1, 2, 4, 8):
+            texts, took = (devices_of(mib << 20), answers_of(mib << 20)), []
+            for text in texts:
+                write(plan, text)
+                took.append(least([program, 'run', '--devices', plan, '--steps', '0', image], SPENT, given.repeats))
+            rows.append((mib, texts[0].count(b'\n') - 1, *(f'{it * 1000:.0f}' for it in took)))
+        table(('MiB of a text', 'devices', 'ms to read', 'ms to read one line of answers'), rows)
         rows = []
         obj = os.path.join(folder, 'object')
         write(obj, shared_loop(COMMITS // 3))
