@@ -1,5 +1,5 @@
-# A table of a vectored trap, and a row of jumps that a number picks from. Both count on jumps of four bytes: link with
-# `zc --fixed .vectors,.picked`.
+# A table of a vectored trap, a row of jumps that a number picks from, and a loop that waits. The first two count on jumps of four
+# bytes, the loop on instructions that stay as wide as they are: link with `zc --fixed .vectors,.picked,.sent,.text.handler`.
 
     .section .vectors, "ax"
     .balign 64
@@ -43,6 +43,23 @@ row:
 3:  li a0, '3'
     ret
 4:  li a0, '4'
+    ret
+
+    .section .sent, "ax"
+    .globl send
+send:                           # writes the low 8 bits of a1 to the pin at a0, the lowest first: one every 102 instructions
+    li t0, 8
+bit:
+    andi t1, a1, 1
+    sw t1, 0(a0)
+    srli a1, a1, 1
+    li t2, 32
+wait:
+    nop
+    addi t2, t2, -1
+    bnez t2, wait
+    addi t0, t0, -1
+    bnez t0, bit
     ret
 
     .section .text.trap, "ax"

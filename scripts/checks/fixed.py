@@ -34,9 +34,10 @@ SHORTER = (addi(A0, A0, 1), branch(0, A0, ZERO, 8), NOP, jal(ZERO, 8), NOP, addi
            addi(S1, A1), lw(RA, SP, 12), addi(SP, SP, 16), RET)
 # `c.lbu x8,0(x8)`, `c.j` and `c.beqz x8` to themselves, and `c.li x0,1`.
 C_LBU, C_J, C_BEQZ, HINT = 0x8000, 0xA001, 0xC001, 0x4005
-# The causes of the table in examples/vectors that have a handler of their own, and how many there are.
+# The causes of the table in examples/vectors that have a handler of their own, and how many there are; the sections that stay as
+# they are; and what is written to the pin.
 HANDLERS = {0: b'on_exception', 3: b'on_software', 7: b'on_timer', 11: b'on_external'}
-CAUSES, VECTORS = 12, (b'.vectors', b'.picked')
+CAUSES, VECTORS = 12, (b'.vectors', b'.picked', b'.sent', b'.text.handler')
 # Each command that judges objects, without its name and options.
 JUDGING = (('plain', '--out', 'out'), ('zc', '--out', 'out', '--cert', 'cert'), ('trace',), ('gc', '--out', 'left'),
            ('merge', '--out', 'left'), ('share', '--out', 'out', '--plan', 'plan'))
@@ -222,7 +223,8 @@ def fixed_in_results(group):
 
 
 def check_vectors(group, what, folder, objects):
-    """Each entry of the table is a jump of four bytes to its handler."""
+    """Each entry of the table is a jump of four bytes to its handler, the handler in a fixed section is where mtvec can name it,
+    and the loop that waits has the instructions that it had."""
     image, code = Image(folder.path('out')), Code([Object(data) for data in objects], STANDARD, VECTORS)
     image.need(code)
     place, text = code.symbols.names.definition, text_of(folder.read('out'))
@@ -236,9 +238,9 @@ def check_vectors(group, what, folder, objects):
 
 
 def vectors(group):
-    """the table of a vectored trap and the row of jumps in examples/vectors, by each compiler: where all lies and leads with
-    `--fixed`, and that both are wrong without it"""
-    out, option = read('vectors', 'output'), ('--fixed', '.vectors,.picked')
+    """the table of a vectored trap, a handler, the row of jumps and the loop that waits in examples/vectors, by each compiler:
+    where all lies and leads with `--fixed`, and that the jumps are wrong without it"""
+    out, option, rests = read('vectors', 'output'), words_of_names(VECTORS), []
     for compiler in FOLDERS:
         what, objects = f'vectors by {compiler}', objects_of('vectors', compiler)
         plainly, names = group.linked_plainly(what, objects)
@@ -250,8 +252,10 @@ def vectors(group):
         folder.write('plan', b'zcld shared 1\n')
         group.exits(f'{what}: share', folder.run(('share', *option, '--out', 'shared', '--plan', 'plan', *names)), 0, out)
         group.same(f'{what}: the image of share', folder.read('shared'), folder.read('out'))
-        wrong = group.linked_small(f'{what}, without names', objects).run(('run', 'out'))
-        group.same(f'{what}: wrong without names', wrong.out == out, False)
+        wrong = group.linked_small(f'{what}, without names', objects)
+        group.same(f'{what}: wrong without names', wrong.run(('run', 'out')).out == out, False)
+        place = Code([Object(data) for data in objects]).symbols.names.definition(HANDLERS[0])
+        rests.append(Image(wrong.path('out')).places[place] % 4)
         check_tools(group, what, folder, option, names)
 
 
@@ -273,3 +277,24 @@ def random_fixed(group):
         except Differs as why:
             group.failed.append(f'list {seed}: {why}')
         folder.remove()
+def starts_in(code):
+    """Where the instructions of some code begin: those of four bytes have both low bits set."""
+    starts = [0]
+    while starts[-1] < len(code):
+        starts.append(starts[-1] + (4 if code[starts[-1]] & 3 == 3 else 2))
+    return starts
+
+
+def check_counted(group, what, code, image, text):
+    """Each instruction of `send` is as wide as in its object, and as far from the first."""
+    i, k, _ = place = code.symbols.names.definition(b'send')
+    content, start = code.parts[i, k].section.content, image.places[place]
+    starts = starts_in(content)
+    group.same(f'{what}: where the loop begins', start % 4, 0)
+    group.same(f'{what}: the widths of the loop', starts_in(text[start - TEXT_AT:start - TEXT_AT + len(content)]), starts)
+    group.same(f'{what}: the places of the loop', [image.places[i, k, at] - start for at in starts], starts)
+
+
+    group.same(f'{what}: where the handler begins', image.places[place(HANDLERS[0])] % 4, 0)
+    check_counted(group, what, code, image, text)
+    group.same('vectors: some handler is at 2 without names', 2 in rests, True)
