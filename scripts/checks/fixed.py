@@ -2,6 +2,7 @@
 import collections
 import os
 import random
+import struct
 import sys
 
 import chip_lists
@@ -38,6 +39,8 @@ C_LBU, C_J, C_BEQZ, HINT = 0x8000, 0xA001, 0xC001, 0x4005
 # they are; and what is written to the pin.
 HANDLERS = {0: b'on_exception', 3: b'on_software', 7: b'on_timer', 11: b'on_external'}
 CAUSES, VECTORS = 12, (b'.vectors', b'.picked', b'.sent', b'.text.handler')
+# `c.li a0,3`, `c.jr ra`, `c.mv s0,a0`, `c.mv s1,a1`, `cm.popret {ra},16`, `cm.push {ra},-16` and `cm.jt 0`.
+C_LI, C_RET, C_MV_S0, C_MV_S1, POP_RA, PUSH_RA, JUMP_BY_TABLE = 0x450D, 0x8082, 0x842A, 0x84AE, 0xBE42, 0xB842, 0xA002
 # Each command that judges objects, without its name and options.
 JUDGING = (('plain', '--out', 'out'), ('zc', '--out', 'out', '--cert', 'cert'), ('trace',), ('gc', '--out', 'left'),
            ('merge', '--out', 'left'), ('share', '--out', 'out', '--plan', 'plan'))
@@ -80,6 +83,38 @@ def over_padding():
     other.reloc(ALIGN, None, 254, halves=[SHORT_NOP] * 127)
     other.words(RET)
     return [made.bytes()]
+
+
+def between_groups():
+    """A section with a push, a pop and moves of its own, after a program that ends with a pop and before a push: the list, and the
+    section's words."""
+    made, text = object_with(addi(A0, ZERO, 3), *EXIT_WORDS, lw(RA, SP, 12), addi(SP, SP, 16), RET)
+    made.section(KEPT).words(*SHORTER)
+    made.section(b'.text.behind').words(addi(SP, SP, -16), sw(RA, SP, 12), RET)
+    return [made.bytes()], SHORTER
+
+
+def between_moves():
+    """The same of a section that begins with the second of two moves, and ends with the first of two."""
+    made, text = object_with(addi(A0, ZERO, 3), *EXIT_WORDS, addi(S0, A0))
+    words = addi(S1, A1), NOP, addi(S0, A0)
+    made.section(KEPT).words(*words)
+    made.section(b'.text.behind').words(addi(S1, A1), RET)
+    return [made.bytes()], words
+
+
+def between_jumps():
+    """A section that begins and ends with a far jump to an exit with 7, after eleven such jumps and before nine: the list, and how
+    many words the section has."""
+    made, text = object_with()
+    made.symbols[0].value = text.words(addi(A0, ZERO, 7), *EXIT_WORDS, *[XORI] * 1100) + 4 * 1103
+    leave, kept, behind = made.symbol(b'leave', home=text), made.section(KEPT), made.section(b'.text.behind')
+    for section, count in ((text, 11), (kept, 1), (behind, 9)):
+        for _ in range(count):
+            section.reloc(JAL, leave, 0, (jal(ZERO),))
+    kept.words(addi(A0, A0, 1))
+    kept.reloc(JAL, leave, 0, (jal(ZERO),))
+    return [made.bytes()], 3
 
 
 def leaving(kind, *words, halves=(), is_compressed=False):
@@ -132,6 +167,34 @@ def fixed_bytes(group):
     group.same('no jump goes through a table', b'slot' in folder.read('cert'), False)
     group.same('far jumps: the text', len(text_of(folder.read('out'))), 4492)
     whole_programs(group)
+
+
+def fixed_neighbours(group):
+    """groups and jumps through a table right before and right behind a section that stays as it is, and none in it or across its
+    edges"""
+    front = halves_of(C_LI) + words_of(*EXIT_WORDS)
+    rows = (('groups', between_groups(), (POP_RA,), (PUSH_RA, C_RET)), ('moves', between_moves(), (C_MV_S0,), (C_MV_S1, C_RET)))
+    for what, (objects, words), before, behind in rows:
+        text = text_of(linked(group, f'between {what}', objects, (KEPT,)).read('out'))
+        group.same(f'between {what}: the text', text, front + halves_of(*before) + words_of(*words) + halves_of(*behind))
+    jumps_beside(group)
+
+
+def jumps_beside(group):
+    """Jumps through a table beside a fixed section, whose own jumps are as long as they were."""
+    objects, count = between_jumps()
+    folder = linked(group, 'between jumps', objects, (KEPT,))
+    places, text = Image(folder.path('out')).places, text_of(folder.read('out'))
+    start, leave = places[0, 2, 0] - TEXT_AT, places[0, 1, 0]
+    group.same('between jumps: before it', text[start - 22:start], halves_of(*[JUMP_BY_TABLE] * 11))
+    group.same('between jumps: behind it', text[start + 4 * count:], halves_of(*[JUMP_BY_TABLE] * 9))
+    first, middle, last = struct.unpack_from('<3I', text, start)
+    group.same('between jumps: its sum', middle, addi(A0, A0, 1))
+    for word, at in ((first, start), (last, start + 8)):
+        group.same('between jumps: its jumps', (is_jal(word), TEXT_AT + at + jal_distance(word)), (True, leave))
+    group.same('between jumps: twenty are served', b'saving 0 1 0 20 0\n' in folder.run(
+        ('zc', '--fixed', '.kept', '--out', 'out', '--cert', 'cert', 'file0')).out, True)
+    group.exits('between jumps: run', folder.run(('run', 'out')), 7)
 
 
 def whole_programs(group):
@@ -222,6 +285,24 @@ def fixed_in_results(group):
 # ---- a table of a trap
 
 
+def starts_in(code):
+    """Where the instructions of some code begin: those of four bytes have both low bits set."""
+    starts = [0]
+    while starts[-1] < len(code):
+        starts.append(starts[-1] + (4 if code[starts[-1]] & 3 == 3 else 2))
+    return starts
+
+
+def check_counted(group, what, code, image, text):
+    """Each instruction of `send` is as wide as in its object, and as far from the first."""
+    i, k, _ = place = code.symbols.names.definition(b'send')
+    content, start = code.parts[i, k].section.content, image.places[place]
+    starts = starts_in(content)
+    group.same(f'{what}: where the loop begins', start % 4, 0)
+    group.same(f'{what}: the widths of the loop', starts_in(text[start - TEXT_AT:start - TEXT_AT + len(content)]), starts)
+    group.same(f'{what}: the places of the loop', [image.places[i, k, at] - start for at in starts], starts)
+
+
 def check_vectors(group, what, folder, objects):
     """Each entry of the table is a jump of four bytes to its handler, the handler in a fixed section is where mtvec can name it,
     and the loop that waits has the instructions that it had."""
@@ -235,6 +316,8 @@ def check_vectors(group, what, folder, objects):
         word = int.from_bytes(text[at - TEXT_AT:at - TEXT_AT + 4], 'little')
         to = is_jal(word) and at + jal_distance(word)
         group.same(f'{what}: cause {cause}', to, image.places[place(HANDLERS.get(cause, b'on_other'))])
+    group.same(f'{what}: where the handler begins', image.places[place(HANDLERS[0])] % 4, 0)
+    check_counted(group, what, code, image, text)
 
 
 def vectors(group):
@@ -257,6 +340,7 @@ def vectors(group):
         place = Code([Object(data) for data in objects]).symbols.names.definition(HANDLERS[0])
         rests.append(Image(wrong.path('out')).places[place] % 4)
         check_tools(group, what, folder, option, names)
+    group.same('vectors: some handler is at 2 without names', 2 in rests, True)
 
 
 def check_tools(group, what, folder, option, names):
@@ -277,24 +361,3 @@ def random_fixed(group):
         except Differs as why:
             group.failed.append(f'list {seed}: {why}')
         folder.remove()
-def starts_in(code):
-    """Where the instructions of some code begin: those of four bytes have both low bits set."""
-    starts = [0]
-    while starts[-1] < len(code):
-        starts.append(starts[-1] + (4 if code[starts[-1]] & 3 == 3 else 2))
-    return starts
-
-
-def check_counted(group, what, code, image, text):
-    """Each instruction of `send` is as wide as in its object, and as far from the first."""
-    i, k, _ = place = code.symbols.names.definition(b'send')
-    content, start = code.parts[i, k].section.content, image.places[place]
-    starts = starts_in(content)
-    group.same(f'{what}: where the loop begins', start % 4, 0)
-    group.same(f'{what}: the widths of the loop', starts_in(text[start - TEXT_AT:start - TEXT_AT + len(content)]), starts)
-    group.same(f'{what}: the places of the loop', [image.places[i, k, at] - start for at in starts], starts)
-
-
-    group.same(f'{what}: where the handler begins', image.places[place(HANDLERS[0])] % 4, 0)
-    check_counted(group, what, code, image, text)
-    group.same('vectors: some handler is at 2 without names', 2 in rests, True)
