@@ -58,7 +58,8 @@ pub fn push_half(text: &mut Vec<u8>, half: u16) -> Result<(), AllocError>
 
 // Adds the digits of a word that the table doesn't have.
 fn push_word_digits(text: &mut Vec<u8>, word: u32) -> Result<(), AllocError>
-    ensures { IfOk result (λ _. text.new.items ≡ text.old.items ++ join_with_byte 32 (codes ".word" ∷ hex_word word ∷ [])) }
+    ensures { IfOk result (λ _. text.new.items
+        ≡ text.old.items ++ join_with_byte 32 (codes ".word" ∷ hex_word word ∷ [])) }
 {
     text.extend_from_slice(b".word ")?;
     text.extend_from_slice(&[
@@ -75,7 +76,8 @@ fn push_word_digits(text: &mut Vec<u8>, word: u32) -> Result<(), AllocError>
 
 // Adds the digits of a halfword that the tables don't have.
 fn push_half_digits(text: &mut Vec<u8>, half: u16) -> Result<(), AllocError>
-    ensures { IfOk result (λ _. text.new.items ≡ text.old.items ++ join_with_byte 32 (codes ".half" ∷ hex_half half ∷ [])) }
+    ensures { IfOk result (λ _. text.new.items
+        ≡ text.old.items ++ join_with_byte 32 (codes ".half" ∷ hex_half half ∷ [])) }
 {
     let number = u32::from(half);
     text.extend_from_slice(b".half ")?;

@@ -15,7 +15,8 @@ use text_lines::split::split_line;
 /// What is kept of a text's lines, or the first fault in the text, with the number of its line.
 pub fn read_text<K: FromLine>(alloc: Global, text: &[u8]) -> Result<Vec<K>, PlanFault>
     ensures ok { IfOk result (λ cuts. entries_by K.grammar text.now ≡ Ok (map K.entry cuts.items)) }
-    ensures err { IfErr result (λ fault. (fault ≡ PlanFault.OutOfMemory) ⊎ (entries_by K.grammar text.now ≡ Err fault)) }
+    ensures err { IfErr result (λ fault. (fault ≡ PlanFault.OutOfMemory)
+        ⊎ (entries_by K.grammar text.now ≡ Err fault)) }
     ensures few { IfOk result (λ cuts. length cuts.items ≤ PLAN_LIMIT) }
 {
     if text.len() > PLAN_LIMIT {
@@ -33,7 +34,8 @@ pub fn read_text<K: FromLine>(alloc: Global, text: &[u8]) -> Result<Vec<K>, Plan
 // What is kept of the lines after the first one.
 fn read_lines<K: FromLine>(alloc: Global, lines: &[u8]) -> Result<Vec<K>, PlanFault>
     requires { length lines.now ≤ PLAN_LIMIT }
-    ensures ok { IfOk result (λ cuts. entries_of_lines K.grammar 2 0 (lines_of lines.now) ≡ Ok (map K.entry cuts.items)) }
+    ensures ok { IfOk result (λ cuts. entries_of_lines K.grammar 2 0 (lines_of lines.now)
+        ≡ Ok (map K.entry cuts.items)) }
     ensures err { IfErr result (λ fault. (fault ≡ PlanFault.OutOfMemory)
         ⊎ (entries_of_lines K.grammar 2 0 (lines_of lines.now) ≡ Err fault)) }
     ensures few { IfOk result (λ cuts. length cuts.items ≤ length lines.now) }

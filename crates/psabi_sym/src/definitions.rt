@@ -56,7 +56,8 @@ pub fn define(
 ) -> Result<Definitions, AllocError>
     requires is_map { IsMap options.now.map }
     requires sums { sum_fault objects.now ≡ None }
-    requires sections { kept.now.sections.now ≡ map (section_row options.now.fixed) (all_sections (map object_parts objects.now)) }
+    requires sections { kept.now.sections.now
+        ≡ map (section_row options.now.fixed) (all_sections (map object_parts objects.now)) }
     requires symbols { IsNumbered (map (λ name. name.now) kept.now.names.now)
         (all_symbols (map object_parts objects.now)) kept.now.symbols.now }
     requires strong { kept.now.strong.now

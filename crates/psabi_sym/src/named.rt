@@ -96,7 +96,8 @@ fn define_names(
 ) -> Result<Definitions, LinkFault>
     requires is_map { IsMap options.now.map }
     requires sums { sum_fault objects.now ≡ None }
-    requires sections { rows.now.sections.now ≡ map (section_row options.now.fixed) (all_sections (map object_parts objects.now)) }
+    requires sections { rows.now.sections.now
+        ≡ map (section_row options.now.fixed) (all_sections (map object_parts objects.now)) }
     requires symbols { IsNumbered (map (λ name. name.now) rows.now.names.now)
         (all_symbols (map object_parts objects.now)) rows.now.symbols.now }
     ensures defined { IfOk result (λ definitions. AreDefined (read_from objects.now options.now) rows.now.sections.now
@@ -143,7 +144,8 @@ pub fn name_objects(
     requires few { length objects.now ≤ 256 }
     requires is_map { IsMap options.now.map }
     requires sums { sum_fault objects.now ≡ None }
-    requires sections { sections.now ≡ map (section_row options.now.fixed) (all_sections (map object_parts objects.now)) }
+    requires sections { sections.now
+        ≡ map (section_row options.now.fixed) (all_sections (map object_parts objects.now)) }
     ensures named { IfOk result (HasNameNumber (read_from objects.now options.now) sections.now) }
     ensures err { IfErr result (IsRefusal (name_fault (read_from objects.now options.now))) }
 {

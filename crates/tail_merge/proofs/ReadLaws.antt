@@ -38,7 +38,7 @@ word-same k xs n ys m same le =
     let d = byte-same k xs n ys m same 3 (omega (arith, le)) in
     λ i. a i + 256 * b i + 65536 * c i + 16777216 * d i
 
--- so an instruction of so many bytes is the same
+-- so an instruction in 2 or 4 bytes is the same
 pub short-same : (k : ℕ) (xs : List ℕ) (n : ℕ) (ys : List ℕ) (m : ℕ) → SameBytes k xs n ys m → 2 ≤ k → instr_in 2 xs n ≡ instr_in 2 ys m
 short-same k xs n ys m same le = ap (λ h. normal_base (decoded16 h)) (half-same k xs n ys m same le)
 

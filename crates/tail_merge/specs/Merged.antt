@@ -52,7 +52,7 @@ merged_place inputs q = record {
 
 -- ---- bytes
 
--- an instruction of so many bytes
+-- an instruction in 2 bytes, or else in 4
 abbrev pub instr_bytes : ℕ → Instr → List ℕ
 instr_bytes size i = if size == 2 then half_bytes (unwrap_or (encoded16 (Base i)) 0) else word_bytes (encoded i)
 

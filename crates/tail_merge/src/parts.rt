@@ -30,9 +30,11 @@ fn code_part(
 ) -> Result<PartSection, AllocError>
     requires section { section < length (all_sections (parsed given.now.cut.now).objects) }
     requires tables { AreAllMoved (parsed given.now.cut.now) (tables_of given.now.tables.now) }
-    requires code { (l : IndexedSection) → slice_get (all_sections (parsed given.now.cut.now).objects) section ≡ Some l
+    requires code { (l : IndexedSection)
+        → slice_get (all_sections (parsed given.now.cut.now).objects) section ≡ Some l
         → is_code_section l.section ≡ true }
-    requires header { (l : IndexedSection) → slice_get (all_sections (parsed given.now.cut.now).objects) section ≡ Some l
+    requires header { (l : IndexedSection)
+        → slice_get (all_sections (parsed given.now.cut.now).objects) section ≡ Some l
         → IsSection header l.section }
     ensures { IfOk result (λ part. (l : IndexedSection)
         → slice_get (all_sections (parsed given.now.cut.now).objects) section ≡ Some l
@@ -66,7 +68,8 @@ fn data_part(
     requires header { IsSection header section.now.section }
     requires data { is_code_section section.now.section ≡ false }
     ensures { IfOk result (λ part. part
-        ≡ without_mark (merged_section (parsed given.now.cut.now) section.now.object section.now.index section.now.section)) }
+        ≡ without_mark (merged_section (parsed given.now.cut.now)
+            section.now.object section.now.index section.now.section)) }
 {
     let name = Vec::from_slice(alloc, header.name)?;
     let bytes = Vec::from_slice(alloc, header.bytes)?;

@@ -28,7 +28,7 @@ use zc_base::reg::Reg;
 use zc_decode::short::Short;
 use zc_encode::encode16::encode16;
 
-/// What is written for an item: its own bytes, nothing, or an instruction of so many bytes.
+/// What is written for an item: its own bytes, nothing, or an instruction in 2 or 4 bytes.
 #[derive(Clone, Copy)]
 pub enum ItemForm {
     Own,
@@ -148,7 +148,8 @@ fn push_word(out: &mut Vec<u8>, word: u32) -> Result<(), AllocError>
     out.extend_from_slice(&word.to_le_bytes())
 }
 
-// Appends an instruction of so many bytes.
+// Appends an instruction in 2 or 4 bytes. One that has 2 in its object is spelled in 2 at its new distance, which is no
+// longer, so it has a halfword; the definition is total and says 0 where there is none.
 fn push_instr(out: &mut Vec<u8>, instr: Instr, size: u8) -> Result<(), AllocError>
     requires { InRange instr }
     ensures { OnOk result (out.new.items ≡ out.old.items ++ instr_bytes size instr) }

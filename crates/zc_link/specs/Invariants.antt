@@ -1,5 +1,5 @@
--- What a layout owes, place by place, so that its image does what the program does. Proofs name these; nothing that must be believed
--- does.
+-- What a layout owes, place by place, so that its image does what the program does. Proofs and contracts of private functions name
+-- these; no definition that must be believed does.
 pub mod Room
 pub mod Groups
 pub mod Stretches

@@ -104,8 +104,8 @@ pub fn read_objects<S: Store>(
 ) -> Result<Vec<Vec<u8>>, Outcome>
     ensures ok { IfOk result (λ files. AreRead (S.shown store.old).files (objects_wanted (texts names.now))
         (contents_of files.items)) }
-    ensures err { IfErr result (λ outcome. (options : Options) (left : List (List ℕ)) → EndsWithout options (texts names.now)
-        left outcome (S.shown store.old) (S.shown store.new)) }
+    ensures err { IfErr result (λ outcome. (options : Options) (left : List (List ℕ))
+        → EndsWithout options (texts names.now) left outcome (S.shown store.old) (S.shown store.new)) }
     ensures reads { ReadsAll (objects_wanted (texts names.now)) (S.shown store.old) (S.shown store.new) }
 {
     let reading = read_all(alloc, names, store)?;
@@ -122,7 +122,8 @@ pub fn read_all<S: Store>(
     store: &mut S,
 ) -> Result<Reading, Outcome>
     ensures ok { IfOk result (λ reading. AreKept (texts names.now) reading (S.shown store.old).files) }
-    ensures err { IfErr result (UnreadCause (objects_wanted (texts names.now)) (S.shown store.old) (S.shown store.new)) }
+    ensures err { IfErr result
+        (UnreadCause (objects_wanted (texts names.now)) (S.shown store.old) (S.shown store.new)) }
     ensures reads { ReadsAll (objects_wanted (texts names.now)) (S.shown store.old) (S.shown store.new) }
 {
     let mut reading = Reading {

@@ -89,7 +89,7 @@ fn fixed_count(objects: &Objects) -> u32
     count
 }
 
-// What is put and written of a link with so many fixed sections, if they are told.
+// What is put and written of a link, with the number of fixed sections if names of such were given.
 fn results_of(alloc: Global, linked: Linked, fixed: Option<u32>) -> Result<ZcResults, AllocError>
     requires savings { length linked.savings ≤ 0x1_0000 }
     requires slots { length linked.certificate.slots ≤ 256 }
