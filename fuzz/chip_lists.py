@@ -99,8 +99,10 @@ class Case:
         machine = Machine(self.objects(), self.given, self.memory)
         return Run(machine, run(machine, STEPS))
 
-    def ran(self, image, _devices, interrupts, steps=STEPS):
+    def ran(self, image, _devices, interrupts, steps=STEPS, first=None):
         machine = zc_machine.Machine(image, self.given, self.memory)
+        if first is not None:
+            machine.start_by_chance(first)
         return Run(machine, zc_machine.run(machine, interrupts, steps))
 
 
@@ -231,7 +233,8 @@ def look(program, place, rng, counts):
     traced = case.traced()
     counts.update(dict(counts_of(case, linked, traced)))
     for image in images.values():
-        events_agree(case, image, NO_DEVICES, [], traced)
+        for first in (None, rng.getrandbits(32)):
+            events_agree(case, image, NO_DEVICES, [], traced, first)
     if calls:
         folder, names = calls.links(plain, linked, images)
         calls.must_end(folder, ('trace', '--steps', str(STEPS), *names), traced.ended())

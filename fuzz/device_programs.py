@@ -250,7 +250,7 @@ class Case:
         """The run of an image, from where `run` starts, or from a first state by chance that this number names."""
         machine = zc_machine.Machine(image, self.given, self.memory, devices)
         if first is not None:
-            machine.start_by_chance(random.Random(first))
+            machine.start_by_chance(first)
         return Run(machine, zc_machine.run(machine, interrupts, steps))
 
 

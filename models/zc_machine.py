@@ -8,6 +8,7 @@ compared: it follows the RISC-V unprivileged manual ("RV32I", "M", "RVC Instruct
 """
 import argparse
 import os
+import random
 import sys
 
 sys.path.insert(0, os.path.join(os.path.dirname(os.path.abspath(__file__)), os.pardir, 'scripts'))
@@ -83,8 +84,9 @@ class Machine:
         self.registers, self.jvt, self.pc = [0] * 32, 0, int.from_bytes(image[24:28], 'little')
         self.registers[SP] = memory.stack_high
 
-    def start_by_chance(self, rng):
+    def start_by_chance(self, seed):
         """Gives the registers but x0 and sp, jvt and the stack any content, as they have it when a chip starts."""
+        rng = random.Random(seed)
         self.registers = [word if k in (0, SP) else rng.getrandbits(32) for k, word in enumerate(self.registers)]
         self.jvt = rng.getrandbits(32)
         stack = self.regions[-1][1]

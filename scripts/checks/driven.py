@@ -229,7 +229,7 @@ def drivers(group):
                 for first in FIRST_STATES:
                     machine = zc_machine.Machine(folder.read('out'), b'', devices=devices)
                     if first is not None:
-                        machine.start_by_chance(random.Random(first))
+                        machine.start_by_chance(first)
                     told = zc_machine.run(machine, cuts, STEPS), machine.events
                     group.same(f'{what}, {link}, events {options}, first state {first}', told, ('exited 2', program.events))
                 ended = folder.run(('run', *options, '--devices', 'devices', 'out'), given)
