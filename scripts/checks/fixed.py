@@ -300,7 +300,7 @@ def check_counted(group, what, code, image, text):
     starts = starts_in(content)
     group.same(f'{what}: where the loop begins', start % 4, 0)
     group.same(f'{what}: the widths of the loop', starts_in(text[start - TEXT_AT:start - TEXT_AT + len(content)]), starts)
-    group.same(f'{what}: the places of the loop', [image.places[i, k, at] - start for at in starts], starts)
+    group.same(f'{what}: the places of the loop', [image.places.get((i, k, at)) for at in starts], [start + at for at in starts])
 
 
 def check_vectors(group, what, folder, objects):
