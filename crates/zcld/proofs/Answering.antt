@@ -23,11 +23,11 @@ IsAnswer ReadFault = ⊥
 IsAnswer WriteFault = ⊥
 IsAnswer other = Unit {0}
 
--- the outcome isn't Usage; and a fault that can stop the command was counted, by an outside that isn't sure
-pub record IsFaulted (task : Task) (outcome : Outcome) (before after : World) : Type 0 where
+-- the outcome isn't Usage; and a fault that can stop the command with these files was counted, by an outside that isn't sure
+pub record IsFaulted (task : Task) (files : List (List ℕ)) (outcome : Outcome) (before after : World) : Type 0 where
   pub known : outcome ≢ Usage
-  pub counted : IsClean task before after → ⊥
-  pub unsure : IsSure task before → ⊥
+  pub counted : IsClean task files before after → ⊥
+  pub unsure : IsSure task files before → ⊥
 
 -- what work does to the counts: of a store's, only that of writes may rise
 pub record Moves (before after : World) : Type 0 where
@@ -45,7 +45,7 @@ pub record Facts (task : Task) (Work : List (List ℕ) → Outcome → World →
   pub refuses : (files : List (List ℕ)) (outcome : Outcome) → task.refusal files ≡ Some outcome → IsAnswer outcome
   pub ends :
       (files : List (List ℕ)) (outcome : Outcome) (before after : World) → Work files outcome before after →
-      IsAnswer outcome ⊎ IsFaulted task outcome before after
+      IsAnswer outcome ⊎ IsFaulted task files outcome before after
   pub moves : (files : List (List ℕ)) (outcome : Outcome) (before after : World) → Work files outcome before after → Moves before after
 
 -- want of memory is an answer
@@ -95,8 +95,9 @@ moves_grow before after moves = record {
 }
 
 -- what isn't counted over the whole isn't counted in between
-clean_within : (task : Task) (a b c d : World) → Grows a b → Grows c d → IsClean task a d → IsClean task b c
-clean_within task a b c d first last clean = record {
+clean_within :
+    (task : Task) (files : List (List ℕ)) (a b c d : World) → Grows a b → Grows c d → IsClean task files a d → IsClean task files b c
+clean_within task files a b c d first last clean = record {
   read = record {
     reads = λ rose. clean.read.reads (omega (arith, first.reads, last.reads, rose));
     longs = λ rose. clean.read.longs (omega (arith, first.longs, last.longs, rose));
@@ -136,11 +137,11 @@ moves_on a b c first next = record {
 
 -- a fault that was counted at the end was counted over the whole
 pub faulted_later :
-    (task : Task) (outcome : Outcome) (a b c : World) → Moves a b → (IsSure task a → IsSure task b) → IsFaulted task outcome b c →
-    IsFaulted task outcome a c
-faulted_later task outcome a b c moves stays fault = record {
+    (task : Task) (files : List (List ℕ)) (outcome : Outcome) (a b c : World) → Moves a b → (IsSure task files a → IsSure task files b) →
+    IsFaulted task files outcome b c → IsFaulted task files outcome a c
+faulted_later task files outcome a b c moves stays fault = record {
   known = fault.known;
-  counted = λ clean. fault.counted (clean_within task a b c c (moves_grow a b moves) (moves_grow c c (no_moves c)) clean);
+  counted = λ clean. fault.counted (clean_within task files a b c c (moves_grow a b moves) (moves_grow c c (no_moves c)) clean);
   unsure = λ sure. fault.unsure (stays sure);
 }
 
@@ -203,11 +204,11 @@ unread_counted wanted before after unread read = elim unread [ inl failed ↦ re
 
 -- ---- what follows
 
--- a fault that can stop the command was counted up to a world, by an outside that doesn't tell its files, or isn't sure
+-- if the files are told, a fault that can stop the command with them was counted up to a world, by an outside that isn't sure
 record IsStopped (task : Task) (outcome : Outcome) (before left : World) : Type 0 where
   pub known : outcome ≢ Usage
-  pub counted : IsClean task before left → ⊥
-  pub unsure : (told : List (List ℕ)) → TellsAll before.shelf.files task.wanted told → IsSure task before → ⊥
+  pub counted : (told : List (List ℕ)) → TellsAll before.shelf.files task.wanted told → IsClean task told before left → ⊥
+  pub unsure : (told : List (List ℕ)) → TellsAll before.shelf.files task.wanted told → IsSure task told before → ⊥
 
 module _ (task : Task) (Work : List (List ℕ) → Outcome → World → World → Type 0) (facts : Facts task Work) (files : List (List ℕ)) (outcome : Outcome) (before left : World) (does : Performs task Work files outcome before left) where
   -- how a command ends
@@ -217,7 +218,7 @@ module _ (task : Task) (Work : List (List ℕ) → Outcome → World → World �
       | inl memory ↦ inl (no_memory outcome memory)
       | inr fault ↦ inr (record {
         known = λ e. cc;
-        counted = λ clean. unread_counted task.wanted before left fault.1 clean.read;
+        counted = λ told tells clean. unread_counted task.wanted before left fault.1 clean.read;
         unsure = λ told tells sure.
             let held = told_held before.shelf.files task.wanted told tells in
             AreUnread-sure task.wanted before.shelf left.shelf sure.store held.0 held.1 fault.1;
@@ -228,12 +229,16 @@ module _ (task : Task) (Work : List (List ℕ) → Outcome → World → World �
       | inl answer ↦ inl answer
       | inr fault ↦ inr (record {
         known = fault.known;
-        counted = λ clean. fault.counted (clean_within task before worked.between left left (read_grows task.wanted before worked.between worked.only) (moves_grow left left (no_moves left)) clean);
-        unsure = λ told tells sure. fault.unsure (record {
-          store = worked.only.shelf.sure ∙ sure.store;
-          console = ap (λ d. d.sure) worked.only.desk ∙ sure.console;
-          input = λ takes. subst (λ d. IsShortInput d.input) (sym worked.only.desk) (sure.input takes);
-        });
+        counted = λ told tells clean.
+            let with_read = subst (λ fs. IsClean task fs before left) (told_same before.shelf.files task.wanted told files tells worked.read) clean in
+            fault.counted (clean_within task files before worked.between left left (read_grows task.wanted before worked.between worked.only) (moves_grow left left (no_moves left)) with_read);
+        unsure = λ told tells sure.
+            let with_read = subst (λ fs. IsSure task fs before) (told_same before.shelf.files task.wanted told files tells worked.read) sure in
+            fault.unsure (record {
+              store = worked.only.shelf.sure ∙ with_read.store;
+              console = ap (λ d. d.sure) worked.only.desk ∙ with_read.console;
+              input = λ takes. subst (λ d. IsShortInput d.input) (sym worked.only.desk) (with_read.input takes);
+            });
       })
     ]
   ]
@@ -252,8 +257,8 @@ module _ (task : Task) (Work : List (List ℕ) → Outcome → World → World �
 
   module _ (text : List ℕ) (after : World) (line : Reports text left after) where
     -- what isn't counted over the call isn't counted up to its line
-    clean_before : IsClean task before after → IsClean task before left
-    clean_before = clean_within task before before left after (moves_grow before before (no_moves before)) (moves_grow left after (line_moves text left after line))
+    clean_before : (told : List (List ℕ)) → IsClean task told before after → IsClean task told before left
+    clean_before told = clean_within task told before before left after (moves_grow before before (no_moves before)) (moves_grow left after (line_moves text left after line))
 
     -- and so it is of the files
     read_before : IsFileRead before after → IsFileRead before left
@@ -282,7 +287,7 @@ module _ (task : Task) (Work : List (List ℕ) → Outcome → World → World �
     pub performed_answers : (told : List (List ℕ)) → TellsAll before.shelf.files task.wanted told → Answers task outcome told before after
     performed_answers told tells = record {
       names = names told tells;
-      complete = λ clean. elim ended [ inl answer ↦ answer_fault outcome answer | inr stopped ↦ absurd (stopped.counted (clean_before clean)) ];
+      complete = λ clean. elim ended [ inl answer ↦ answer_fault outcome answer | inr stopped ↦ absurd (stopped.counted told tells (clean_before told clean)) ];
       sure = λ sure. elim ended [ inl answer ↦ answer_fault outcome answer | inr stopped ↦ absurd (stopped.unsure told tells sure) ];
     }
 

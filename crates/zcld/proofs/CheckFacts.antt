@@ -42,8 +42,8 @@ module _ (cert : List ℕ) where
   abbrev task : Task
   task = task_of (Check cert)
 
-  check_ends : (files : List (List ℕ)) (outcome : Outcome) (before after : World) → CheckWork files outcome before after → IsAnswer outcome ⊎ IsFaulted task outcome before after
-  check_ends files outcome before after work = output_ends task (text_alone (check_line work.net)) (inr refl) outcome before after work.printed
+  check_ends : (files : List (List ℕ)) (outcome : Outcome) (before after : World) → CheckWork files outcome before after → IsAnswer outcome ⊎ IsFaulted task files outcome before after
+  check_ends files outcome before after work = output_ends task files (text_alone (check_line work.net)) (inr refl) outcome before after work.printed
 
   check_moves : (files : List (List ℕ)) (outcome : Outcome) (before after : World) → CheckWork files outcome before after → Moves before after
   check_moves files outcome before after work =

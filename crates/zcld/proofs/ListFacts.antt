@@ -34,9 +34,9 @@ module _ (memory : MemMap) (image : List ℕ) where
   abbrev task : Task
   task = task_of (Listing memory image)
 
-  list_ends : (files : List (List ℕ)) (outcome : Outcome) (before after : World) → ListWork files outcome before after → IsAnswer outcome ⊎ IsFaulted task outcome before after
+  list_ends : (files : List (List ℕ)) (outcome : Outcome) (before after : World) → ListWork files outcome before after → IsAnswer outcome ⊎ IsFaulted task files outcome before after
   list_ends files outcome before after (inl memory) = inl (no_memory outcome memory.0)
-  list_ends files outcome before after (inr work) = output_ends task (text_alone work.text) (inr refl) outcome before after work.printed
+  list_ends files outcome before after (inr work) = output_ends task files (text_alone work.text) (inr refl) outcome before after work.printed
 
   list_moves : (files : List (List ℕ)) (outcome : Outcome) (before after : World) → ListWork files outcome before after → Moves before after
   list_moves files outcome before after (inl memory) = subst (λ w. Moves before w) (sym memory.1) (no_moves before)

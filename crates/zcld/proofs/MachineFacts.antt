@@ -1,6 +1,6 @@
 -- What is known of a command that runs a machine over the console's whole input, or over what devices answer: how that ends, and what it
 -- does to the counts.
-use Rattle.std.proofs.Common.{◌≡◌, ◌≢◌, ℕ, refl, ap, length, Bool, true, false, List, [], Option, Some, None, IsTrue, sym, subst, ◌∙◌, ◌⊎◌, inl, inr, arith}
+use Rattle.std.proofs.Common.{◌≡◌, ◌≢◌, ℕ, refl, ap, length, Bool, true, false, not, List, [], Option, Some, None, IsTrue, sym, subst, ◌∙◌, ◌⊎◌, inl, inr, arith}
 use Rattle.zc_outside.specs.Desk.{Desk, OnlyTakes}
 use Rattle.zc_outside.specs.Files.{Rose}
 use Rattle.zc_outside.specs.Shelf.{OnlyPuts, Shelf}
@@ -28,9 +28,9 @@ pub record IsRefusedWrite (outcome : Outcome) (before after : Desk) : Type 0 whe
 
 -- ---- the end of a machine
 
-module _ (task : Task) {End : Type 0} (Ends : End → Desk → Desk → Type 0) (outcome_of : End → Outcome) where
-  module _ (each : (end : End) (before after : Desk) → Ends end before after → IsAnswer (outcome_of end) ⊎ IsRefusedWrite (outcome_of end) before after) where
-    pub ended_ends : (outcome : Outcome) (before after : World) → HasEnded Ends outcome_of outcome before after → IsAnswer outcome ⊎ IsFaulted task outcome before after
+module _ {End : Type 0} (Ends : End → Desk → Desk → Type 0) (outcome_of : End → Outcome) where
+  module _ (task : Task) (files : List (List ℕ)) (each : (end : End) (before after : Desk) → Ends end before after → IsAnswer (outcome_of end) ⊎ IsRefusedWrite (outcome_of end) before after) where
+    pub ended_ends : (outcome : Outcome) (before after : World) → HasEnded Ends outcome_of outcome before after → IsAnswer outcome ⊎ IsFaulted task files outcome before after
     ended_ends outcome before after run =
         elim (subst (λ o. IsAnswer o ⊎ IsRefusedWrite o before.desk after.desk) (sym run.outcome_is) (each run.answer before.desk after.desk run.ended)) [
           | inl answer ↦ inl answer
@@ -41,7 +41,7 @@ module _ (task : Task) {End : Type 0} (Ends : End → Desk → Desk → Type 0) 
           })
         ]
 
-    pub executed_ends : (outcome : Outcome) (before after : World) → Executes Ends outcome_of outcome before after → IsAnswer outcome ⊎ IsFaulted task outcome before after
+    pub executed_ends : (outcome : Outcome) (before after : World) → Executes Ends outcome_of outcome before after → IsAnswer outcome ⊎ IsFaulted task files outcome before after
     executed_ends outcome before after (inl memory) = inl (no_memory outcome memory.0)
     executed_ends outcome before after (inr run) = ended_ends outcome before after run
 
@@ -96,13 +96,13 @@ none_left None after input takes short = absurd short
 none_left (Some xs) None input takes short = absurd takes
 none_left (Some xs) (Some ys) input takes short = omega (arith, ap length takes.1)
 
-module _ (task : Task) (takes : IsTrue task.takes) where
+module _ (task : Task) (files : List (List ℕ)) where
   -- input that can't be had: memory ran out, or a fault was counted, at a console that isn't sure or has too much of it
   untaken_ends :
-      (outcome : Outcome) (before after : World) → UntakenCause outcome before.desk after.desk →
-      IsAnswer outcome ⊎ IsFaulted task outcome before after
-  untaken_ends OutOfMemory before after cause = inl tt
-  untaken_ends ReadFault before after cause = inr (record {
+      IsTrue (task.takes files) → (outcome : Outcome) (before after : World) → UntakenCause outcome before.desk after.desk →
+      IsAnswer outcome ⊎ IsFaulted task files outcome before after
+  untaken_ends takes OutOfMemory before after cause = inl tt
+  untaken_ends takes ReadFault before after cause = inr (record {
     known = λ e. cc;
     counted = λ clean. elim cause [ inl failed ↦ (clean.taken takes).0 failed.0 | inr long ↦ (clean.taken takes).1 long.0 ];
     unsure = λ sure. elim cause [
@@ -110,44 +110,39 @@ module _ (task : Task) (takes : IsTrue task.takes) where
       | inr long ↦ not_both before.desk.input (sure.input takes) long.1
     ];
   })
-  untaken_ends other before after cause = absurd cause
+  untaken_ends takes other before after cause = absurd cause
 
   -- an outside that is sure still is after the input was taken
-  taken_sure : (input : List ℕ) (before : World) (between : Desk) → TakesInput input before.desk between → IsSure task before → IsSure task (world before.shelf between)
+  taken_sure : (input : List ℕ) (before : World) (between : Desk) → TakesInput input before.desk between → IsSure task files before → IsSure task files (world before.shelf between)
   taken_sure input before between taken sure = record {
     store = sure.store;
     console = taken.only.sure ∙ sure.console;
-    input = λ taking. none_left before.desk.input between.input input taken.all (sure.input taking);
+    input = λ takes. none_left before.desk.input between.input input taken.all (sure.input takes);
   }
 
-  module _ (Runs : List ℕ → Outcome → World → World → Type 0) where
-    pub run_ends :
-        ((input : List ℕ) (outcome : Outcome) (before after : World) → Runs input outcome before after → IsAnswer outcome ⊎ IsFaulted task outcome before after)
-        → (outcome : Outcome) (before after : World) → TakesAndRuns Runs outcome before after → IsAnswer outcome ⊎ IsFaulted task outcome before after
-    run_ends each outcome before after (inl lacks) = untaken_ends outcome before after lacks.untaken.cause
-    run_ends each outcome before after (inr run) = elim (each run.input outcome (world before.shelf run.between) after run.runs) [
+  module _ (Runs : List ℕ → Outcome → World → World → Type 0) (each : (input : List ℕ) (outcome : Outcome) (before after : World) → Runs input outcome before after → IsAnswer outcome ⊎ IsFaulted task files outcome before after) where
+    pub run_ends : IsTrue (task.takes files) → (outcome : Outcome) (before after : World) → TakesAndRuns Runs outcome before after → IsAnswer outcome ⊎ IsFaulted task files outcome before after
+    run_ends takes outcome before after (inl lacks) = untaken_ends takes outcome before after lacks.untaken.cause
+    run_ends takes outcome before after (inr run) = elim (each run.input outcome (world before.shelf run.between) after run.runs) [
       | inl answer ↦ inl answer
       | inr fault ↦
-          inr (faulted_later task outcome before (world before.shelf run.between) after (takes_moves before (world before.shelf run.between) refl run.takes.only) (taken_sure run.input before run.between run.takes) fault)
+          inr (faulted_later task files outcome before (world before.shelf run.between) after (takes_moves before (world before.shelf run.between) refl run.takes.only) (taken_sure run.input before run.between run.takes) fault)
     ]
 
-    pub run_moves :
-        ((input : List ℕ) (outcome : Outcome) (before after : World) → Runs input outcome before after → Moves before after)
-        → (outcome : Outcome) (before after : World) → TakesAndRuns Runs outcome before after → Moves before after
-    run_moves each outcome before after (inl lacks) = takes_moves before after lacks.shelf lacks.untaken.only
-    run_moves each outcome before after (inr run) =
-        moves_on before (world before.shelf run.between) after (takes_moves before (world before.shelf run.between) refl run.takes.only)
-        (each run.input outcome (world before.shelf run.between) after run.runs)
-
-    -- a run whose answers are given takes no input
+    -- a command takes input with these files unless the answers are given; a run whose answers are given takes none
     pub unless_ends :
-        ((input : List ℕ) (outcome : Outcome) (before after : World) → Runs input outcome before after → IsAnswer outcome ⊎ IsFaulted task outcome before after)
-        → (answered : Bool) (outcome : Outcome) (before after : World) → TakesUnlessAnswered answered Runs outcome before after → IsAnswer outcome ⊎ IsFaulted task outcome before after
-    unless_ends each true outcome before after runs = each [] outcome before after runs
-    unless_ends each false outcome before after runs = run_ends each outcome before after runs
+        (answered : Bool) → task.takes files ≡ not answered → (outcome : Outcome) (before after : World) → TakesUnlessAnswered answered Runs outcome before after →
+        IsAnswer outcome ⊎ IsFaulted task files outcome before after
+    unless_ends true takes outcome before after runs = each [] outcome before after runs
+    unless_ends false takes outcome before after runs = run_ends takes outcome before after runs
 
-    pub unless_moves :
-        ((input : List ℕ) (outcome : Outcome) (before after : World) → Runs input outcome before after → Moves before after)
-        → (answered : Bool) (outcome : Outcome) (before after : World) → TakesUnlessAnswered answered Runs outcome before after → Moves before after
-    unless_moves each true outcome before after runs = each [] outcome before after runs
-    unless_moves each false outcome before after runs = run_moves each outcome before after runs
+module _ (Runs : List ℕ → Outcome → World → World → Type 0) (each : (input : List ℕ) (outcome : Outcome) (before after : World) → Runs input outcome before after → Moves before after) where
+  pub run_moves : (outcome : Outcome) (before after : World) → TakesAndRuns Runs outcome before after → Moves before after
+  run_moves outcome before after (inl lacks) = takes_moves before after lacks.shelf lacks.untaken.only
+  run_moves outcome before after (inr run) =
+      moves_on before (world before.shelf run.between) after (takes_moves before (world before.shelf run.between) refl run.takes.only)
+      (each run.input outcome (world before.shelf run.between) after run.runs)
+
+  pub unless_moves : (answered : Bool) (outcome : Outcome) (before after : World) → TakesUnlessAnswered answered Runs outcome before after → Moves before after
+  unless_moves true outcome before after runs = each [] outcome before after runs
+  unless_moves false outcome before after runs = run_moves outcome before after runs

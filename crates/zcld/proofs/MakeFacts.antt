@@ -53,10 +53,10 @@ module _ (prefix : Option (List ℕ)) (number functions : ℕ) where
 
   make_ends :
       (files : List (List ℕ)) (outcome : Outcome) (before after : World) → MakeWork prefix number functions files outcome before after →
-      IsAnswer outcome ⊎ IsFaulted task outcome before after
+      IsAnswer outcome ⊎ IsFaulted task files outcome before after
   make_ends files outcome before after (inl without) = inl (subst IsAnswer (sym without.0.outcome_is) (load_answers without.0.end))
   make_ends files outcome before after (inr put) =
-      output_ends task (record { files = object_files prefix (made_objects number functions); text = put.text })
+      output_ends task files (record { files = object_files prefix (made_objects number functions); text = put.text })
       (names_or_none prefix (made_objects number functions)) outcome before after put.done
 
   make_moves :

@@ -31,8 +31,8 @@ put_then_printed OutOfMemory files text before between desk after put printed = 
 put_then_printed other files text before between desk after put printed = absurd printed
 
 -- a put or a write that failed was counted, at an outside that isn't sure; a command that puts nothing has no files
-module _ (task : Task) (output : Output) (puts : IsTrue task.puts ⊎ (output.files ≡ [])) where
-  pub output_ends : (outcome : Outcome) (before after : World) → PutsInTurn outcome output before after → IsAnswer outcome ⊎ IsFaulted task outcome before after
+module _ (task : Task) (files : List (List ℕ)) (output : Output) (puts : IsTrue task.puts ⊎ (output.files ≡ [])) where
+  pub output_ends : (outcome : Outcome) (before after : World) → PutsInTurn outcome output before after → IsAnswer outcome ⊎ IsFaulted task files outcome before after
   output_ends Done before after put = inl tt
   output_ends OutOfMemory before after put = inl tt
   output_ends WriteFault before after put = inr (record {
@@ -47,11 +47,11 @@ module _ (task : Task) (output : Output) (puts : IsTrue task.puts ⊎ (output.fi
 
 -- a put that failed was counted, at a store that isn't sure
 pub unput_ends :
-    (task : Task) → IsTrue task.puts → (outcome : Outcome) (before after : World) → UnputCause outcome before.shelf after.shelf →
-    IsAnswer outcome ⊎ IsFaulted task outcome before after
-unput_ends task puts WriteFault before after cause = inr (record { known = λ e. cc; counted = λ clean. clean.put puts cause.0; unsure = λ sure. cause.1 sure.store })
-unput_ends task puts OutOfMemory before after cause = inl tt
-unput_ends task puts other before after cause = absurd cause
+    (task : Task) (files : List (List ℕ)) → IsTrue task.puts → (outcome : Outcome) (before after : World) →
+    UnputCause outcome before.shelf after.shelf → IsAnswer outcome ⊎ IsFaulted task files outcome before after
+unput_ends task files puts WriteFault before after cause = inr (record { known = λ e. cc; counted = λ clean. clean.put puts cause.0; unsure = λ sure. cause.1 sure.store })
+unput_ends task files puts OutOfMemory before after cause = inl tt
+unput_ends task files puts other before after cause = absurd cause
 
 -- only files were put, and only the text was written
 pub output_moves : (before after : World) → OnlyPuts before.shelf after.shelf → OnlyWrites before.desk after.desk → Moves before after

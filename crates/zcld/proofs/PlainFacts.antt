@@ -19,10 +19,10 @@ module _ (options : Options) (out : List ℕ) (objects : List (List ℕ)) where
 
   plain_ends :
       (files : List (List ℕ)) (outcome : Outcome) (before after : World) → PlainWork options out files outcome before after →
-      IsAnswer outcome ⊎ IsFaulted task outcome before after
+      IsAnswer outcome ⊎ IsFaulted task files outcome before after
   plain_ends files outcome before after (inl memory) = inl (no_memory outcome memory.0)
   plain_ends files outcome before after (inr put) =
-      output_ends task (plain_output out put.link.elf (plain_line put.link.plain.text)) (inl refl) outcome before after put.done
+      output_ends task files (plain_output out put.link.elf (plain_line put.link.plain.text)) (inl refl) outcome before after put.done
 
   plain_moves : (files : List (List ℕ)) (outcome : Outcome) (before after : World) → PlainWork options out files outcome before after → Moves before after
   plain_moves files outcome before after (inl memory) = subst (λ w. Moves before w) (sym memory.1) (no_moves before)

@@ -31,10 +31,10 @@ module _ {A : Type 0} (options : Options) (Breaks : Inputs → ℕ → Fault →
   module _ (names : List (List ℕ)) where
     rewrite_ends :
         (files : List (List ℕ)) (outcome : Outcome) (before after : World) → Work files outcome before after →
-        IsAnswer outcome ⊎ IsFaulted (rewrite_task options names) outcome before after
+        IsAnswer outcome ⊎ IsFaulted (rewrite_task options names) files outcome before after
     rewrite_ends files outcome before after (inl memory) = inl (no_memory outcome memory.0)
     rewrite_ends files outcome before after (inr (inl breaks)) = inl (subst IsAnswer (sym breaks.outcome_is) tt)
-    rewrite_ends files outcome before after (inr (inr put)) = output_ends (rewrite_task options names) (output put.results) (inl refl) outcome before after put.done
+    rewrite_ends files outcome before after (inr (inr put)) = output_ends (rewrite_task options names) files (output put.results) (inl refl) outcome before after put.done
 
     rewrite_moves : (files : List (List ℕ)) (outcome : Outcome) (before after : World) → Work files outcome before after → Moves before after
     rewrite_moves files outcome before after (inl memory) = subst (λ w. Moves before w) (sym memory.1) (no_moves before)

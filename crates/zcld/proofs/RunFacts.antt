@@ -1,5 +1,5 @@
 -- What is known of `run`: its refusals, how its work ends, and what that does to the counts.
-use Rattle.std.proofs.Common.{◌≡◌, ℕ, List, Option, Some, None, Result, Ok, Err, refl, subst, ◌⊎◌, inl, inr}
+use Rattle.std.proofs.Common.{◌≡◌, ℕ, List, Option, Some, None, Result, Ok, Err, refl, ap, subst, ◌⊎◌, inl, inr}
 use Rattle.std.proofs.lemmas.Option.{same_Some, none-some}
 use Rattle.std.specs.Option.{option_map, option_or}
 use Rattle.devices.specs.Environment.{Environment, environment_of}
@@ -23,7 +23,7 @@ use Rattle.zcld.specs.declared.outcome.FileFault.TheVariants.{Devices, Image, Pl
 use Rattle.zcld.specs.declared.outcome.Outcome.{Outcome}
 use Rattle.zcld.specs.declared.outcome.Outcome.TheVariants.{BadFile, OutOfMemory}
 use Rattle.zcld.specs.Call.{task_of}
-use Rattle.zcld.specs.Given.{devices_refusal, lines_given}
+use Rattle.zcld.specs.Given.{devices_refusal, lines_given, wants_input}
 use Rattle.zcld.specs.Outcome.{plan_outcome}
 use Rattle.zcld.specs.Run.{EndsRun, RunTexts, RunWork, Runs, end_outcome, plan_given, plan_refusal, run_refusal, run_texts}
 use Rattle.zcld.specs.Task.{Task}
@@ -75,13 +75,13 @@ module _ (map : MemMap) (devices plan : Option (List ℕ)) (steps : ℕ) (image 
   run_facts = record {
     refuses = λ files. run_refuses map (texts_of files);
     ends = λ files outcome before after work.
-        unless_ends task refl (λ input. Runs (first_of files) work.plan steps (environment_of work.lines steps input))
+        unless_ends task files (λ input. Runs (first_of files) work.plan steps (environment_of work.lines steps input))
         (λ input.
         let environment = environment_of work.lines steps input in
-        executed_ends task (EndsRun (first_of files) (interrupts_by work.plan) steps environment) end_outcome (end_of_run (first_of files) (interrupts_by work.plan) steps environment))
-        (has_answers work.lines) outcome before after work.run;
+        executed_ends (EndsRun (first_of files) (interrupts_by work.plan) steps environment) end_outcome task files (end_of_run (first_of files) (interrupts_by work.plan) steps environment))
+        (has_answers work.lines) (ap wants_input work.named) outcome before after work.run;
     moves = λ files outcome before after work.
-        unless_moves task refl (λ input. Runs (first_of files) work.plan steps (environment_of work.lines steps input))
-        (λ input. executed_moves task (EndsRun (first_of files) (interrupts_by work.plan) steps (environment_of work.lines steps input)) end_outcome)
+        unless_moves (λ input. Runs (first_of files) work.plan steps (environment_of work.lines steps input))
+        (λ input. executed_moves (EndsRun (first_of files) (interrupts_by work.plan) steps (environment_of work.lines steps input)) end_outcome)
         (has_answers work.lines) outcome before after work.run;
   }

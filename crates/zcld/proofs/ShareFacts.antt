@@ -65,18 +65,18 @@ module _ (options : Options) (out plan : List ℕ) (steps : ℕ) (names : List (
   abbrev task : Task
   task = task_of (Share options out plan steps names)
 
-  module _ (image : List ℕ) (first : ZcCore) (happens : ℕ → ZcCore → ZcCore) (input : List ℕ) where
+  module _ (files : List (List ℕ)) (image : List ℕ) (first : ZcCore) (happens : ℕ → ZcCore → ZcCore) (input : List ℕ) where
     put_moves : (before : World) (between : Shelf) (only : OnlyPuts before.shelf between) → Moves before (world between before.desk)
     put_moves before between only = output_moves before (world between before.desk) only (OnlyWrites-refl before.desk)
 
     run_put_ends :
-        (outcome : Outcome) (before after : World) → PutsAndRuns out image (RunsFrom first happens steps) input outcome before after → IsAnswer outcome ⊎ IsFaulted task outcome before after
+        (outcome : Outcome) (before after : World) → PutsAndRuns out image (RunsFrom first happens steps) input outcome before after → IsAnswer outcome ⊎ IsFaulted task files outcome before after
     run_put_ends outcome before after (inl memory) = inl (no_memory outcome memory.0)
-    run_put_ends outcome before after (inr (inl unput)) = unput_ends task refl outcome before after unput.cause
+    run_put_ends outcome before after (inr (inl unput)) = unput_ends task files refl outcome before after unput.cause
     run_put_ends outcome before after (inr (inr put)) =
-        elim (ended_ends task (EndsRun first happens steps (only_input input)) end_outcome (end_of_run first happens steps (only_input input)) outcome (world put.between before.desk) after put.does) [
+        elim (ended_ends (EndsRun first happens steps (only_input input)) end_outcome task files (end_of_run first happens steps (only_input input)) outcome (world put.between before.desk) after put.does) [
           | inl answer ↦ inl answer
-          | inr fault ↦ inr (faulted_later task outcome before (world put.between before.desk) after (put_moves before put.between put.only)
+          | inr fault ↦ inr (faulted_later task files outcome before (world put.between before.desk) after (put_moves before put.between put.only)
               (λ sure. record { store = put.only.sure ∙ sure.store; console = sure.console; input = sure.input }) fault)
         ]
 
@@ -85,7 +85,7 @@ module _ (options : Options) (out plan : List ℕ) (steps : ℕ) (names : List (
     run_put_moves outcome before after (inr (inl unput)) = output_moves before after unput.only (subst (λ d. OnlyWrites before.desk d) (sym unput.desk) (OnlyWrites-refl before.desk))
     run_put_moves outcome before after (inr (inr put)) =
         moves_on before (world put.between before.desk) after (put_moves before put.between put.only)
-        (ended_moves task (EndsRun first happens steps (only_input input)) end_outcome outcome (world put.between before.desk) after put.does)
+        (ended_moves (EndsRun first happens steps (only_input input)) end_outcome outcome (world put.between before.desk) after put.does)
 
   -- what happens before the commits, by the files and a plan
   abbrev happens_by : List (List ℕ) → List SharedEntry → ℕ → ZcCore → ZcCore
@@ -95,15 +95,15 @@ module _ (options : Options) (out plan : List ℕ) (steps : ℕ) (names : List (
   abbrev runs_by : List (List ℕ) → Link → List SharedEntry → List ℕ → Outcome → World → World → Type 0
   runs_by files link entries = RunsFrom (first_core_of link.elf options.map) (happens_by files entries) steps
 
-  share_ends : (files : List (List ℕ)) (outcome : Outcome) (before after : World) → ShareWork options out steps files outcome before after → IsAnswer outcome ⊎ IsFaulted task outcome before after
+  share_ends : (files : List (List ℕ)) (outcome : Outcome) (before after : World) → ShareWork options out steps files outcome before after → IsAnswer outcome ⊎ IsFaulted task files outcome before after
   share_ends files outcome before after (inl memory) = inl (no_memory outcome memory.0)
   share_ends files outcome before after (inr work) =
-      run_ends task refl (PutsAndRuns out work.link.elf (runs_by files work.link work.plan)) (run_put_ends work.link.elf (first_core_of work.link.elf options.map) (happens_by files work.plan)) outcome before after work.run
+      run_ends task files (PutsAndRuns out work.link.elf (runs_by files work.link work.plan)) (run_put_ends files work.link.elf (first_core_of work.link.elf options.map) (happens_by files work.plan)) refl outcome before after work.run
 
   share_moves : (files : List (List ℕ)) (outcome : Outcome) (before after : World) → ShareWork options out steps files outcome before after → Moves before after
   share_moves files outcome before after (inl memory) = subst (λ w. Moves before w) (sym memory.1) (no_moves before)
   share_moves files outcome before after (inr work) =
-      run_moves task refl (PutsAndRuns out work.link.elf (runs_by files work.link work.plan)) (run_put_moves work.link.elf (first_core_of work.link.elf options.map) (happens_by files work.plan)) outcome before after work.run
+      run_moves (PutsAndRuns out work.link.elf (runs_by files work.link work.plan)) (run_put_moves files work.link.elf (first_core_of work.link.elf options.map) (happens_by files work.plan)) outcome before after work.run
 
   pub share_facts : Facts task (ShareWork options out steps)
   share_facts = record {

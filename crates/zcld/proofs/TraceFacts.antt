@@ -32,7 +32,7 @@ use Rattle.zcld.specs.declared.outcome.Outcome.{Outcome}
 use Rattle.zcld.specs.declared.outcome.Outcome.TheVariants.{BadFile, OutOfMemory, Refused}
 use Rattle.zcld.specs.Call.{DoesWith, task_of}
 use Rattle.zcld.specs.ErrLine.{NamesNothing, err_line}
-use Rattle.zcld.specs.Given.{IsGiven, devices_refusal, lines_given, text_file}
+use Rattle.zcld.specs.Given.{IsGiven, devices_refusal, lines_given, text_file, wants_input}
 use Rattle.zcld.specs.Machines.{AnswersOrTakes}
 use Rattle.zcld.specs.Objects.{IsUngathered, refused_for}
 use Rattle.zcld.specs.Outcome.{link_outcome}
@@ -82,15 +82,15 @@ module _ (options : Options) (devices : Option (List ℕ)) (steps : ℕ) (names 
     refuses = λ files. trace_refuses options (trace_texts devices files);
     ends = λ files outcome before after work.
         let texts = trace_texts devices files in
-        unless_ends task refl (runs texts work.lines)
+        unless_ends task files (runs texts work.lines)
         (λ input.
         let run = course texts (environment_of work.lines steps input) in
-        executed_ends task (Traced run) trace_outcome (end_of_trace run))
-        (has_answers work.lines) outcome before after work.run;
+        executed_ends (Traced run) trace_outcome task files (end_of_trace run))
+        (has_answers work.lines) (ap wants_input work.named) outcome before after work.run;
     moves = λ files outcome before after work.
         let texts = trace_texts devices files in
-        unless_moves task refl (runs texts work.lines)
-        (λ input. executed_moves task (Traced (course texts (environment_of work.lines steps input))) trace_outcome)
+        unless_moves (runs texts work.lines)
+        (λ input. executed_moves (Traced (course texts (environment_of work.lines steps input))) trace_outcome)
         (has_answers work.lines) outcome before after work.run;
   }
 

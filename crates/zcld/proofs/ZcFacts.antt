@@ -27,9 +27,9 @@ module _ (options : Options) (out cert : List ℕ) (objects : List (List ℕ)) w
 
   zc_ends :
       (files : List (List ℕ)) (outcome : Outcome) (before after : World) → ZcWork options out cert files outcome before after →
-      IsAnswer outcome ⊎ IsFaulted task outcome before after
+      IsAnswer outcome ⊎ IsFaulted task files outcome before after
   zc_ends files outcome before after (inl memory) = inl (no_memory outcome memory.0)
-  zc_ends files outcome before after (inr put) = output_ends task (zc_output out cert (fixed_told (parsed (inputs_in options files))) put.link) (inl refl) outcome before after put.done
+  zc_ends files outcome before after (inr put) = output_ends task files (zc_output out cert (fixed_told (parsed (inputs_in options files))) put.link) (inl refl) outcome before after put.done
 
   zc_moves : (files : List (List ℕ)) (outcome : Outcome) (before after : World) → ZcWork options out cert files outcome before after → Moves before after
   zc_moves files outcome before after (inl memory) = subst (λ w. Moves before w) (sym memory.1) (no_moves before)

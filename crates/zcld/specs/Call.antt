@@ -13,6 +13,7 @@ use Rattle.zcld.specs.declared.outcome.Outcome.TheVariants.{Usage, ReadFault, Wr
 use Rattle.zcld.specs.Check.{CheckWork, check_refusal, check_wanted}
 use Rattle.zcld.specs.ErrLine.{err_line}
 use Rattle.zcld.specs.Gc.{GcWork}
+use Rattle.zcld.specs.Given.{lines_given, wants_input}
 use Rattle.zcld.specs.Input.{IsShortInput, RoseAbove}
 use Rattle.zcld.specs.List.{ListWork, list_refusal, list_wanted}
 use Rattle.zcld.specs.Make.{MakeWork}
@@ -34,37 +35,37 @@ task_of (Plain options out objects) = record {
   wanted = objects_wanted objects;
   refusal = objects_refusal options;
   puts = true;
-  takes = false;
+  takes = λ files. false;
 }
 task_of (Zc options out cert objects) = record {
   wanted = objects_wanted objects;
   refusal = objects_refusal options;
   puts = true;
-  takes = false;
+  takes = λ files. false;
 }
 task_of (Run map devices plan steps image) = record {
   wanted = run_wanted devices plan image;
   refusal = λ files. run_refusal map (run_texts devices plan files);
   puts = false;
-  takes = true;
+  takes = λ files. wants_input (lines_given map (run_texts devices plan files).devices);
 }
 task_of (Trace options devices steps objects) = record {
   wanted = trace_wanted devices objects;
   refusal = λ files. trace_refusal options (trace_texts devices files);
   puts = false;
-  takes = true;
+  takes = λ files. wants_input (lines_given options.map (trace_texts devices files).devices);
 }
 task_of (Check cert) = record {
   wanted = check_wanted cert;
   refusal = check_refusal;
   puts = false;
-  takes = false;
+  takes = λ files. false;
 }
 task_of (Make prefix number functions) = record {
   wanted = [];
   refusal = λ files. None;
   puts = is_some prefix;
-  takes = false;
+  takes = λ files. false;
 }
 task_of (Gc options prefix objects) = rewrite_task options objects
 task_of (Merge options prefix objects) = rewrite_task options objects
@@ -72,13 +73,13 @@ task_of (Share options out plan steps objects) = record {
   wanted = share_wanted plan objects;
   refusal = share_refusal options;
   puts = true;
-  takes = true;
+  takes = λ files. true;
 }
 task_of (Listing map image) = record {
   wanted = list_wanted image;
   refusal = list_refusal map;
   puts = false;
-  takes = false;
+  takes = λ files. false;
 }
 
 -- the work of each command, once its files are read and accepted
@@ -141,22 +142,23 @@ pub record IsFileRead (before after : World) : Type 0 where
   pub reads : ¬ Rose before.shelf.read_faults after.shelf.read_faults
   pub longs : ¬ Rose before.shelf.long_files after.shelf.long_files
 
--- nothing was counted that can stop such a command
-pub record IsClean (task : Task) (before after : World) : Type 0 where
+-- nothing was counted that can stop such a command with these files; what is counted of the console's input can stop it only if it may
+-- take that with them, so not if devices answer in its place
+pub record IsClean (task : Task) (files : List (List ℕ)) (before after : World) : Type 0 where
   pub read : IsFileRead before after
   pub put : IsTrue task.puts → ¬ Rose before.shelf.write_faults after.shelf.write_faults
   pub taken :
-      IsTrue task.takes →
+      IsTrue (task.takes files) →
       (¬ Rose before.desk.read_faults after.desk.read_faults)
       × (¬ RoseAbove INPUT_LIMIT before.desk.taken after.desk.taken)
   pub written : ¬ Rose before.desk.write_faults after.desk.write_faults
 
--- the store and the console are sure; and if the command may take the console's input, the console tells that it isn't too
--- long
-pub record IsSure (task : Task) (before : World) : Type 0 where
+-- the store and the console are sure; and if the command may take the console's input with these files, so if no devices answer in its
+-- place, the console tells that it isn't too long
+pub record IsSure (task : Task) (files : List (List ℕ)) (before : World) : Type 0 where
   pub store : IsTrue before.shelf.sure
   pub console : IsTrue before.desk.sure
-  pub input : IsTrue task.takes → IsShortInput before.desk.input
+  pub input : IsTrue (task.takes files) → IsShortInput before.desk.input
 
 -- the outcome is no fault of the outside
 pub record IsNoFault (outcome : Outcome) : Type 0 where
@@ -169,9 +171,10 @@ pub record Answers (task : Task) (outcome : Outcome) (files : List (List ℕ)) (
   pub names :
       (refused : Outcome) → task.refusal files ≡ Some refused → IsFileRead before after →
       (outcome ≡ refused) ⊎ (outcome ≡ OutOfMemory)
-  -- with no error reported, or over an outside that is sure, the outcome is no fault of the outside
-  pub complete : IsClean task before after → IsNoFault outcome
-  pub sure : IsSure task before → IsNoFault outcome
+  -- with no error reported, or over an outside that is sure, the outcome is no fault of the outside; nothing is asked of the console's
+  -- input if the command can't take it with these files
+  pub complete : IsClean task files before after → IsNoFault outcome
+  pub sure : IsSure task files before → IsNoFault outcome
 
 -- what an outside that is sure counts
 pub record CountsFaults (task : Task) (before after : World) : Type 0 where

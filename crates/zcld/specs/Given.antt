@@ -1,8 +1,9 @@
--- Texts that a command may be given beside its image or its objects: which devices one names, and why it is refused.
-use Rattle.std.specs.Prelude.{◌≡◌, ℕ, List, [], ◌∷◌, Option, Some, None, Result, Ok, Err}
+-- Texts that a command may be given beside its image or its objects: which devices one names, why it is refused, and whether its
+-- answers stand in the place of the console's input.
+use Rattle.std.specs.Prelude.{◌≡◌, ℕ, Bool, false, not, List, [], ◌∷◌, Option, Some, None, Result, Ok, Err}
 use Rattle.std.specs.Global.{Vec}
 use Rattle.std.specs.Option.{option_map, option_map_or}
-use Rattle.devices.specs.Lines.{DevicesLine}
+use Rattle.devices.specs.Lines.{DevicesLine, has_answers}
 use Rattle.devices.specs.Text.{devices_in}
 use Rattle.devices.specs.declared.fault.DevicesFault.{DevicesFault}
 use Rattle.devices.specs.declared.read_devices.TheConstants.{DEVICES_LIMIT}
@@ -45,3 +46,9 @@ lines_given map text = option_map_or (devices_in map) text (Ok [])
 abbrev pub devices_refusal : {A : Type 0} → Result A DevicesFault → Option Outcome
 devices_refusal (Ok lines) = None
 devices_refusal (Err fault) = Some (BadFile (Devices fault))
+
+-- whether the console's input is taken where a text of devices is read like this: not where the devices have answers, which stand in its
+-- place, nor where the text is refused
+abbrev pub wants_input : Result (List DevicesLine) DevicesFault → Bool
+wants_input (Ok lines) = not (has_answers lines)
+wants_input (Err fault) = false

@@ -17,7 +17,7 @@ rewrite_task options objects = record {
   wanted = objects_wanted objects;
   refusal = objects_refusal options;
   puts = true;
-  takes = false;
+  takes = λ files. false;
 }
 
 -- the objects have no fault, but the results would, and nothing was done

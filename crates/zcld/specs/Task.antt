@@ -6,13 +6,13 @@ use Rattle.zc_outside.specs.World.{World}
 use Rattle.zcld.specs.declared.outcome.Outcome.{Outcome}
 use Rattle.zcld.specs.declared.outcome.Outcome.TheVariants.{ReadFault, OutOfMemory}
 
--- what a command does outside: it reads these files, and refuses them by their bytes, or not; it puts files, or not; it
--- may take the console's input, or not; and it writes to the console
+-- what a command does outside: it reads these files, and refuses them by their bytes, or not; it puts files, or not; with files of these
+-- bytes it may take the console's input, or not; and it writes to the console
 pub record Task : Type 0 where
   pub wanted : List Wanted
   pub refusal : List (List ℕ) → Option Outcome
   pub puts : Bool
-  pub takes : Bool
+  pub takes : List (List ℕ) → Bool
 
 -- the first of the files that were read
 abbrev pub first_file : List (List ℕ) → List ℕ
