@@ -69,7 +69,7 @@ fn data_part(
     requires data { is_code_section section.now.section ≡ false }
     ensures { IfOk result (λ part. part
         ≡ without_mark (merged_section (parsed given.now.cut.now)
-            section.now.object section.now.index section.now.section)) }
+        section.now.object section.now.index section.now.section)) }
 {
     let name = Vec::from_slice(alloc, header.name)?;
     let bytes = Vec::from_slice(alloc, header.bytes)?;
