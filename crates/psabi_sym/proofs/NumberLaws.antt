@@ -1,7 +1,7 @@
 -- Laws of numbers of names: a name keeps its number as names are added, and two names have one number if they are one.
 use Rattle.std.proofs.Common.{◌≡◌, ℕ, ◌+◌, ◌<◌, ◌≤◌, Bool, true, false, cond, eqb, not, ◌&&◌, ◌||◌, List, [], ◌∷◌, ◌++◌, length, refl, sym, ap, ◌∙◌, arith, ◌⊎◌, inl, inr, length-append}
-use Rattle.std.specs.List.{list_any}
-use Rattle.std.proofs.lemmas.Bool.{and_parts, cases_Bool, cases_eq, eq-eqb, eqb-true, ne_eqb}
+use Rattle.std.specs.List.{list_any, position_or_len}
+use Rattle.std.proofs.lemmas.Bool.{and_parts, cases_Bool, cases_eq, eq-eqb, eqb-true, ne_eqb, or_parts}
 use Rattle.std.proofs.lemmas.List.Folds.{position_or_len_push}
 use Rattle.std.proofs.lemmas.Slice.Eq.{bytes_eq-Decides}
 use Rattle.elf32_read.specs.Parts.{SymbolParts}
@@ -27,6 +27,21 @@ same_swap first second = by (cases_Bool (same_name first second)) (cases_Bool (s
     by (inr e) (inr f) = e ∙ sym f
 
 -- ---- numbers
+
+-- what passes a test has a place, and else the place is after the last
+pub position_within : {X : Type 0} (test : X → Bool) (xs : List X) → list_any test xs ≡ true → position_or_len test xs < length xs
+position_within test [] e = absurd (cc e)
+position_within test (x ∷ xs) e = by (test x) refl (position_within test xs)
+  where
+    by : (b : Bool) → test x ≡ b → (list_any test xs ≡ true → position_or_len test xs < length xs) → position_or_len test (x ∷ xs) < length (x ∷ xs)
+    by true f rest = omega (arith, ap (λ b. cond (not b) (1 + position_or_len test xs) 0) f)
+    by false f rest = omega (arith, ap (λ b. cond (not b) (1 + position_or_len test xs) 0) f, rest (sym (ap (λ b. b || list_any test xs) f) ∙ e))
+
+pub position_last : {X : Type 0} (test : X → Bool) (xs : List X) → list_any test xs ≡ false → position_or_len test xs ≡ length xs
+position_last test [] none = refl
+position_last test (x ∷ xs) none =
+    let parts = or_parts (test x) (list_any test xs) none in
+    omega (arith, ap (λ b. cond (not b) (1 + position_or_len test xs) 0) parts.0, position_last test xs parts.1)
 
 -- the number of a name that is added
 pub number_added : (names : List (List ℕ)) (name : List ℕ) → name_number (with_name names name) name ≡ name_number names name

@@ -1,22 +1,23 @@
 -- Laws of tails. Tails keep their numbers as more are added (`tails_more`, `extends_with`), so keys and ends stay those of the
--- same texts (`keys_extend`, `end_extends`). From the end of a name at the next byte follows that at this one: the name is longer
+-- same texts (`numbered_extend`, `end_extends`). From the end of a name at the next byte follows that at this one: the name is longer
 -- by the byte (`name_step`), and its tail is the same (`end_more`), or a block and that tail (`block_key`), which is then numbered
 -- (`block_added`).
 use Rattle.std.proofs.Common.{◌≡◌, ℕ, ◌+◌, ◌-◌, ◌%◌, ◌<◌, ◌≤◌, ◌≢◌, Bool, true, false, cond, eqb, not, ◌||◌, List, [], ◌∷◌, ◌++◌, suc, length, get_or, take, drop, refl, sym, ap, ◌∙◌, arith, ◌⊎◌, inl, inr, Bor, length-append, length-take, length-drop, add-one, subst}
 use Rattle.std.specs.Prelude.{◌==◌}
+use Rattle.std.specs.BTreeMap.{BTreeMap}
 use Rattle.std.specs.List.{list_any, prefix_len, take_while}
 use Rattle.std.proofs.Math.Seq.{drop-cons, get_or-append_seam}
-use Rattle.std.proofs.lemmas.Bool.{cases_lt, ne_eqb, or_parts}
+use Rattle.std.proofs.lemmas.Bool.{cases_lt, ne_eqb}
 use Rattle.std.proofs.lemmas.List.{drop_all, get_or-append-add, get_or_append_left, take-append-drop}
 use Rattle.std.proofs.lemmas.List.Elements.{All-push}
 use Rattle.std.proofs.lemmas.List.Sums.{prefix_len-le-length, take_while-cons}
 use Rattle.elf32_read.specs.Names.{name_at}
-use Rattle.psabi_sym.specs.Invariants.Keys.{AreKeys, AreNameEnds, AreTails, AreTextBlocks, Extends, IsAdded, IsEnd, IsKey, lent, tails_of}
+use Rattle.psabi_sym.specs.Invariants.Keys.{AreKeys, AreNameEnds, AreNumberedTexts, AreTails, AreTextBlocks, Extends, IsAdded, IsEnd, IsKey, hash_of, lent, tails_of}
 use Rattle.psabi_sym.specs.Names.{same_name}
 use Rattle.psabi_sym.specs.Invariants.Rows.{name_number, with_name}
 use Rattle.psabi_sym.specs.declared.key.Key.{Key}
 use Rattle.psabi_sym.specs.declared.name_ends.NameEnd.{NameEnd}
-use Rattle.psabi_sym.proofs.NumberLaws.{number_added, number_kept, same_is}
+use Rattle.psabi_sym.proofs.NumberLaws.{number_added, number_kept, position_last, same_is}
 
 -- ---- numbers
 
@@ -31,13 +32,6 @@ number_get (x ∷ xs) t d within = by (same_name t x) refl (number_get xs t d)
         ap (λ b. get_or (x ∷ xs) (cond (not b) (1 + name_number xs t) 0) d) e
         ∙ get_or-append-add (x ∷ []) xs (name_number xs t) d
         ∙ rest (omega (arith, within, ap (λ b. cond (not b) (1 + name_number xs t) 0) e))
-
--- what isn't there has the number after the last
-number_last : (names : List (List ℕ)) (t : List ℕ) → list_any (same_name t) names ≡ false → name_number names t ≡ length names
-number_last [] t none = refl
-number_last (x ∷ xs) t none =
-    let parts = or_parts (same_name t x) (list_any (same_name t) xs) none in
-    omega (arith, ap (λ b. cond (not b) (1 + name_number xs t) 0) parts.0, number_last xs t parts.1)
 
 -- ---- more tails
 
@@ -73,7 +67,7 @@ tails_more tails t are whole = by (list_any (same_name t) tails) refl
         at k within (inr new) =
             let last : k ≡ length tails = omega (arith, new, within, length-append tails (t ∷ [])) in
             ap (λ n. name_number more (get_or more n [])) last ∙ ap (name_number more) (get_or-append_seam tails t [] [])
-            ∙ ap (λ l. name_number l t) (sym grown) ∙ number_added tails t ∙ number_last tails t e ∙ sym last
+            ∙ ap (λ l. name_number l t) (sym grown) ∙ number_added tails t ∙ position_last (same_name t) tails e ∙ sym last
 
 pub extends_trans : {a b c : List (List ℕ)} → Extends a b → Extends b c → Extends a c
 extends_trans {a} {b} {c} first second = record {
@@ -84,18 +78,26 @@ extends_trans {a} {b} {c} first second = record {
 pub extends_same : (a : List (List ℕ)) → Extends a a
 extends_same a = record { longer = omega arith; kept = λ k within. refl }
 
-pub keys_extend : (blocks : ℕ) (tails tails' : List (List ℕ)) → Extends tails tails' → (keys : List Key) (texts : List (List ℕ)) → AreKeys blocks tails keys texts → AreKeys blocks tails' keys texts
+keys_extend : (blocks : ℕ) (tails tails' : List (List ℕ)) → Extends tails tails' → (keys : List Key) (texts : List (List ℕ)) → AreKeys blocks tails keys texts → AreKeys blocks tails' keys texts
 keys_extend blocks tails tails' more [] [] all = tt
 keys_extend blocks tails tails' more [] (t ∷ texts) all = absurd all
 keys_extend blocks tails tails' more (k ∷ keys) [] all = absurd all
 keys_extend blocks tails tails' more (k ∷ keys) (t ∷ texts) all = (
   record {
+    hash = all.0.hash;
     part = all.0.part;
     rest = omega (arith, all.0.rest, more.longer);
     text_is = all.0.text_is ∙ ap (λ l. k.part.now ++ l) (sym (more.kept k.rest all.0.rest));
   },
   keys_extend blocks tails tails' more keys texts all.1,
 )
+
+pub numbered_extend : (blocks : ℕ) (tails tails' : List (List ℕ)) → Extends tails tails' → (numbers : BTreeMap Key ℕ) (texts : List (List ℕ)) → AreNumberedTexts blocks tails numbers texts → AreNumberedTexts blocks tails' numbers texts
+numbered_extend blocks tails tails' more numbers texts all = record {
+  keys = all.keys;
+  keys_are = keys_extend blocks tails tails' more all.keys texts all.keys_are;
+  places = all.places;
+}
 
 pub end_extends : (tails tails' : List (List ℕ)) (name : List ℕ) (end : NameEnd) → Extends tails tails' → IsEnd tails name end → IsEnd tails' name end
 end_extends tails tails' name end more is = record {
@@ -157,10 +159,11 @@ module _ (tails : List (List ℕ)) (x : ℕ) (name name' : List ℕ) (step : nam
     tail_is = tail_from ((next.length + 1) % 64) (omega (arith, some));
   }
 
-  pub block_key : (next.length + 1) % 64 ≡ 0 → (key : Key) (text : List ℕ) → text ≡ name → key.part.now ≡ take 64 text → key.rest ≡ next.tail → IsKey 1 tails key text
-  block_key none key text same part rest =
+  pub block_key : (next.length + 1) % 64 ≡ 0 → (key : Key) (text : List ℕ) → text ≡ name → key.hash ≡ hash_of key.part.now → key.part.now ≡ take 64 text → key.rest ≡ next.tail → IsKey 1 tails key text
+  block_key none key text same hash part rest =
       let long : 64 ≤ length text = omega (arith, none, ap length same, ap length step, is.length_is) in
       record {
+        hash = hash;
         part = omega (arith, ap length part, length-take 64 text, long);
         rest = omega (arith, rest, is.tail);
         text_is =
@@ -169,7 +172,7 @@ module _ (tails : List (List ℕ)) (x : ℕ) (name name' : List ℕ) (step : nam
       }
 
 -- a block is numbered
-module _ (keys keys' : List Key) (texts texts' : List (Bor (List ℕ))) (are : AreTextBlocks keys texts) (x : ℕ) (name name' : List ℕ) (step : name ≡ x ∷ name') (whole : length name % 64 ≡ 0) (n : ℕ) (is : IsAdded 1 (tails_of texts) (lent texts) (lent texts') keys' name n) where
+module _ (numbers numbers' : BTreeMap Key ℕ) (texts texts' : List (Bor (List ℕ))) (are : AreTextBlocks numbers texts) (x : ℕ) (name name' : List ℕ) (step : name ≡ x ∷ name') (whole : length name % 64 ≡ 0) (n : ℕ) (is : IsAdded 1 (tails_of texts) (lent texts) (lent texts') numbers' name n) where
   grown : tails_of texts' ≡ with_name (tails_of texts) name
   grown = ap (λ l. [] ∷ l) is.texts_are ∙ subst (λ t. [] ∷ with_name (lent texts) t ≡ with_name (tails_of texts) t) (sym step) (by (list_any (same_name (x ∷ name')) (lent texts)))
     where
@@ -180,10 +183,10 @@ module _ (keys keys' : List Key) (texts texts' : List (Bor (List ℕ))) (are : A
   pub block_extends : Extends (tails_of texts) (tails_of texts')
   block_extends = subst (λ t. Extends (tails_of texts) t) (sym grown) (extends_with (tails_of texts) name)
 
-  pub block_added : AreTextBlocks keys' texts'
+  pub block_added : AreTextBlocks numbers' texts'
   block_added = record {
     tails = subst AreTails (sym grown) (tails_more (tails_of texts) name are.tails whole);
-    keys_are = keys_extend 1 (tails_of texts) (tails_of texts') block_extends keys' (lent texts') is.keys_are;
+    numbered = numbered_extend 1 (tails_of texts) (tails_of texts') block_extends numbers' (lent texts') is.numbered;
   }
 
   pub block_end : (long : ℕ) → long ≡ length name → IsEnd (tails_of texts') name (record { length = long; tail = n + 1 })
@@ -199,8 +202,9 @@ module _ (keys keys' : List Key) (texts texts' : List (Bor (List ℕ))) (are : A
       }
 
 -- a name of a table has a key
-pub end_key : (tails : List (List ℕ)) (name : List ℕ) (end : NameEnd) → IsEnd tails name end → (key : Key) (text : List ℕ) → text ≡ name → key.part.now ≡ take (end.length % 64) text → key.rest ≡ end.tail → IsKey 0 tails key text
-end_key tails name end is key text same part rest = record {
+pub end_key : (tails : List (List ℕ)) (name : List ℕ) (end : NameEnd) → IsEnd tails name end → (key : Key) (text : List ℕ) → text ≡ name → key.hash ≡ hash_of key.part.now → key.part.now ≡ take (end.length % 64) text → key.rest ≡ end.tail → IsKey 0 tails key text
+end_key tails name end is key text same hash part rest = record {
+  hash = hash;
   part = omega (arith, ap length part, length-take (end.length % 64) text, ap length same, is.length_is);
   rest = omega (arith, rest, is.tail);
   text_is =

@@ -26,7 +26,7 @@ fn end_before<'a>(
 ) -> Result<NameEnd, AllocError>
     requires inside { (at < length table.now) × (length table.now ≤ 0x40_0000) }
     requires room { length tails.old.texts.items + 1 < 2 ^ 32 }
-    requires tails { AreTextBlocks tails.old.keys.keys tails.old.texts.items }
+    requires tails { AreTextBlocks tails.old.numbers tails.old.texts.items }
     requires next { IsEnd (tails_of tails.old.texts.items) (name_at table.now (at + 1)) next }
     ensures grown { OnOk result (HaveMoreTexts tails.old tails.new 1) }
     ensures end { IfOk result (IsEnd (tails_of tails.new.texts.items) (name_at table.now at)) }
@@ -42,11 +42,8 @@ fn end_before<'a>(
         });
     }
     let name = &table[at..at + length as usize];
-    let key = Key {
-        part: &name[..BLOCK],
-        rest: next.tail,
-    };
-    let number = tails.number(key, name)? as u32;
+    let key = Key::new(&name[..BLOCK], next.tail);
+    let number = tails.number(key, name)?;
     Ok(NameEnd {
         length,
         tail: number + 1,
@@ -61,7 +58,7 @@ pub fn name_ends<'a>(
 ) -> Result<Vec<NameEnd>, AllocError>
     requires few { length table.now ≤ 0x40_0000 }
     requires room { length tails.old.texts.items ≤ 2 ^ 31 }
-    requires tails { AreTextBlocks tails.old.keys.keys tails.old.texts.items }
+    requires tails { AreTextBlocks tails.old.numbers tails.old.texts.items }
     ensures grown { OnOk result (HaveMoreTexts tails.old tails.new (length table.now)) }
     ensures ends { IfOk result (λ ends. AreNameEnds tails.new.texts.items table.now ends.items) }
 {
@@ -86,19 +83,10 @@ pub fn name_with_key<'a>(table: &'a [u8], ends: &[NameEnd], at: u32) -> (&'a [u8
     let rest = &table[table.len().min(at as usize)..];
     if let Some(length) = short_length(rest) {
         let name = &rest[..length];
-        return (
-            name,
-            Key {
-                part: name,
-                rest: 0,
-            },
-        );
+        return (name, Key::new(name, 0));
     }
     let end = ends[at as usize];
     let name = &rest[..end.length as usize];
-    let key = Key {
-        part: &name[..end.length as usize % BLOCK],
-        rest: end.tail,
-    };
+    let key = Key::new(&name[..end.length as usize % BLOCK], end.tail);
     (name, key)
 }

@@ -59,7 +59,7 @@ impl<'a> Names<'a> {
     {
         let (name, key) = name_with_key(table, ends, at);
         let number = self.names.number(key, name)?;
-        Ok(number as u32)
+        Ok(number)
     }
 
     /// The names, by their numbers. What they were numbered by is let go.

@@ -1,8 +1,14 @@
 -- Names that are told apart by a part of a bounded length and the number of the rest, so that names that end alike aren't read
 -- whole.
 use Rattle.std.specs.Borrow.{Bor}
-use Rattle.std.specs.Prelude.{◌≡◌, ◌+◌, ◌/◌, ◌%◌, ◌<◌, ◌≤◌, ℕ, List, [], ◌∷◌, ◌++◌, length, map, drop, All, slice_index_or}
+use Rattle.std.specs.Prelude.{◌≡◌, ◌+◌, ◌/◌, ◌%◌, ◌^◌, ◌<◌, ◌≤◌, ◌==◌, ◌&&◌, ℕ, Bool, if◌then◌else◌, Option, Some, None, List, [], ◌∷◌, ◌++◌, length, map, drop, All, slice_index_or}
+use Rattle.std.specs.BTreeMap.{BTreeMap}
+use Rattle.std.specs.Hash.{slice, u8}
+use Rattle.std.specs.Hash.FoldHasher.{finish, initial, write}
+use Rattle.std.specs.List.{fold, list_any, position_or_len}
+use Rattle.std.specs.Map.{lookup}
 use Rattle.elf32_read.specs.Names.{name_at}
+use Rattle.psabi_sym.specs.Names.{same_name}
 use Rattle.psabi_sym.specs.Invariants.Rows.{name_number, with_name}
 use Rattle.psabi_sym.specs.declared.key.Key.{Key}
 use Rattle.psabi_sym.specs.declared.name_ends.NameEnd.{NameEnd}
@@ -18,8 +24,17 @@ pub record AreTails (tails : List (List ℕ)) : Type 0 where
   pub whole : All (λ tail. length tail % 64 ≡ 0) tails
   pub numbered : (k : ℕ) → k < length tails → name_number tails (slice_index_or tails k []) ≡ k
 
+-- the hash of a part, by which keys are ordered first: the upper half of 64 bits
+abbrev pub hash_of : List ℕ → ℕ
+hash_of part = finish (fold write initial (slice u8 part)) / 2 ^ 32
+
+-- two keys are one
+abbrev pub same_key : Key → Key → Bool
+same_key k l = k.hash == l.hash && k.rest == l.rest && same_name k.part.now l.part.now
+
 -- the key is that of a text: a part with `blocks` whole blocks, and then a tail
 pub record IsKey (blocks : ℕ) (tails : List (List ℕ)) (key : Key) (text : List ℕ) : Type 0 where
+  pub hash : key.hash ≡ hash_of key.part.now
   pub part : length key.part.now / 64 ≡ blocks
   pub rest : key.rest < length tails
   pub text_is : text ≡ key.part.now ++ slice_index_or tails key.rest []
@@ -31,9 +46,19 @@ AreKeys blocks tails (key ∷ keys) (text ∷ texts) = IsKey blocks tails key te
 AreKeys blocks tails [] (text ∷ texts) = ⊥
 AreKeys blocks tails (key ∷ keys) [] = ⊥
 
+-- the place of a key among keys
+abbrev pub first_key_of : List Key → Key → Option ℕ
+first_key_of keys k = if list_any (same_key k) keys then Some (position_or_len (same_key k) keys) else None
+
+-- each text has a key, and the map has the place of each key among these
+pub record AreNumberedTexts (blocks : ℕ) (tails : List (List ℕ)) (numbers : BTreeMap Key ℕ) (texts : List (List ℕ)) : Type 0 where
+  pub keys : List Key
+  pub keys_are : AreKeys blocks tails keys texts
+  pub places : (k : Key) → lookup (same_key k) numbers.entries ≡ first_key_of keys k
+
 -- the text has this number among the texts; it is the last one if it wasn't there before
-pub record IsAdded (blocks : ℕ) (tails before after : List (List ℕ)) (keys : List Key) (text : List ℕ) (n : ℕ) : Type 0 where
-  pub keys_are : AreKeys blocks tails keys after
+pub record IsAdded (blocks : ℕ) (tails before after : List (List ℕ)) (numbers : BTreeMap Key ℕ) (text : List ℕ) (n : ℕ) : Type 0 where
+  pub numbered : AreNumberedTexts blocks tails numbers after
   pub texts_are : after ≡ with_name before text
   pub number_is : n ≡ name_number after text
   pub within : n < length after
@@ -42,9 +67,9 @@ pub record IsAdded (blocks : ℕ) (tails before after : List (List ℕ)) (keys :
 abbrev pub tails_of : List (Bor (List ℕ)) → List (List ℕ)
 tails_of texts = [] ∷ lent texts
 
-pub record AreTextBlocks (keys : List Key) (texts : List (Bor (List ℕ))) : Type 0 where
+pub record AreTextBlocks (numbers : BTreeMap Key ℕ) (texts : List (Bor (List ℕ))) : Type 0 where
   pub tails : AreTails (tails_of texts)
-  pub keys_are : AreKeys 1 (tails_of texts) keys (lent texts)
+  pub numbered : AreNumberedTexts 1 (tails_of texts) numbers (lent texts)
 
 -- tails that were there keep their numbers
 pub record Extends (before after : List (List ℕ)) : Type 0 where
@@ -53,7 +78,7 @@ pub record Extends (before after : List (List ℕ)) : Type 0 where
 
 -- after more tails were put in, at most `most` of them
 pub record HaveMoreTexts (before after : Texts) (most : ℕ) : Type 0 where
-  pub are : AreTextBlocks after.keys.keys after.texts.items
+  pub are : AreTextBlocks after.numbers after.texts.items
   pub more : Extends (tails_of before.texts.items) (tails_of after.texts.items)
   pub room : length after.texts.items ≤ length before.texts.items + most
 
@@ -79,8 +104,8 @@ names_of names = lent names.names.texts.items
 
 -- the names have keys of less than a block, and a tail
 pub record AreNames (names : Names) : Type 0 where
-  pub tails : AreTextBlocks names.tails.keys.keys names.tails.texts.items
-  pub keys_are : AreKeys 0 (tails_of names.tails.texts.items) names.names.keys.keys (names_of names)
+  pub tails : AreTextBlocks names.tails.numbers names.tails.texts.items
+  pub numbered : AreNumberedTexts 0 (tails_of names.tails.texts.items) names.names.numbers (names_of names)
 
 -- the same names, with at most `most` more tails
 pub record HaveRead (before after : Names) (most : ℕ) : Type 0 where

@@ -6,7 +6,7 @@ use Rattle.psabi_sym.proofs.name_ends.name_ends.Given as goal
 
 abbrev pub invariant-loop-k : goal.invariant-loop-k
 invariant-loop-k l = record {
-  are : AreTextBlocks l.tails.keys.keys l.tails.texts.items;
+  are : AreTextBlocks l.tails.numbers l.tails.texts.items;
   more : Extends (tails_of l.fn.tails.texts.items) (tails_of l.tails.texts.items);
   room : length l.tails.texts.items ≤ length l.fn.tails.texts.items + l.k;
   count : length l.ends.items ≡ length l.table;

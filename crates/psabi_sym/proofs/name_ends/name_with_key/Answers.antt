@@ -1,4 +1,4 @@
-use Rattle.std.proofs.Common.{◌≡◌, ◌<◌, ◌≤◌, ◌-◌, ℕ, List, not, min, length, length-drop, length-take, get_or, take, drop, refl, sym, ap, ◌∙◌, arith}
+use Rattle.std.proofs.Common.{◌≡◌, ◌<◌, ◌≤◌, ◌-◌, ℕ, List, not, min, length, length-drop, length-take, get_or, take, drop, sym, ap, ◌∙◌, arith}
 use Rattle.std.specs.Prelude.{◌==◌}
 use Rattle.std.specs.List.{prefix_len}
 use Rattle.std.proofs.lemmas.List.Sums.{prefix_len-le-length}
@@ -35,4 +35,4 @@ returns-clause-key c texts are =
     let is = (are.each at no_end there.1 there.2).1 in
     let text : take end.length (take (length table - c.min.result) (drop c.min.result table)) ≡ name_at table at =
     (λ i. take (is.length_is i) (rest_of table at c.min.result there.0 i)) ∙ sym (name_prefix table at) in
-    end_key (tails_of texts) (name_at table at) end is _ _ text refl refl
+    end_key (tails_of texts) (name_at table at) end is c.new-key.result _ text c.new-key.ensures.hash c.new-key.ensures.part c.new-key.ensures.rest

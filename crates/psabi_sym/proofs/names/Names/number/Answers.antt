@@ -7,14 +7,14 @@ pub name_with_key-requires : goal.name_with_key-requires
 name_with_key-requires c = (c.args.self.now.tails.texts.items, c.requires.ends)
 
 -- the name is added
-added : (c : goal.In_ok-number) → IsAdded 0 (tails_of c.args.self.now.tails.texts.items) (names_of c.args.self.now) (lent c.number.new.self.texts.items) c.number.new.self.keys.keys c.name_with_key.result.0.now c.in_ok-number.number
+added : (c : goal.In_ok-number) → IsAdded 0 (tails_of c.args.self.now.tails.texts.items) (names_of c.args.self.now) (lent c.number.new.self.texts.items) c.number.new.self.numbers c.name_with_key.result.0.now c.in_ok-number.number
 added c =
     let tails = tails_of c.args.self.now.tails.texts.items in
-    c.in_ok-number.ensures 0 tails c.requires.are.tails.tails (c.name_with_key.ensures.key c.args.self.now.tails.texts.items c.requires.ends) c.requires.are.keys_are
+    c.in_ok-number.ensures 0 tails c.requires.are.tails.tails (c.name_with_key.ensures.key c.args.self.now.tails.texts.items c.requires.ends) c.requires.are.numbered
 
 pub returns-clause-added : goal.returns-clause-added
 returns-clause-added c = record {
-  are = record { tails = c.requires.are.tails; keys_are = (added c).keys_are };
+  are = record { tails = c.requires.are.tails; numbered = (added c).numbered };
   names = (added c).texts_are ∙ ap (with_name (names_of c.args.self.now)) c.name_with_key.ensures.name;
   tails = refl;
 }

@@ -1,6 +1,6 @@
 use Rattle.std.proofs.Common.{refl}
 use Rattle.psabi_sym.specs.Invariants.Keys.{names_of, tails_of}
-use Rattle.psabi_sym.proofs.TailLaws.{keys_extend}
+use Rattle.psabi_sym.proofs.TailLaws.{numbered_extend}
 use Rattle.psabi_sym.proofs.names.Names.read.Goals as goal
 
 pub returns-clause-read : goal.returns-clause-read
@@ -10,7 +10,7 @@ returns-clause-read c =
     record {
       are = record {
         tails = grown.are;
-        keys_are = keys_extend 0 (tails_of old.tails.texts.items) (tails_of c.name_ends.new.tails.texts.items) grown.more old.names.keys.keys (names_of old) c.requires.are.keys_are;
+        numbered = numbered_extend 0 (tails_of old.tails.texts.items) (tails_of c.name_ends.new.tails.texts.items) grown.more old.names.numbers (names_of old) c.requires.are.numbered;
       };
       names = refl;
       room = grown.room;

@@ -1,28 +1,27 @@
-use Rattle.std.proofs.Common.{◌≡◌, ℕ, List, [], ◌∷◌, ◌++◌, Bor, refl, cond, ap, sym, ◌∙◌}
-use Rattle.std.proofs.lemmas.List.{map_push}
+use Rattle.std.proofs.Common.{List, ℕ, Bor, cond, ap, sym, ◌∙◌, arith, Some}
+use Rattle.std.specs.Map.{lookup}
+use Rattle.std.specs.Option.{option_copied}
+use Rattle.std.proofs.lemmas.List.{length-map, map_push}
 use Rattle.psabi_sym.specs.Invariants.Keys.{lent}
-use Rattle.psabi_sym.proofs.KeyLaws.{text_added}
+use Rattle.psabi_sym.proofs.KeyLaws.{order_test, text_added, text_found}
 use Rattle.psabi_sym.proofs.texts.Texts.number.Goals as goal
 
--- one that is new
-pub returns-in_ok-push : goal.returns-in_ok-push
-returns-in_ok-push c blocks tails are is keys =
-    let t = c.args.text.now in
+-- one that was there
+pub returns-in-Some : goal.returns-in-Some
+returns-in-Some c blocks tails are is all =
     let old = c.args.self.now in
-    let h = c.in_ok-number.ensures in
-    let texts : lent c.push.new.self.items ≡ cond c.in_ok-number.is_new (lent old.texts.items ++ t ∷ []) (lent old.texts.items) =
-    ap lent c.in_ok-push.ensures.items ∙ map_push (λ (x : Bor (List ℕ)). x.now) old.texts.items c.args.text
-    ∙ sym (ap (λ b. cond b (lent old.texts.items ++ t ∷ []) (lent old.texts.items)) c.if-is_new.true) in
-    text_added blocks tails are _ (λ k l. refl) old.keys.keys c.insert_full.new.self.keys (lent old.texts.items) (lent c.push.new.self.items) c.args.key t c.in_ok-number.is_new c.in_ok-number.number
-    is keys h.added h.keys texts h.index h.within
+    text_found blocks tails are old.numbers (lent old.texts.items) all c.args.key c.args.text.now is _
+    (ap (λ test. lookup test old.numbers.entries) (sym (order_test c.args.key)) ∙ sym c.in-Some.ensures.value)
 
--- and one that was there
-pub returns-else-is_new : goal.returns-else-is_new
-returns-else-is_new c blocks tails are is keys =
-    let t = c.args.text.now in
+-- and one that is new
+pub returns : goal.returns
+returns c blocks tails are is all =
+    let key = c.args.key in
     let old = c.args.self.now in
-    let h = c.in_ok-number.ensures in
-    let texts : lent old.texts.items ≡ cond c.in_ok-number.is_new (lent old.texts.items ++ t ∷ []) (lent old.texts.items) =
-    sym (ap (λ b. cond b (lent old.texts.items ++ t ∷ []) (lent old.texts.items)) c.if-is_new.false) in
-    text_added blocks tails are _ (λ k l. refl) old.keys.keys c.insert_full.new.self.keys (lent old.texts.items) (lent old.texts.items) c.args.key t c.in_ok-number.is_new c.in_ok-number.number
-    is keys h.added h.keys texts h.index h.within
+    let new = c.insert.new.self in
+    let n = c.len-number.result in
+    text_added blocks tails are old.numbers (lent old.texts.items) all key c.args.text.now is new (lent c.push.new.self.items) n
+    (ap (λ test. lookup test old.numbers.entries) (sym (order_test key)) ∙ sym c.get.ensures.value ∙ ap option_copied c.in_default.is)
+    (λ q. ap (λ test. lookup test new.entries) (sym (order_test q)) ∙ c.in_ok-insert.ensures.updates.0 q ∙ (λ i. cond (order_test key i q) (Some n) (lookup (order_test q i) old.numbers.entries)))
+    (ap lent c.in_ok-push.ensures.items ∙ map_push (λ (x : Bor (List ℕ)). x.now) old.texts.items c.args.text)
+    (omega (arith, c.len-number.ensures, length-map old.texts.items (λ (x : Bor (List ℕ)). x.now)))
