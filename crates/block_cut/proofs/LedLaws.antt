@@ -21,8 +21,8 @@ use Rattle.psabi_sym.proofs.FlatLaws.{length-parsed, parsed_more, symbols_push}
 use Rattle.psabi_sym.proofs.UsedLaws.{any_next}
 use Rattle.psabi_sym.proofs.SectionNumbers.{has_number, listed_at, number_of_section}
 use Rattle.block_cut.specs.Items.{code_at, is_target_at, item_at, item_in, next_at, place_of, places_of, size_at, starts_in, starts_on, target_of, targets_in}
-use Rattle.block_cut.specs.Leaders.{ends_block, goes_to, is_leader_at, is_place, item_leads, reloc_leads, section_leads}
-use Rattle.block_cut.specs.Invariants.Led.{AddsPlaces, has_place, is_led_to, is_marked, mark_at, mark_in, section_number}
+use Rattle.block_cut.specs.Leaders.{ends_block, goes_to, is_leader_at, is_led_to, is_place, item_leads, reloc_leads, section_leads}
+use Rattle.block_cut.specs.Invariants.Led.{AddsPlaces, has_place, is_marked, mark_at, mark_in, section_number}
 use Rattle.block_cut.specs.Places.{code_place, code_places}
 use Rattle.block_cut.specs.Resolved.{asks, resolved_reloc, resolved_relocs}
 use Rattle.block_cut.specs.declared.code_place.CodePlace.{CodePlace}

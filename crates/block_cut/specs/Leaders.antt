@@ -76,11 +76,13 @@ symbol_leads objects q l =
 
 -- ---- leaders
 
+-- a relocation, an item or a symbol leads to a place
+abbrev pub is_led_to : ParsedInputs → Place → Bool
+is_led_to inputs q =
+    list_any (section_leads inputs q) (all_sections inputs.objects)
+    || (list_any (item_leads inputs q) (all_places inputs.objects) || list_any (symbol_leads inputs.objects q) (all_symbols inputs.objects))
+
 -- a basic block begins at a place: at a section's start, where a relocation, a branch or a jump leads, after what ends a block,
 -- and where a symbol is defined that others may use or that is a function
 unfoldable pub is_leader_at : ParsedInputs → Place → Bool
-is_leader_at inputs q =
-    (q.offset == 0 && is_target_at inputs.objects q)
-    || (list_any (section_leads inputs q) (all_sections inputs.objects)
-    || (list_any (item_leads inputs q) (all_places inputs.objects)
-    || list_any (symbol_leads inputs.objects q) (all_symbols inputs.objects)))
+is_leader_at inputs q = (q.offset == 0 && is_target_at inputs.objects q) || is_led_to inputs q

@@ -2,6 +2,7 @@
 
 ghost use Rattle.std.specs.Prelude.{◌≡◌, ◌+◌, ◌||◌, ◌==◌, if◌then◌else◌, IfOk, None, Some, length, true};
 ghost use Rattle.std.specs.List.{find};
+ghost use Rattle.std.specs.Option.{option_copied};
 ghost use Rattle.psabi_sym.specs.Inputs.{parsed, Inputs};
 ghost use Rattle.block_cut.specs.Invariants.CodeSection.{IsCodeOf, resolved_section};
 ghost use Rattle.block_cut.specs.Invariants.HalfwordTables.{by_halfword, number_on};
@@ -87,22 +88,22 @@ impl<'a> CodeSection<'a> {
     }
 
     // The relocation that says what stands at an offset, where an item starts or the section ends.
-    fn reloc_at(&self, at: u32) -> Option<ResolvedReloc>
+    fn reloc_at(&self, at: u32) -> Option<&ResolvedReloc>
         requires { let s = self.now.section.section in (starts_on s at || at == length s.bytes) ≡ true }
-        ensures { result ≡ find (is_right_at at) self.now.relocs }
+        ensures { option_copied result ≡ find (is_right_at at) self.now.relocs }
     {
         numbered(&self.relocs, self.reloc_numbers[at as usize / 2])
     }
 
     // The item that starts at an offset, by the relocation that says what stands there.
-    fn item(&self, at: u32, reloc: Option<ResolvedReloc>) -> Item
+    fn item(&self, at: u32, reloc: Option<&ResolvedReloc>) -> Item
         requires starts { starts_on self.now.section.section at ≡ true }
-        requires reloc { reloc ≡ find (is_right_at at) self.now.relocs }
+        requires reloc { option_copied reloc ≡ find (is_right_at at) self.now.relocs }
         ensures { (inputs : Inputs) → IsCodeOf inputs self.now.section
             → self.now ≡ resolved_section (parsed inputs) self.now.section
             → result ≡ item_in (parsed inputs) self.now.section.section (place_of self.now.section at) }
     {
-        match &reloc {
+        match reloc {
             Some(reloc) => reloc_item(reloc, &self.content, at),
             None => {
                 let q = Place {

@@ -1,7 +1,7 @@
 // Tables with an entry for each halfword of a section of code: the number of its relocation, and of its place.
 
 ghost use Rattle.std.specs.Prelude.{◌≡◌, ◌+◌, ◌-◌, ◌/◌, ◌<◌, ◌^◌, ◌==◌, ℕ, if◌then◌else◌, IfOk, [], true, length, map, slice_get, slice_index_or};
-ghost use Rattle.std.specs.Option.{option_map_or, unwrap_or};
+ghost use Rattle.std.specs.Option.{option_copied, option_map_or, unwrap_or};
 ghost use Rattle.elf32_read.specs.Parts.{SectionParts, is_code_section};
 ghost use Rattle.psabi_sym.specs.Inputs.{ParsedInputs};
 ghost use Rattle.psabi_sym.specs.Indexed.{IndexedSection};
@@ -54,21 +54,19 @@ fn keep(table: &mut [u32], halfword: usize, number: u32)
 }
 
 /// A relocation by its number, from 1 on; 0 stands for none.
-pub fn numbered(relocs: &[ResolvedReloc], number: u32) -> Option<ResolvedReloc>
-    ensures { result ≡ numbered relocs.now number }
+pub fn numbered(relocs: &[ResolvedReloc], number: u32) -> Option<&ResolvedReloc>
+    ensures { option_copied result ≡ numbered relocs.now number }
 {
     if number == 0 {
         return None;
     }
-    match relocs.get(number as usize - 1) {
-        None => None,
-        Some(reloc) => Some(*reloc),
-    }
+    relocs.get(number as usize - 1)
 }
 
 /// The size in bytes of the item at an offset, by the relocation there.
-pub fn size_with(content: &Content, at: usize, reloc: Option<ResolvedReloc>) -> u8
-    ensures { result ≡ option_map_or (λ d. d.size) reloc (own_size content.now.compressed content.now.bytes at) }
+pub fn size_with(content: &Content, at: usize, reloc: Option<&ResolvedReloc>) -> u8
+    ensures { result ≡ option_map_or (λ d. d.size) (option_copied reloc.entry)
+        (own_size content.now.compressed content.now.bytes at) }
 {
     match reloc {
         None => content.own_size(at),
@@ -76,13 +74,14 @@ pub fn size_with(content: &Content, at: usize, reloc: Option<ResolvedReloc>) -> 
     }
 }
 
-// How many bytes of an item are left after a halfword, by how many were left at it; 0 of them says that the next item
-// starts there.
-fn left_after(left: u8, size: u8) -> u8
-    ensures { result ≡ (if left == 0 then size else left) - 2 }
+// How many bytes of an item are left after the halfword at an offset, by how many were left at it, and by the
+// relocation there; 0 of them says that the next item starts there.
+fn left_after(left: u8, content: &Content, at: usize, reloc: Option<&ResolvedReloc>) -> u8
+    ensures { result ≡ (if left == 0 then option_map_or (λ d. d.size) (option_copied reloc.entry)
+        (own_size content.now.compressed content.now.bytes at) else left) - 2 }
 {
     if left == 0 {
-        return size.saturating_sub(2);
+        return size_with(content, at, reloc).saturating_sub(2);
     }
     left.saturating_sub(2)
 }
@@ -120,7 +119,7 @@ pub fn place_numbers(
         let number = next_number(left, before);
         numbers.push(number)?;
         before = before.max(number);
-        left = left_after(left, size_with(content, 2 * k, numbered(relocs, *reloc)));
+        left = left_after(left, content, 2 * k, numbered(relocs, *reloc));
     }
     Ok(numbers)
 }

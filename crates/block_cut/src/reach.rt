@@ -1,6 +1,6 @@
 // Branches and jumps that are out of range in the plain layout, or that leave a section that stays as it was compiled.
 
-ghost use Rattle.std.specs.Prelude.{◌≡◌, ◌≤◌, ◌+◌, ℕ, false, not, IfSome, None, Some};
+ghost use Rattle.std.specs.Prelude.{◌≡◌, ◌≤◌, ◌+◌, ◌==◌, ◌&&◌, ℕ, false, not, IfSome, None, Some};
 ghost use Rattle.std.specs.List.{find};
 ghost use Rattle.std.specs.Option.{option_map, option_map_or};
 ghost use Rattle.psabi_sym.specs.Faults.{gather_fault};
@@ -93,12 +93,21 @@ fn is_far(place: &CodePlace, item: &Item, to: Option<u32>) -> bool
     !reaches(place.size, item, distance)
 }
 
-// Whether a place lies in another section than this one, which stays as it was compiled.
+// Whether a section isn't that of an object with an index.
+#[inline(never)]
+fn is_another(section: &SectionRow, object: u16, index: u16) -> bool
+    ensures { result ≡ not (section.now.object == object && section.now.index == index) }
+{
+    !(section.object == object && section.index == index)
+}
+
+// Whether a place lies in another section than this one, which stays as it was compiled. Few sections do, so what they
+// need isn't inlined.
 fn leaves_fixed(section: &SectionRow, to: &Place) -> bool
     ensures { (inputs : ParsedInputs) (q : Place) → IsRowOf inputs q section.now
         → result ≡ leaves_fixed inputs q to.now }
 {
-    section.fixed && !(section.object == to.object && section.index == to.section)
+    section.fixed && is_another(section, to.object, to.section)
 }
 
 // Whether the branch or jump at a place of a section is out of range.

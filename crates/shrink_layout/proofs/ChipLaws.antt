@@ -1,6 +1,7 @@
 -- Short forms that a chip has: their halfwords are of rows that it has, and that of an `addi` is of Zca.
 use Rattle.std.proofs.Common.{◌≡◌, ◌<◌, ◌-◌, ℕ, ℤ, pos, negsuc, Option, Some, None, Bool, true, false, cond, refl, ap, ◌∙◌, sym, ltb, arith}
-use Rattle.std.specs.Option.{is_some, option_map_or}
+use Rattle.std.specs.Option.{is_some, option_map, option_map_or}
+use Rattle.std.proofs.lemmas.Option.{none-some, same_Some}
 use Rattle.zc_base.specs.declared.extensions.Extensions.{Extensions}
 use Rattle.rv_decode.specs.declared.instr.ImmOp.TheVariants.{Addi}
 use Rattle.rv_decode.specs.declared.instr.Instr.{Instr}
@@ -8,11 +9,12 @@ use Rattle.rv_decode.specs.declared.instr.Instr.TheVariants.{WithImm, WithReg}
 use Rattle.rv_decode.specs.declared.instr.RegOp.TheVariants.{Mul}
 use Rattle.zc_decode.specs.Extensions.{has_half, has_row}
 use Rattle.zc_decode.specs.Fields.{high_reg_of, low_reg_of}
-use Rattle.zc_decode.specs.Halfwords.{spelled}
+use Rattle.zc_decode.specs.Halfwords.{decoded16, spelled}
 use Rattle.zc_decode.specs.Rows.{form_of}
 use Rattle.zc_decode.specs.declared.form.Form.{Form}
 use Rattle.zc_decode.specs.declared.form.Form.TheVariants.{CLbu, CLhu, CLh, CSb, CSh, CMul, CZextB, CNot, CmPush, CmPop, CmPopretz, CmPopret, CmMvsa01, CmMva01s, CmJt, CmJalt}
 use Rattle.zc_decode.specs.declared.short.Short.TheVariants.{Base}
+use Rattle.zca_zcb_pass.specs.Forms.{HasEffectOf}
 use Rattle.zc_encode.specs.Encoding.{normal_short}
 use Rattle.zc_encode.specs.Halves.{encoded16}
 use Rattle.zc_encode.proofs.ImmRows.{with_imm_row}
@@ -38,6 +40,37 @@ short_on-half extensions i half short is = ap (λ o. option_map_or (has_half ext
 pub row_half : (extensions : Extensions) (half : ℕ) (form : Form) → form_of half ≡ Some form → has_row extensions form ≡ true → has_half extensions half ≡ true
 unfolding has_half
 row_half extensions half form row has = ap (λ o. option_map_or (has_row extensions) o false) row ∙ has
+
+-- ---- of any instruction, on a chip with Zcb
+
+-- a row that spells an instruction of 32 bits is of Zca or Zcb
+base_row : (extensions : Extensions) → extensions.zcb ≡ true → (form : Form) (half : ℕ) (i : Instr) → spelled form half ≡ Base i → has_row extensions form ≡ true
+base_row extensions zcb CLbu half i is = zcb
+base_row extensions zcb CLhu half i is = zcb
+base_row extensions zcb CLh half i is = zcb
+base_row extensions zcb CSb half i is = zcb
+base_row extensions zcb CSh half i is = zcb
+base_row extensions zcb CMul half i is = zcb
+base_row extensions zcb CZextB half i is = zcb
+base_row extensions zcb CNot half i is = zcb
+base_row extensions zcb CmPush half i is = absurd cc
+base_row extensions zcb CmPop half i is = absurd cc
+base_row extensions zcb CmPopretz half i is = absurd cc
+base_row extensions zcb CmPopret half i is = absurd cc
+base_row extensions zcb CmMvsa01 half i is = absurd cc
+base_row extensions zcb CmMva01s half i is = absurd cc
+base_row extensions zcb CmJt half i is = absurd cc
+base_row extensions zcb CmJalt half i is = absurd cc
+base_row extensions zcb form half i is = refl
+
+-- the chip has the short form of each
+pub zcb_half : (extensions : Extensions) (i : Instr) (half : ℕ) → extensions.zcb ≡ true → HasEffectOf i half → has_half extensions half ≡ true
+unfolding has_half decoded16
+zcb_half extensions i half zcb has = by (form_of half) has.1
+  where
+    by : (o : Option Form) → option_map (λ form. spelled form half) o ≡ Some (Base has.0) → option_map_or (has_row extensions) o false ≡ true
+    by None h = absurd (none-some (Base has.0) h)
+    by (Some form) h = base_row extensions zcb form half has.0 (same_Some (spelled form half) (Base has.0) h)
 
 -- ---- of an `addi`
 

@@ -1,5 +1,6 @@
--- A section's places but its end are those where its items start, each with its index among them (`starts_held`).
-use Rattle.std.proofs.Common.{◌≡◌, ◌∙◌, ℕ, zero, suc, ◌+◌, ◌-◌, ◌<◌, ◌≤◌, List, [], ◌∷◌, ◌++◌, length, filter, map, take, cond, true, false, Some, None, slice_get, refl, sym, ap, subst, arith, eqb, ltb}
+-- A section's places but its end are those where its items start, each with its index among them (`starts_held`) and its item
+-- (`held_item`).
+use Rattle.std.proofs.Common.{◌≡◌, ◌∙◌, ℕ, zero, suc, ◌+◌, ◌-◌, ◌<◌, ◌≤◌, List, [], ◌∷◌, ◌++◌, length, filter, map, take, cond, Bool, true, false, Some, None, slice_get, refl, sym, ap, subst, arith, eqb, ltb}
 use Rattle.std.specs.List.{list_any}
 use Rattle.std.specs.Option.{option_map_or}
 use Rattle.std.proofs.lemmas.Bool.{eq-eqb, le-ltb, lt-ltb, or_left, or_right}
@@ -10,7 +11,7 @@ use Rattle.psabi_sym.specs.Faults.{gather_fault}
 use Rattle.psabi_sym.specs.Inputs.{Inputs, ParsedInputs, parsed}
 use Rattle.psabi_sym.specs.Indexed.{IndexedSection, all_sections}
 use Rattle.psabi_sym.proofs.SectionNumbers.{listed_at}
-use Rattle.block_cut.specs.Items.{index_on, is_end_at, is_start_at, place_of, starts_in, starts_on, targets_in}
+use Rattle.block_cut.specs.Items.{index_on, is_end_at, is_start_at, item_at, place_of, starts_in, starts_on, targets_in}
 use Rattle.block_cut.specs.Places.{code_place, code_places}
 use Rattle.block_cut.specs.Whole.{IsWhole}
 use Rattle.block_cut.specs.declared.code_place.CodePlace.{CodePlace}
@@ -110,3 +111,15 @@ starts_held inputs none k l at code i p got = subst (IsItemPlace' i) found.2 her
               (sym (start_index s code there.whole i n found.1));
           is = refl;
         }
+
+-- the item of one of them is the one that starts there
+pub held_item : (inputs : Inputs) → gather_fault inputs ≡ None → (k : ℕ) (l : IndexedSection) → slice_get (all_sections (parsed inputs).objects) k ≡ Some l
+    → (i : ℕ) (p : CodePlace) → slice_get (take (length (code_places (parsed inputs) l) - 1) (code_places (parsed inputs) l)) i ≡ Some p
+    → p.item ≡ item_at (parsed inputs) (place_of l p.offset)
+held_item inputs none k l at i p got = by (is_code_section l.section) refl
+  where
+    by : (b : Bool) → is_code_section l.section ≡ b → p.item ≡ item_at (parsed inputs) (place_of l p.offset)
+    by true code = (starts_held inputs none k l at code i p got).is
+    by false other =
+        let nothing : code_places (parsed inputs) l ≡ [] = ap (λ b. cond b (map (code_place (parsed inputs) l) (targets_in l.section)) []) other in
+        absurd (none-some p (ap (λ ps. slice_get (take (length ps - 1) ps) i) (sym nothing) ∙ got))

@@ -8,6 +8,8 @@ ghost use Rattle.shrink_layout.specs.Invariants.Numbers.{IsHalfAt, is_table_half
 ghost use Rattle.shrink_layout.specs.Pieces.{instr_size_on, part_size};
 ghost use Rattle.shrink_layout.specs.Units.{OneItem};
 ghost use Rattle.shrink_layout.specs.declared.piece.Piece.TheVariants.{Fixed};
+ghost use Rattle.zca_zcb_pass.specs.Forms.{HasEffectOf};
+ghost use Rattle.zc_decode.specs.Extensions.{has_half};
 
 use crate::piece::Piece;
 use psabi_reloc::parts::{hi20, lo12};
@@ -41,6 +43,16 @@ pub fn fixed(size: u16) -> ItemPiece
     without_half(Piece::Fixed { size })
 }
 
+// Whether a chip with these extensions has the short form of an instruction. One with Zcb has all of them, so the
+// halfword's row needn't be found.
+#[inline(always)]
+fn has_short(extensions: Extensions, _i: Instr, half: u16) -> bool
+    requires { HasEffectOf _i half }
+    ensures { result ≡ has_half extensions half }
+{
+    extensions.zcb || has_half(extensions, half)
+}
+
 /// The piece of an instruction whose immediate doesn't depend on the layout.
 #[tactic(auto, using(crate::proofs::HalfLaws::effect_no_table))]
 pub fn instr_piece(extensions: Extensions, i: Instr) -> ItemPiece
@@ -51,7 +63,7 @@ pub fn instr_piece(extensions: Extensions, i: Instr) -> ItemPiece
         None => fixed(4),
         Some(half) => ItemPiece {
             piece: Piece::Fixed {
-                size: if has_half(extensions, half) { 2 } else { 4 },
+                size: if has_short(extensions, i, half) { 2 } else { 4 },
             },
             half,
         },

@@ -32,7 +32,8 @@ pub struct Pieces {
 }
 
 impl Pieces {
-    // Adds a piece.
+    // Adds a piece. Each item has one, so this is inlined.
+    #[inline(always)]
     fn push(&mut self, item: ItemPiece) -> Result<(), AllocError>
         ensures pieces { IfOk result (λ _. self.new.pieces.items ≡ self.old.pieces.items ++ item.piece ∷ []) }
         ensures halves { IfOk result (λ _. self.new.halves.items ≡ self.old.halves.items ++ item.half ∷ []) }

@@ -60,7 +60,25 @@ fn own_size(cut: &Cut, p: Place) -> u8
     }
 }
 
-// The piece of an item by itself; in a fixed section it has the bytes that it has in its object.
+// The piece of an item by itself in a fixed section: it has the bytes that it has in its object. Few sections are
+// fixed, so it isn't inlined for all items.
+#[inline(never)]
+fn fixed_piece(of: &Numbered, at: Place, item: &Item) -> ItemPiece
+    requires numbered { AreNumbered of.now }
+    requires start { is_start_at (parsed of.now.planned.now).objects at ≡ true }
+    requires fixed { is_fixed_at (parsed of.now.planned.now) at.object at.section ≡ true }
+    ensures piece { result.piece ≡ item_piece_at (parsed of.now.planned.now) at item.now }
+    ensures half { IsHalfAt (Some (OneItem item.now)) result.half }
+{
+    let cut = of.planned.cut();
+    let lone = item_piece(cut, of.starts, item);
+    ItemPiece {
+        piece: kept_piece(cut, of.starts, own_size(cut, at), item),
+        half: lone.half,
+    }
+}
+
+// The piece of an item by itself.
 fn lone_piece(of: &Numbered, at: Place, is_fixed: bool, item: &Item) -> ItemPiece
     requires numbered { AreNumbered of.now }
     requires start { is_start_at (parsed of.now.planned.now).objects at ≡ true }
@@ -68,15 +86,10 @@ fn lone_piece(of: &Numbered, at: Place, is_fixed: bool, item: &Item) -> ItemPiec
     ensures piece { result.piece ≡ item_piece_at (parsed of.now.planned.now) at item.now }
     ensures half { IsHalfAt (Some (OneItem item.now)) result.half }
 {
-    let cut = of.planned.cut();
-    let lone = item_piece(cut, of.starts, item);
-    if !is_fixed {
-        return lone;
+    if is_fixed {
+        return fixed_piece(of, at, item);
     }
-    ItemPiece {
-        piece: kept_piece(cut, of.starts, own_size(cut, at), item),
-        half: lone.half,
-    }
+    item_piece(of.planned.cut(), of.starts, item)
 }
 
 // The piece of an item that isn't in a group.

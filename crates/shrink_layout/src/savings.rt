@@ -3,7 +3,7 @@
 ghost use Rattle.std.specs.Prelude.{◌≡◌, ◌<◌, ◌≤◌, ◌+◌, ◌==◌, ◌++◌, ◌∷◌, [], All, IfOk, List, if◌then◌else◌, length, map};
 ghost use Rattle.psabi_sym.specs.Inputs.{parsed};
 ghost use Rattle.psabi_sym.specs.Indexed.{all_sections};
-ghost use Rattle.block_cut.specs.Items.{all_targets};
+ghost use Rattle.block_cut.specs.Items.{all_targets, item_at};
 ghost use Rattle.shrink_layout.specs.Invariants.Sites.{AreOfPlaces, AreSavings, places_before, targets_before};
 ghost use Rattle.shrink_layout.specs.Savings.{HasFewSites, has_sites, saving_of, savings_of};
 ghost use Rattle.zc_base.specs.declared.place.Place.{Place};
@@ -12,6 +12,7 @@ use crate::settled::Settled;
 use crate::site::{Site, site_at};
 use block_cut::code_place::item_places;
 use block_cut::cut::Cut;
+use block_cut::item::Item;
 use pick_check::saving::Saving;
 use std::alloc::{AllocError, Global};
 use zc_base::place::Place;
@@ -67,16 +68,17 @@ fn count_site(saving: &mut Saving, site: Site)
     }
 }
 
-// Counts the site at a place, if there is one, at its target. Targets have numbers from 2 on, in their order: before
-// the first come the table with its stub and a padding, and the end of a section has the number of the next one's
-// padding.
-fn count_place(settled: &Settled, p: Place, savings: &mut [Saving])
+// Counts the site at a place, if there is one, at its target, by the item there. Targets have numbers from 2 on, in
+// their order: before the first come the table with its stub and a padding, and the end of a section has the number of
+// the next one's padding.
+fn count_place(settled: &Settled, p: Place, item: &Option<Item>, savings: &mut [Saving])
     requires unset { settled.now.slots ≡ [] }
+    requires item { item.now ≡ item_at (parsed settled.now.inputs) p }
     requires few { AreOfPlaces (parsed settled.now.inputs) savings.old }
     ensures { (qs : List Place) → AreSavings (parsed settled.now.inputs) qs savings.old
         → AreSavings (parsed settled.now.inputs) (qs ++ p ∷ []) savings.new }
 {
-    if let Some(site) = site_at(settled, p) {
+    if let Some(site) = site_at(settled, p, item) {
         // No fault stands in the objects, so the target has a number.
         settled.planned().cut().recall_invariant();
         let number = settled.piece_number_at(site.to);
@@ -102,7 +104,7 @@ fn count_section(settled: &Settled, section: u32, savings: &mut [Saving])
             section: own.index(),
             offset: place.offset,
         };
-        count_place(settled, at, savings);
+        count_place(settled, at, &place.item, savings);
     }
 }
 

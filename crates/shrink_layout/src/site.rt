@@ -2,7 +2,7 @@
 
 ghost use Rattle.std.specs.Prelude.{◌≡◌, [], IfSome, option_map, true};
 ghost use Rattle.psabi_sym.specs.Inputs.{parsed};
-ghost use Rattle.block_cut.specs.Items.{is_target_at};
+ghost use Rattle.block_cut.specs.Items.{is_target_at, item_at};
 ghost use Rattle.shrink_layout.specs.Invariants.Sites.{is_served, site_pair};
 ghost use Rattle.shrink_layout.specs.Pieces.{site_at};
 ghost use Rattle.shrink_layout.specs.Units.{jump_of};
@@ -48,20 +48,22 @@ fn is_served(size: Option<u32>, site: Site) -> bool
     matches!(size, Some(4)) && site.rd < 2
 }
 
-/// The jump or call at a place that a table could serve: it takes four bytes without one, links no register or ra, and
-/// isn't in a fixed section (RISC-V Zc specification 1.0, "cm.jt" and "cm.jalt"). It takes constant time.
-pub fn site_at(settled: &Settled, p: Place) -> Option<Site>
-    requires { settled.now.slots ≡ [] }
+/// The jump or call at a place that a table could serve, by the item there: it takes four bytes without one, links no
+/// register or ra, and isn't in a fixed section (RISC-V Zc specification 1.0, "cm.jt" and "cm.jalt"). It takes constant
+/// time.
+pub(crate) fn site_at(settled: &Settled, p: Place, item: &Option<Item>) -> Option<Site>
+    requires unset { settled.now.slots ≡ [] }
+    requires item { item.now ≡ item_at (parsed settled.now.inputs) p }
     ensures value { option_map site_pair result ≡ site_at (parsed settled.now.inputs) p }
     ensures target { IfSome result (λ site. is_target_at (parsed settled.now.inputs).objects site.to ≡ true) }
 {
     let cut = settled.planned().cut();
     // No fault stands in the objects, so jumps and calls lead where code may lead.
     cut.recall_invariant();
-    let Some(item) = cut.item(p) else {
+    let Some(item) = item else {
         return None;
     };
-    let Some(site) = jump_of(&item) else {
+    let Some(site) = jump_of(item) else {
         return None;
     };
     if !is_served(settled.size(p), site) {

@@ -6,7 +6,8 @@ use Rattle.psabi_sym.specs.Inputs.{Inputs, parsed}
 use Rattle.block_cut.specs.DataWords.{data_words}
 use Rattle.block_cut.specs.Faults.{first_fault}
 use Rattle.block_cut.specs.Items.{entry_of}
-use Rattle.block_cut.specs.Invariants.Led.{has_place, is_led_to}
+use Rattle.block_cut.specs.Invariants.Led.{has_place}
+use Rattle.block_cut.specs.Leaders.{is_led_to}
 use Rattle.block_cut.specs.Invariants.CodeTables.{AreCodeTables}
 use Rattle.block_cut.specs.declared.data_word.DataWord.{DataWord}
 use Rattle.block_cut.specs.declared.leaders.Leaders.{Leaders}

@@ -5,12 +5,9 @@ use Rattle.std.specs.Option.{option_map, option_map_or}
 use Rattle.zc_base.specs.Places.{same_place}
 use Rattle.zc_base.specs.declared.place.Place.{Place}
 use Rattle.elf32_read.specs.Parts.{ObjectParts}
-use Rattle.psabi_sym.specs.Inputs.{ParsedInputs}
-use Rattle.psabi_sym.specs.Indexed.{all_sections, all_symbols, section_at}
+use Rattle.psabi_sym.specs.Indexed.{section_at}
 use Rattle.psabi_sym.specs.Invariants.Rows.{section_starts}
-use Rattle.block_cut.specs.Items.{all_places}
 use Rattle.block_cut.specs.declared.leaders.Leaders.{Leaders}
-use Rattle.block_cut.specs.Leaders.{item_leads, section_leads, symbol_leads}
 
 -- ---- places as the code keeps them
 
@@ -41,11 +38,3 @@ has_place objects leaders q = is_marked objects leaders.sections.items q || is_l
 -- the places are the old ones, and those that pass a test
 abbrev pub AddsPlaces : List ObjectParts → (Place → Bool) → Leaders → Leaders → Type 0
 AddsPlaces objects test old new = (q : Place) → has_place objects new q ≡ (has_place objects old q || test q)
-
--- ---- what leads to places
-
--- a relocation, an item or a symbol leads to a place
-abbrev pub is_led_to : ParsedInputs → Place → Bool
-is_led_to inputs q =
-    list_any (section_leads inputs q) (all_sections inputs.objects)
-    || (list_any (item_leads inputs q) (all_places inputs.objects) || list_any (symbol_leads inputs.objects q) (all_symbols inputs.objects))

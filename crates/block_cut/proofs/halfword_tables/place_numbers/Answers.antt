@@ -2,7 +2,7 @@
 use Rattle.std.proofs.Common.{◌≡◌, ◌++◌, ◌∷◌, [], ℕ, ◌+◌, ◌-◌, ◌*◌, ◌/◌, ◌≤◌, max, Bool, true, false, length, map, cond, eqb, eq-eqb, refl, sym, ap, subst, ◌∙◌, arith, inl, inr}
 use Rattle.std.specs.Prelude.{◌||◌}
 use Rattle.std.specs.List.{find, range_with_len}
-use Rattle.std.specs.Option.{option_map_or}
+use Rattle.std.specs.Option.{option_copied, option_map_or}
 use Rattle.std.proofs.lemmas.Bool.{cases_eq, ne_eqb}
 use Rattle.std.proofs.lemmas.List.{length-append}
 use Rattle.std.proofs.lemmas.List.FromFn.{map-range_with_len_more}
@@ -95,15 +95,16 @@ loop-k-preserved c =
           let inv = c.loop-k.invariant.each inputs m code whole held compressed are table in
           let within : k ≤ length s.bytes / 2 = omega (arith, table.count_is, c.loop-k-test.true) in
           let next = (inv.1 within).0 in
-          let reloc : c.numbered.result ≡ find (is_right_at (2 * k)) (resolved_relocs inputs m) =
+          let reloc : option_copied c.numbered.result ≡ find (is_right_at (2 * k)) (resolved_relocs inputs m) =
           c.numbered.ensures ∙ table.each k (omega (arith, within)) ∙ ap (find (is_right_at (2 * k))) are in
-          let size : c.size_with.result ≡ size_on s (2 * k) =
-          c.size_with.ensures ∙ (λ j. option_map_or (λ (d : ResolvedReloc). d.size) (reloc j) (own_size (compressed j) (held j) (2 * k))) ∙ sized_on inputs m (2 * k) code in
+          let read = option_map_or (λ (d : ResolvedReloc). d.size) (option_copied c.numbered.result) (own_size c.args.content.now.compressed c.args.content.now.bytes (2 * k)) in
+          let size : read ≡ size_on s (2 * k) =
+          (λ j. option_map_or (λ (d : ResolvedReloc). d.size) (reloc j) (own_size (compressed j) (held j) (2 * k))) ∙ sized_on inputs m (2 * k) code in
           let is : number ≡ number_on s (2 * k) = c.next_number-number.ensures ∙ (λ j. cond (starts_now s code whole k left next j) ((inv.1 within).1 j + 1) 0) in (
             c.in_ok-push.ensures.items ∙ ap (λ l. l ++ number ∷ []) inv.0 ∙ ap (λ x. map (λ j. number_on s (2 * j)) (range_with_len 0 k) ++ x ∷ []) is
                 ∙ sym (map-range_with_len_more (λ j. number_on s (2 * j)) 0 k k (omega arith)),
             λ le. (
-              further s code whole k left c.left_after-left.result c.size_with.result size c.left_after-left.ensures le next,
+              further s code whole k left c.left_after-left.result read size c.left_after-left.ensures le next,
               counted s code whole k before number c.max-before.result (inv.1 within).1 is (omega (arith, c.max-before.ensures)) le,
             ),
           );

@@ -6,7 +6,6 @@ use Rattle.psabi_sym.specs.Fixed.{is_fixed_at}
 use Rattle.psabi_sym.specs.Inputs.{parsed}
 use Rattle.zc_base.specs.declared.place.Place.{Place}
 use Rattle.block_cut.specs.Faults.{first_fault}
-use Rattle.block_cut.specs.Items.{item_at}
 use Rattle.shrink_layout.specs.Invariants.Sites.{is_four, site_pair}
 use Rattle.shrink_layout.specs.Settled.{settled_size}
 use Rattle.shrink_layout.proofs.SiteLaws.{jump_target, site-fixed, site-no_item, site-no_jump, site_by_size}
@@ -20,13 +19,11 @@ either_none false = refl
 
 pub returns-in_default-clause-value : goal.returns-in_default-clause-value
 returns-in_default-clause-value c =
-    let cut = c.cut-cut.ensures.same ∙ c.planned.ensures.same in
-    sym (site-no_item (parsed c.args.settled.now.inputs) c.args.p (ap (λ x. item_at (parsed x) c.args.p) (sym cut) ∙ sym c.item.ensures.item ∙ c.in_default.is))
+    sym (site-no_item (parsed c.args.settled.now.inputs) c.args.p (sym c.requires.item ∙ c.in_default.is))
 
 pub returns-in_default-jump_of-clause-value : goal.returns-in_default-jump_of-clause-value
 returns-in_default-jump_of-clause-value c =
-    let cut = c.cut-cut.ensures.same ∙ c.planned.ensures.same in
-    let is = ap (λ x. item_at (parsed x) c.args.p) (sym cut) ∙ sym c.item.ensures.item ∙ c.in-Some.is in
+    let is = sym c.requires.item ∙ c.in-Some.is in
     sym (site-no_jump (parsed c.args.settled.now.inputs) c.args.p c.in-Some.item is (sym c.jump_of.ensures ∙ ap (option_map site_pair) c.in_default-jump_of.is))
 
 pub returns-then-not-is_served-clause-value : goal.returns-then-not-is_served-clause-value
@@ -34,9 +31,9 @@ returns-then-not-is_served-clause-value c =
     let inputs = c.args.settled.now.inputs in
     let cut = c.cut-cut.ensures.same ∙ c.planned.ensures.same in
     let none = ap gather_fault (sym cut) ∙ c.recall_invariant.ensures.gathered in
-    let is = ap (λ x. item_at (parsed x) c.args.p) (sym cut) ∙ sym c.item.ensures.item ∙ c.in-Some.is in
+    let is = sym c.requires.item ∙ c.in-Some.is in
     let site = c.in-Some-jump_of.site in
-    let size = c.size.ensures ∙ ap (λ s. settled_size (parsed inputs) s c.args.p) c.requires in
+    let size = c.size.ensures ∙ ap (λ s. settled_size (parsed inputs) s c.args.p) c.requires.unset in
     let fixed = is_fixed_at (parsed inputs) c.args.p.object c.args.p.section in
     sym (site_by_size inputs none c.args.p c.in-Some.item is (site_pair site) (sym c.jump_of.ensures ∙ ap (option_map site_pair) c.in-Some-jump_of.is)
     ∙ (λ j. cond fixed None (cond (is_four (sym size j) && ltb site.rd 2) (Some (site_pair site)) None))
@@ -54,11 +51,11 @@ returns c =
     let inputs = c.args.settled.now.inputs in
     let cut = c.cut-cut.ensures.same ∙ c.planned.ensures.same in
     let faultless = ap first_fault (sym cut) ∙ c.recall_invariant.ensures.faultless in
-    let is = ap (λ x. item_at (parsed x) c.args.p) (sym cut) ∙ sym c.item.ensures.item ∙ c.in-Some.is in
+    let is = sym c.requires.item ∙ c.in-Some.is in
     let site = c.in-Some-jump_of.site in
     let leads = sym c.jump_of.ensures ∙ ap (option_map site_pair) c.in-Some-jump_of.is in
     let free = ap (λ x. is_fixed_at (parsed x) c.args.p.object c.args.p.section) (sym (c.objects.ensures.same ∙ cut)) ∙ sym c.is_fixed.ensures ∙ c.if-is_fixed.false in
-    let size = c.size.ensures ∙ ap (λ s. settled_size (parsed inputs) s c.args.p) c.requires in
+    let size = c.size.ensures ∙ ap (λ s. settled_size (parsed inputs) s c.args.p) c.requires.unset in
     record {
       value = sym (site_by_size inputs (no_gather_fault inputs faultless) c.args.p c.in-Some.item is (site_pair site) leads
           ∙ (λ j. cond (free j) None (cond (is_four (sym size j) && ltb site.rd 2) (Some (site_pair site)) None))

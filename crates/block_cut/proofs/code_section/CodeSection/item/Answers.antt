@@ -1,7 +1,7 @@
 -- The item is the relocation's, or else what the bytes spell.
 use Rattle.std.proofs.Common.{◌≡◌, ℕ, ◌+◌, ◌%◌, ◌≤◌, List, Option, IfSome, Some, None, true, false, cond, eqb, length, sym, ap, subst, ◌∙◌, arith}
 use Rattle.std.specs.List.{find}
-use Rattle.std.specs.Option.{option_map_or}
+use Rattle.std.specs.Option.{option_copied, option_map_or}
 use Rattle.psabi_sym.specs.Indexed.{IndexedSection}
 use Rattle.psabi_sym.specs.Inputs.{parsed}
 use Rattle.rv_decode.specs.Immediates.{InRange}
@@ -57,18 +57,18 @@ reloc_item-requires-clause-aligned c = aligned _ _ _ _ c.self.invariant c.args.s
 
 pub reloc_item-requires-clause-room : goal.reloc_item-requires-clause-room
 reloc_item-requires-clause-room c =
-    subst (HasRoom c.self.inside.content c.args.at) c.in-Some.is (room _ _ _ _ c.self.invariant c.args.self.now c.self.view_is c.args.at c.requires.starts c.args.reloc c.requires.reloc)
+    subst (HasRoom c.self.inside.content c.args.at) (ap option_copied c.in-Some.is) (room _ _ _ _ c.self.invariant c.args.self.now c.self.view_is c.args.at c.requires.starts (option_copied c.args.reloc) c.requires.reloc)
 
 pub instr-instr-requires-clause-aligned : goal.instr-instr-requires-clause-aligned
 instr-instr-requires-clause-aligned c = aligned _ _ _ _ c.self.invariant c.args.self.now c.self.view_is c.args.at c.requires.starts
 
 pub instr-instr-requires-clause-inside : goal.instr-instr-requires-clause-inside
 instr-instr-requires-clause-inside c =
-    inside _ _ _ _ c.self.invariant c.args.self.now c.self.view_is c.args.at c.requires.starts c.args.reloc c.own_size-size.result c.requires.reloc c.in-None.is c.own_size-size.ensures
+    inside _ _ _ _ c.self.invariant c.args.self.now c.self.view_is c.args.at c.requires.starts (option_copied c.args.reloc) c.own_size-size.result c.requires.reloc (ap option_copied c.in-None.is) c.own_size-size.ensures
 
 pub raw-requires : goal.raw-requires
 raw-requires c =
-    inside _ _ _ _ c.self.invariant c.args.self.now c.self.view_is c.args.at c.requires.starts c.args.reloc c.own_size-size.result c.requires.reloc c.in-None.is c.own_size-size.ensures
+    inside _ _ _ _ c.self.invariant c.args.self.now c.self.view_is c.args.at c.requires.starts (option_copied c.args.reloc) c.own_size-size.result c.requires.reloc (ap option_copied c.in-None.is) c.own_size-size.ensures
 
 pub item_of-requires : goal.item_of-requires
 item_of-requires c = each c.instr-instr.result (sym c.instr-instr.ensures)
@@ -81,9 +81,9 @@ pub returns-in-Some : goal.returns-in-Some
 returns-in-Some c = λ inputs of resolved.
     let l = c.args.self.now.section in
     let n = c.args.at in
-    let found = sym (ap (λ (x : ResolvedSection). find (is_right_at n) x.relocs) resolved) ∙ sym c.requires.reloc ∙ c.in-Some.is in
-    c.reloc_item.ensures ∙ ap (λ b. resolved_item c.in-Some.reloc b n) (bytes_are _ _ _ _ c.self.invariant c.args.self.now c.self.view_is n c.requires.starts)
-    ∙ item_with (parsed inputs) l n c.in-Some.reloc of.is_code found
+    let found = sym (ap (λ (x : ResolvedSection). find (is_right_at n) x.relocs) resolved) ∙ sym c.requires.reloc ∙ ap option_copied c.in-Some.is in
+    c.reloc_item.ensures ∙ ap (λ b. resolved_item c.in-Some.reloc.now b n) (bytes_are _ _ _ _ c.self.invariant c.args.self.now c.self.view_is n c.requires.starts)
+    ∙ item_with (parsed inputs) l n c.in-Some.reloc.now of.is_code found
 
 pub returns-in-None : goal.returns-in-None
 returns-in-None c = λ inputs of resolved.
@@ -102,7 +102,7 @@ returns-in-None c = λ inputs of resolved.
     let size : c.own_size-size.result ≡ own = c.own_size-size.ensures ∙ (λ j. own_size (compressed_is _ _ _ _ c.self.invariant value c.self.view_is n c.requires.starts j) (bytes j) n) in
     let instr : c.instr-instr.result ≡ instr_in own l.section.bytes n = c.instr-instr.ensures ∙ (λ j. instr_in (size j) (bytes j) n) in
     let raw : c.raw.result ≡ raw_in own l.section.bytes n = c.raw.ensures ∙ (λ j. raw_in (size j) (bytes j) n) in
-    let found = sym (ap (λ (x : ResolvedSection). find (is_right_at n) x.relocs) resolved) ∙ sym c.requires.reloc ∙ c.in-None.is in
+    let found = sym (ap (λ (x : ResolvedSection). find (is_right_at n) x.relocs) resolved) ∙ sym c.requires.reloc ∙ ap option_copied c.in-None.is in
     c.item_of.ensures objects l.section (ap (code_at objects) same ∙ here.at n) here.whole
     (c.deref.ensures.value ∙ numbers_are _ _ _ _ c.self.invariant value c.self.view_is n c.requires.starts)
     ∙ (λ j. spelled_item objects (same j) (instr j) (raw j))

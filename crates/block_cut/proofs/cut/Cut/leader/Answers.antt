@@ -1,7 +1,7 @@
 use Rattle.std.proofs.Common.{◌||◌, sym, ap, ◌∙◌}
 use Rattle.psabi_sym.specs.Inputs.{parsed}
 use Rattle.block_cut.specs.Leaders.{is_leader_at}
-use Rattle.block_cut.specs.Invariants.Led.{is_led_to}
+use Rattle.block_cut.specs.Leaders.{is_led_to}
 use Rattle.block_cut.proofs.LedLaws.{leader_is}
 use Rattle.block_cut.proofs.cut.Cut.leader.Goals as goal
 
