@@ -31,7 +31,7 @@ use Rattle.moved_runs.proofs.QuietObjects.{objects-quiet}
 use Rattle.object_passes.specs.Written.{without_marks}
 use Rattle.tail_merge.specs.Merged.{indexed, merged, merged_place, removed_at}
 use Rattle.tail_merge.specs.Merging.{IsAnywhere, IsHeld, MovesUppers}
-use Rattle.tail_merge.specs.Sharing.{IsOutside, IsSharing, IsTailItem, Tails, shared_from, shared_place}
+use Rattle.tail_merge.specs.Sharing.{IsOutsideTails, IsSharing, IsTailItem, Tails, shared_from, shared_place}
 use Rattle.tail_merge.specs.Tails.{Removed, covers, host_offset, moved_down, removed_tails, tail_start}
 use Rattle.tail_merge.proofs.AskedLaws.{code-whole}
 use Rattle.tail_merge.proofs.DataLaws.{bytes-merged, merged-named}
@@ -311,7 +311,7 @@ module _ (inputs : Inputs) (none : first_fault inputs ≡ None) where
       where
         outer : (q : Place) (i : Item)
             → IsDead i ⊎ ((item_at result (down_place given q) ≡ Some (moved_item M i)) × (next_at result.objects (down_place given q) ≡ M (next_at objects q)))
-            → IsDead i ⊎ IsOutside (program_of given) (program_of result) t q i
+            → IsDead i ⊎ IsOutsideTails (program_of given) (program_of result) t q i
         outer q i (inl dead) = inl dead
         outer q i (inr both) = inr (record {
           item = both.0 ∙ ap (λ N. Some (moved_item N i)) (sym found-there);

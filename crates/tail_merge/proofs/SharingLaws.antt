@@ -16,7 +16,7 @@ use Rattle.moved_runs.specs.Moves.{IsDead, IsReturn, KeepsItem, KeepsRuns, Moves
 use Rattle.moved_runs.proofs.Words.{pc-target-moved}
 use Rattle.moved_runs.proofs.Runs.{keeps-runs}
 use Rattle.tail_merge.specs.Merging.{MovesUppers}
-use Rattle.tail_merge.specs.Sharing.{IsOutside, IsSharing, IsTailItem, Tails, shared_from, shared_place}
+use Rattle.tail_merge.specs.Sharing.{IsOutsideTails, IsSharing, IsTailItem, Tails, shared_from, shared_place}
 
 solid-dead : (i : Item) → IsDead i → is_solid (Some i) ≡ true
 solid-dead (item.Align n) d = absurd d
@@ -62,7 +62,7 @@ module _ (K : Place → Type 0) (t : Tails) (p p' : Program) (is : IsSharing K t
 
   -- the host's operation stands where it moves
   host-op : (q h : Place) → (x : IsTailItem p t q h) → p'.item (t.moved h) ≡ Some (item.Op x.op)
-  host-op q h x = ⊎_elim (λ d. absurd d) (λ (o : IsOutside p p' t h (item.Op x.op)). o.item) (is.outside h (item.Op x.op) x.kept x.same)
+  host-op q h x = ⊎_elim (λ d. absurd d) (λ (o : IsOutsideTails p p' t h (item.Op x.op)). o.item) (is.outside h (item.Op x.op) x.kept x.same)
 
   -- and goes on in step with the tail's
   onward : (q h : Place) (i : Item) → p.item q ≡ Some i → IsTailItem p t q h → (p'.next (t.moved h) ≡ M (p.next q)) ⊎ IsReturn i
@@ -78,7 +78,7 @@ module _ (K : Place → Type 0) (t : Tails) (p p' : Program) (is : IsSharing K t
       goes (inl r) = inr (returns x.op same r)
       goes (inr g) = ⊎_elim
           (λ d. absurd d)
-          (λ (o : IsOutside p p' t h (item.Op x.op)). inl (o.next ∙ at-none (p.next h) (is.tails (p.next q) (p.next h) g.0).kept ∙ sym (at-inner (p.next q) (p.next h) g.0 g.1)))
+          (λ (o : IsOutsideTails p p' t h (item.Op x.op)). inl (o.next ∙ at-none (p.next h) (is.tails (p.next q) (p.next h) g.0).kept ∙ sym (at-inner (p.next q) (p.next h) g.0 g.1)))
           (is.outside h (item.Op x.op) x.kept x.same)
 
   -- the `auipc` of a lower part stays
@@ -92,7 +92,7 @@ module _ (K : Place → Type 0) (t : Tails) (p p' : Program) (is : IsSharing K t
       by (Some h) s = let x = is.tails r h s in absurd (let d : Some (item.Op x.op) ≡ Some (item.PcHi pair.0 pair.1) = sym x.here ∙ pair.2 in cc)
       by None s = ⊎_elim
           (λ d. absurd d)
-          (λ (o : IsOutside p p' t r (item.PcHi pair.0 pair.1)). ap p'.item (at-none r s) ∙ o.item ∙ ap (option_map (moved_item M)) (sym pair.2))
+          (λ (o : IsOutsideTails p p' t r (item.PcHi pair.0 pair.1)). ap p'.item (at-none r s) ∙ o.item ∙ ap (option_map (moved_item M)) (sym pair.2))
           (is.outside r (item.PcHi pair.0 pair.1) s pair.2)
 
   pc-moves : (q : Place) (i : Item) → p.item q ≡ Some i → PcMoves M p p' i
@@ -100,7 +100,7 @@ module _ (K : Place → Type 0) (t : Tails) (p p' : Program) (is : IsSharing K t
   pc-moves q i e = tt
 
   -- outside of the tails
-  keeps : (q : Place) (i : Item) → t.host q ≡ None → p.item q ≡ Some i → IsOutside p p' t q i → KeepsItem K V M p p' q i
+  keeps : (q : Place) (i : Item) → t.host q ≡ None → p.item q ≡ Some i → IsOutsideTails p p' t q i → KeepsItem K V M p p' q i
   keeps q i s e o = record {
     there = ap p'.item (at-none q s) ∙ o.item;
     onward = inl (ap p'.next (at-none q s) ∙ o.next);

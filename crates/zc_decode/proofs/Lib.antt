@@ -1,3 +1,4 @@
 pub mod FormLaws
 pub mod RangeLaws
 pub mod OperandLaws
+pub mod EachHalfword

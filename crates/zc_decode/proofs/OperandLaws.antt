@@ -1,8 +1,7 @@
 -- What the operands of pushes, pops and pairs of moves are: by the tables their rows ask that the list isn't reserved, and that two
 -- registers that are set are different (form_fits). The rest is what the fields of a halfword can be.
-use Rattle.std.proofs.Common.{◌≡◌, ◌≢◌, ℕ, zero, suc, ◌+◌, ◌*◌, ◌<◌, ◌≤◌, ◌%◌, ◌-◌, List, [], ◌∷◌, ◌++◌, length, take, get_or, drop, Option, Some, None, Bool, true, false, cond, refl, sym, ap, ◌∙◌, subst, arith, eqb, ltb, inl, inr, ⊎_elim}
+use Rattle.std.proofs.Common.{◌≡◌, ◌≢◌, ℕ, zero, suc, ◌+◌, ◌*◌, ◌<◌, ◌≤◌, ◌%◌, ◌-◌, List, [], ◌∷◌, length, get_or, Option, Some, None, Bool, true, false, cond, refl, sym, subst, arith, eqb, ltb, inl, inr, ⊎_elim}
 use Rattle.std.specs.Option.{option_flatten, option_map}
-use Rattle.std.specs.Prelude.{All, ◌⊎◌}
 use Rattle.std.proofs.lemmas.Bool.{eqb-false, ltb-false, ltb-true}
 use Rattle.std.proofs.lemmas.Bool.Decides.{eqb_tells}
 use Rattle.std.proofs.lemmas.Option.{same_Some}
@@ -13,7 +12,7 @@ use Rattle.rv_decode.proofs.RowLaws.{EachRow}
 use Rattle.zc_decode.specs.Fields as fields
 use Rattle.zc_decode.specs.Fields.{c_rs2_of, index_of, list_of, s_register_of}
 use Rattle.zc_decode.specs.Halfwords.{decoded16, spelled}
-use Rattle.zc_decode.specs.Lists.{stack_adjust_base, registers_of, saved_registers}
+use Rattle.zc_decode.specs.Lists.{stack_adjust_base, registers_of}
 use Rattle.zc_decode.specs.Operands.{HasOperands, IsFrameSize, IsMoved}
 use Rattle.zc_decode.specs.Rows.{form_of, groups, jump_row, operations, register_rows, unless, zcmp_lists, zcmp_moves, zcmp_rows, zcb_memory, zcb_unary}
 use Rattle.zc_decode.specs.declared.form.Form.{Form}

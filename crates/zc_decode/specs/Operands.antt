@@ -1,6 +1,6 @@
 -- What the operands of pushes, pops and pairs of moves are (RISC-V Zc specification 1.0, "Zcmp"). Nothing that must be believed
 -- names these: they follow from the tables.
-use Rattle.std.specs.Prelude.{◌≡◌, ◌≢◌, ℕ, ◌≤◌, ◌+◌, ◌*◌, ◌⊎◌, Option, Some, None}
+use Rattle.std.specs.Prelude.{◌≡◌, ◌≢◌, ℕ, ◌≤◌, ◌+◌, ◌*◌, ◌⊎◌}
 use Rattle.zc_decode.specs.Lists.{stack_adjust_base}
 use Rattle.zc_decode.specs.declared.short.Short.{Short}
 use Rattle.zc_decode.specs.declared.short.Short.TheVariants.{Base, Push, Pop, PopRet, PopRetz, MoveSa, MoveAs, TableJump}

@@ -24,7 +24,8 @@ use Rattle.zc_encode.proofs.ImmRows.{upper_row, with_imm_row}
 use Rattle.zc_encode.proofs.JumpRows.{branch_row, jal_row, jalr_row}
 use Rattle.zc_encode.proofs.MemoryRows.{load_row, store_row}
 use Rattle.zc_encode.proofs.RegRows.{InOrder, with_reg_row}
-use Rattle.zc_encode.proofs.RoundTrips.{comes_back, each_comes_back, half_of_normal, is_earlier, is_found}
+use Rattle.zc_decode.proofs.EachHalfword.{each_passes, passes}
+use Rattle.zc_encode.proofs.RoundTrips.{all_found_again, half_of_normal, is_earlier, is_found, is_found_again}
 use Rattle.zc_encode.proofs.RowFits.{InRow, InRowOf}
 use Rattle.zc_encode.proofs.ZcmpRows.{move_as_row, move_sa_row, pop_row, popret_row, popretz_row, push_row, table_row}
 
@@ -139,7 +140,8 @@ found form half (Some k) h = (k, refl, ⊎_elim (λ e. inl (sym (eqb-true k half
 
 spells_found : (form : Form) (half : ℕ) (s : Short) → Spells form half s → Found form half (half_of_normal (normal_short s))
 spells_found form half s spells =
-    let back : comes_back half (Some form) ≡ true = sym (ap (comes_back half) spells.row) ∙ each_comes_back half spells.small in
+    let back : passes is_found_again half (Some form) ≡ true =
+    sym (ap (passes is_found_again half) spells.row) ∙ each_passes is_found_again all_found_again half spells.small in
     let again = sym (ap (λ t. is_hint form half || is_found form half (half_of_normal t)) spells.same) ∙ back in
     found form half _ (⊎_elim (λ hint. absurd (false≢true (sym spells.no_hint ∙ hint))) (λ e. e) (or_cases (is_hint form half) _ again))
 
