@@ -9,3 +9,4 @@ pub mod RegisterLaws
 pub mod MemoryLaws
 pub mod RunLaws
 pub mod WriteLaws
+pub mod SystemLaws

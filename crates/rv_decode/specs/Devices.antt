@@ -1,6 +1,6 @@
--- Devices: ranges of addresses outside memory. What is loaded there is an answer of the machine's environment, and what is stored
--- there goes to it.
-use Rattle.std.specs.Prelude.{ℕ, ◌+◌, ◌*◌, ◌%◌, ◌≤◌, ◌⊎◌, Bool, false, ◌&&◌, ◌||◌, nat_le, List, [], ◌∷◌, All}
+-- Devices: ranges of addresses outside memory, and the control and status registers. What is loaded or read there is an answer of the
+-- machine's environment, and what is stored or written there goes to it.
+use Rattle.std.specs.Prelude.{ℕ, ◌+◌, ◌*◌, ◌%◌, ◌≤◌, ◌⊎◌, Bool, true, false, ◌&&◌, ◌||◌, nat_le, List, [], ◌∷◌, All}
 use Rattle.zc_base.specs.Fields.{half_bytes, word_bytes}
 use Rattle.zc_base.specs.declared.mem_map.MemMap.{MemMap}
 use Rattle.rv_decode.specs.declared.instr.LoadOp.{LoadOp}
@@ -10,18 +10,34 @@ use Rattle.rv_decode.specs.declared.instr.StoreOp.TheVariants.{Sb, Sh, Sw}
 use Rattle.rv_decode.specs.Bits.{as_word, signed}
 
 -- a range of addresses
-pub record Device : Type 0 where
+pub record DeviceRange : Type 0 where
   pub at : ℕ
   pub size : ℕ
 
--- each lies below all code, data and stack, or above
-abbrev pub AreOutside : MemMap → List Device → Type 0
-AreOutside map devices = All (λ d. (d.at + d.size ≤ map.text) ⊎ (map.stack_high ≤ d.at)) devices
+-- a device at a range of addresses; or the control and status registers, and what `wfi` waits for
+pub data Device : Type 0 where
+  Range : DeviceRange → Device
+  Registers : Device
 
--- whether the n bytes from an address on lie in one of them
+-- a range lies below all code, data and stack, or above
+abbrev pub IsOutside : MemMap → Device → Type 0
+IsOutside map (Range d) = (d.at + d.size ≤ map.text) ⊎ (map.stack_high ≤ d.at)
+IsOutside map Registers = Unit {0}
+
+abbrev pub AreOutside : MemMap → List Device → Type 0
+AreOutside map devices = All (IsOutside map) devices
+
+-- whether the n bytes from an address on lie in one of the ranges
 abbrev pub in_devices : List Device → ℕ → ℕ → Bool
 in_devices [] a n = false
-in_devices (d ∷ ds) a n = (nat_le d.at a && nat_le (a + n) (d.at + d.size)) || in_devices ds a n
+in_devices (Range d ∷ ds) a n = (nat_le d.at a && nat_le (a + n) (d.at + d.size)) || in_devices ds a n
+in_devices (Registers ∷ ds) a n = in_devices ds a n
+
+-- whether the registers are among them
+abbrev pub has_registers : List Device → Bool
+has_registers [] = false
+has_registers (Range d ∷ ds) = has_registers ds
+has_registers (Registers ∷ ds) = true
 
 -- ---- what is loaded and stored
 

@@ -5,6 +5,7 @@ pub mod Registers
 pub mod Immediates
 pub mod Memory
 pub mod Devices
+pub mod System
 pub mod State
 pub mod Results
 pub mod Effect

@@ -3,14 +3,16 @@ use Rattle.std.specs.Prelude.{◌≡◌, ℕ, ◌+◌, ◌*◌, ◌^◌, ◌<◌
 use Rattle.rv_decode.specs.Devices.{Device}
 use Rattle.rv_decode.specs.Memory.{Region, cell_at}
 
--- what a program does to its environment: it reads input, writes output, or exits; or it loads at a device's address, where it
--- asks for so many bytes and gets these, or stores bytes there
+-- what a program does to its environment: it reads input, writes output, or exits; it loads from a device's address, where it asks
+-- for `width` bytes and gets these, or stores bytes there; or it makes an instruction of the system, by its word and operand, and
+-- gets these bytes
 pub data Event : Type 0 where
   Read : (bytes : List ℕ) → Event
   Write : (fd : ℕ) (bytes : List ℕ) → Event
   Exit : (status : ℕ) → Event
   Load : (at width : ℕ) (bytes : List ℕ) → Event
   Store : (at : ℕ) (bytes : List ℕ) → Event
+  System : (word operand : ℕ) (bytes : List ℕ) → Event
 
 -- what the machine itself keeps: the program counter, 32 registers, the base of the jump table (jvt, Zc 1.0,
 -- chapter "Zcmt"), memory, the number of instructions that were committed, and the exit's status

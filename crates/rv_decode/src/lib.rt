@@ -10,4 +10,5 @@ pub mod instr;
 pub mod normal;
 mod ops;
 pub mod results;
+pub mod system;
 pub mod widths;
