@@ -7,8 +7,9 @@ use Rattle.std.proofs.lemmas.Grind.{flat_map-append}
 use Rattle.std.proofs.lemmas.List.Elements.{All-cons, All-nil}
 use Rattle.std.proofs.lemmas.List.Folds.{list_any-append}
 use Rattle.zc_base.specs.declared.mem_map.MemMap.{MemMap}
-use Rattle.rv_decode.specs.Devices.{AreOutside, Device}
-use Rattle.devices.specs.Lines.{DevicesLine, Range, Output, Answer, Then, device_in, devices_of, is_then, output_in, outputs_of}
+use Rattle.rv_decode.specs.Devices.{AreOutside, DeviceRange, IsOutside}
+use Rattle.rv_decode.specs.Devices as device
+use Rattle.devices.specs.Lines.{DevicesLine, Range, Registers, Reset, Output, Answer, Then, devices_of, is_then, output_in, outputs_of, range_in, ranges_of}
 use Rattle.devices.specs.Text.{Follow, have_common, is_range, may_follow, may_stand}
 use Rattle.devices.specs.Invariants.Kept.{CanFollow, IsBegun, IsOne, IsSet, IsTable}
 use Rattle.devices.proofs.RangeLaws.{any_one, common_false, common_true, true_not_false}
@@ -19,11 +20,11 @@ or_none false = refl
 
 -- ---- one line more
 
-pub devices_more : (before : List DevicesLine) (l : DevicesLine) → devices_of (before ++ l ∷ []) ≡ devices_of before ++ device_in l
-devices_more before l = flat_map-append device_in before (l ∷ []) ∙ ap (λ ds. devices_of before ++ ds) (append-nil (device_in l))
+ranges_more : (before : List DevicesLine) (l : DevicesLine) → ranges_of (before ++ l ∷ []) ≡ ranges_of before ++ range_in l
+ranges_more before l = flat_map-append range_in before (l ∷ []) ∙ ap (λ ds. ranges_of before ++ ds) (append-nil (range_in l))
 
--- a device among some and one more
-one_of_more : (ds : List Device) (d e : Device) → IsOne e (ds ++ d ∷ []) → IsOne e ds ⊎ (e ≡ d)
+-- a range among some and one more
+one_of_more : (ds : List DeviceRange) (d e : DeviceRange) → IsOne e (ds ++ d ∷ []) → IsOne e ds ⊎ (e ≡ d)
 one_of_more [] d e (inl same) = inr same
 one_of_more [] d e (inr one) = absurd one
 one_of_more (x ∷ ds) d e (inl same) = inl (inl same)
@@ -33,33 +34,33 @@ one_of_more (x ∷ ds) d e (inr one) = either (one_of_more ds d e one)
     either (inl here) = inl (inr here)
     either (inr last) = inr last
 
-still_one : (ds : List Device) (d e : Device) → IsOne e ds → IsOne e (ds ++ d ∷ [])
+still_one : (ds : List DeviceRange) (d e : DeviceRange) → IsOne e ds → IsOne e (ds ++ d ∷ [])
 still_one [] d e one = absurd one
 still_one (x ∷ ds) d e (inl same) = inl same
 still_one (x ∷ ds) d e (inr one) = inr (still_one ds d e one)
 
-last_one : (ds : List Device) (d : Device) → IsOne d (ds ++ d ∷ [])
+last_one : (ds : List DeviceRange) (d : DeviceRange) → IsOne d (ds ++ d ∷ [])
 last_one [] d = inl refl
 last_one (x ∷ ds) d = inr (last_one ds d)
 
-module _ (ends more : ℕ → Option ℕ) (ds : List Device) (d : Device) (table : IsTable ends ds) (some : 0 < d.size) (free : list_any (have_common d) ds ≡ false)
+module _ (ends more : ℕ → Option ℕ) (ds : List DeviceRange) (d : DeviceRange) (table : IsTable ends ds) (some : 0 < d.size) (free : list_any (have_common d) ds ≡ false)
     (puts : more d.at ≡ Some (d.at + d.size)) (keeps : (a : ℕ) → (a ≡ d.at → ⊥) → more a ≡ ends a) where
   -- the new range has no address in common with one of the others
-  others_apart : (e : Device) → IsOne e ds → have_common d e ≡ false
+  others_apart : (e : DeviceRange) → IsOne e ds → have_common d e ≡ false
   others_apart e one = either (have_common d e) refl
     where
       either : (b : Bool) → have_common d e ≡ b → have_common d e ≡ false
       either true is = true_not_false (any_one (have_common d) ds e one is) free
       either false is = is
 
-  turned : (e : Device) → have_common d e ≡ false → have_common e d ≡ false
+  turned : (e : DeviceRange) → have_common d e ≡ false → have_common e d ≡ false
   turned e apart = common_false e d (λ l r. either (have_common d e) refl l r)
     where
       either : (b : Bool) → have_common d e ≡ b → e.at < d.at + d.size → d.at < e.at + e.size → ⊥
       either true is l r = true_not_false is apart
       either false is l r = let both = common_true d e r l in true_not_false both is
 
-  other_start : (e : Device) → IsOne e ds → e.at ≡ d.at → ⊥
+  other_start : (e : DeviceRange) → IsOne e ds → e.at ≡ d.at → ⊥
   other_start e one same =
       let filled = table.some e one in
       let both = common_true d e (omega (arith, same, filled)) (omega (arith, same, some)) in
@@ -73,7 +74,7 @@ module _ (ends more : ℕ → Option ℕ) (ds : List Device) (d : Device) (table
     apart = λ e f one two. apart e f (one_of_more ds d e one) (one_of_more ds d f two);
   }
     where
-      each : (e : Device) → IsOne e ds ⊎ (e ≡ d) → more e.at ≡ Some (e.at + e.size)
+      each : (e : DeviceRange) → IsOne e ds ⊎ (e ≡ d) → more e.at ≡ Some (e.at + e.size)
       each e (inl one) = keeps e.at (other_start e one) ∙ table.each e one
       each e (inr same) = ap (λ x. more x.at) same ∙ puts ∙ ap (λ x. Some (x.at + x.size)) (sym same)
 
@@ -87,11 +88,11 @@ module _ (ends more : ℕ → Option ℕ) (ds : List Device) (d : Device) (table
           let old = table.only a end (sym (keeps a (λ same. let equal = eq-eqb a d.at same in true_not_false equal there)) ∙ is) in
           (old.0, still_one ds d old.0 old.1, old.2, old.3)
 
-      filled : (e : Device) → IsOne e ds ⊎ (e ≡ d) → 0 < e.size
+      filled : (e : DeviceRange) → IsOne e ds ⊎ (e ≡ d) → 0 < e.size
       filled e (inl one) = table.some e one
-      filled e (inr same) = let size = ap (λ (x : Device). x.size) same in omega (arith, some, size)
+      filled e (inr same) = let size = ap (λ (x : DeviceRange). x.size) same in omega (arith, some, size)
 
-      apart : (e f : Device) → IsOne e ds ⊎ (e ≡ d) → IsOne f ds ⊎ (f ≡ d) → (e ≡ f) ⊎ (have_common e f ≡ false)
+      apart : (e f : DeviceRange) → IsOne e ds ⊎ (e ≡ d) → IsOne f ds ⊎ (f ≡ d) → (e ≡ f) ⊎ (have_common e f ≡ false)
       apart e f (inl one) (inl two) = table.apart e f one two
       apart e f (inl one) (inr last) = inr (ap (have_common e) last ∙ turned e (others_apart e one))
       apart e f (inr last) (inl two) = inr (ap (λ x. have_common x f) last ∙ others_apart f two)
@@ -102,16 +103,16 @@ module _ (ends more : ℕ → Option ℕ) (ds : List Device) (d : Device) (table
 may_stand_of : (map : MemMap) (before : List DevicesLine) (l : DevicesLine) → may_follow map before l ≡ true → may_stand map before l ≡ true
 may_stand_of map before l may = (and_parts (not (list_any is_then before)) (may_stand map before l) may).1
 
-pub range_parts : (map : MemMap) (before : List DevicesLine) (d : Device) → may_follow map before (Range d) ≡ true → (is_range map d ≡ true) × (list_any (have_common d) (devices_of before) ≡ false)
+pub range_parts : (map : MemMap) (before : List DevicesLine) (d : DeviceRange) → may_follow map before (Range d) ≡ true → (is_range map d ≡ true) × (list_any (have_common d) (ranges_of before) ≡ false)
 range_parts map before d may =
-    let parts = and_parts (is_range map d) (not (list_any (have_common d) (devices_of before))) (may_stand_of map before (Range d) may) in
-    (parts.0, not-true (list_any (have_common d) (devices_of before)) parts.1)
+    let parts = and_parts (is_range map d) (not (list_any (have_common d) (ranges_of before))) (may_stand_of map before (Range d) may) in
+    (parts.0, not-true (list_any (have_common d) (ranges_of before)) parts.1)
 
-pub record IsOutsideRange (map : MemMap) (d : Device) : Type 0 where
+pub record IsOutsideRange (map : MemMap) (d : DeviceRange) : Type 0 where
   pub some : 0 < d.size
   pub outside : (d.at + d.size ≤ map.text) ⊎ (map.stack_high ≤ d.at)
 
-pub range_is : (map : MemMap) (d : Device) → is_range map d ≡ true → IsOutsideRange map d
+pub range_is : (map : MemMap) (d : DeviceRange) → is_range map d ≡ true → IsOutsideRange map d
 range_is map d is =
     let first = and_parts (ltb 0 d.size) (leb (d.at + d.size) (2 ^ 32) && (leb (d.at + d.size) map.text || leb map.stack_high d.at)) is in
     let second = and_parts (leb (d.at + d.size) (2 ^ 32)) (leb (d.at + d.size) map.text || leb map.stack_high d.at) first.1 in
@@ -123,15 +124,15 @@ range_is map d is =
 
 -- ---- the table with one line more
 
-pub table_with : (ends more : ℕ → Option ℕ) (before : List DevicesLine) (d : Device) → IsTable ends (devices_of before) → CanFollow before (Range d) → more d.at ≡ Some (d.at + d.size) → ((a : ℕ) → (a ≡ d.at → ⊥) → more a ≡ ends a) → IsTable more (devices_of (before ++ Range d ∷ []))
+pub table_with : (ends more : ℕ → Option ℕ) (before : List DevicesLine) (d : DeviceRange) → IsTable ends (ranges_of before) → CanFollow before (Range d) → more d.at ≡ Some (d.at + d.size) → ((a : ℕ) → (a ≡ d.at → ⊥) → more a ≡ ends a) → IsTable more (ranges_of (before ++ Range d ∷ []))
 table_with ends more before d table may puts keeps =
     let parts = range_parts may.0 before d may.1 in
-    subst (IsTable more) (sym (devices_more before (Range d)))
-    (table_more ends more (devices_of before) d table (range_is may.0 d parts.0).some parts.1 puts keeps)
+    subst (IsTable more) (sym (ranges_more before (Range d)))
+    (table_more ends more (ranges_of before) d table (range_is may.0 d parts.0).some parts.1 puts keeps)
 
-pub table_same : (ends : ℕ → Option ℕ) (before : List DevicesLine) (l : DevicesLine) → device_in l ≡ [] → IsTable ends (devices_of before) → IsTable ends (devices_of (before ++ l ∷ []))
+pub table_same : (ends : ℕ → Option ℕ) (before : List DevicesLine) (l : DevicesLine) → range_in l ≡ [] → IsTable ends (ranges_of before) → IsTable ends (ranges_of (before ++ l ∷ []))
 table_same ends before l none table =
-    subst (IsTable ends) (sym (devices_more before l ∙ ap (λ ds. devices_of before ++ ds) none ∙ append-nil (devices_of before))) table
+    subst (IsTable ends) (sym (ranges_more before l ∙ ap (λ ds. ranges_of before ++ ds) none ∙ append-nil (ranges_of before))) table
 
 pub table_none : (ends : ℕ → Option ℕ) → ((a : ℕ) → ends a ≡ None) → IsTable ends []
 table_none ends none = record {
@@ -144,10 +145,13 @@ table_none ends none = record {
 -- ---- ranges lie outside the map
 
 pub are_outside : (map : MemMap) (before lines : List DevicesLine) → Follow map before lines → AreOutside map (devices_of lines)
-are_outside map before [] follow = All-nil (λ d. (d.at + d.size ≤ map.text) ⊎ (map.stack_high ≤ d.at))
+are_outside map before [] follow = All-nil (IsOutside map)
 are_outside map before (Range d ∷ lines) follow =
-    All-cons (λ x. (x.at + x.size ≤ map.text) ⊎ (map.stack_high ≤ x.at)) d (devices_of lines)
+    All-cons (IsOutside map) (device.Range d) (devices_of lines)
     (range_is map d (range_parts map before d follow.0).0).outside (are_outside map (before ++ Range d ∷ []) lines follow.1)
+are_outside map before (Registers ∷ lines) follow =
+    All-cons (IsOutside map) device.Registers (devices_of lines) tt (are_outside map (before ++ Registers ∷ []) lines follow.1)
+are_outside map before (Reset ∷ lines) follow = are_outside map (before ++ Reset ∷ []) lines follow.1
 are_outside map before (Output a ∷ lines) follow = are_outside map (before ++ Output a ∷ []) lines follow.1
 are_outside map before (Answer bytes ∷ lines) follow = are_outside map (before ++ Answer bytes ∷ []) lines follow.1
 are_outside map before (Then bytes ∷ lines) follow = are_outside map (before ++ Then bytes ∷ []) lines follow.1

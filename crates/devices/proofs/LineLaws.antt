@@ -6,8 +6,8 @@ use Rattle.std.proofs.lemmas.Bool.{cond-false, cond-true, false≢true}
 use Rattle.text_lines.specs.Lines.{words_in}
 use Rattle.text_lines.specs.Number.{hex_byte_of, hex_word_of}
 use Rattle.text_lines.proofs.SplitLaws.{some_part}
-use Rattle.devices.specs.Lines.{DevicesLine, Range, Answer, Then}
-use Rattle.devices.specs.Text.{line_bytes, line_of_words, line_output, line_range}
+use Rattle.devices.specs.Lines.{DevicesLine, Range, Registers, Reset, Answer, Then}
+use Rattle.devices.specs.Text.{line_alone, line_bytes, line_of_words, line_output, line_range}
 
 -- what is left of a line
 abbrev pub room : Option (List ℕ) → ℕ
@@ -26,35 +26,55 @@ by_answer first others = cond (bytes_eq first (codes "answer")) (option_map Answ
 abbrev pub by_output : List ℕ → List (List ℕ) → Option DevicesLine
 by_output first others = cond (bytes_eq first (codes "output")) (line_output others) (by_answer first others)
 
+abbrev pub by_reset : List ℕ → List (List ℕ) → Option DevicesLine
+by_reset first others = cond (bytes_eq first (codes "reset")) (line_alone Reset others) (by_output first others)
+
+abbrev pub by_registers : List ℕ → List (List ℕ) → Option DevicesLine
+by_registers first others = cond (bytes_eq first (codes "registers")) (line_alone Registers others) (by_reset first others)
+
 module _ (words : List (List ℕ)) (first : List ℕ) (others : List (List ℕ)) (is : words ≡ first ∷ others) where
   pub is_device : bytes_eq first (codes "device") ≡ true → line_of_words words ≡ line_range others
   unfolding line_of_words
-  is_device same = ap line_of_words is ∙ cond-true (bytes_eq first (codes "device")) (line_range others) (by_output first others) same
+  is_device same = ap line_of_words is ∙ cond-true (bytes_eq first (codes "device")) (line_range others) (by_registers first others) same
 
   module _ (no_device : bytes_eq first (codes "device") ≡ false) where
-    behind_device : line_of_words words ≡ by_output first others
+    behind_device : line_of_words words ≡ by_registers first others
     unfolding line_of_words
-    behind_device = ap line_of_words is ∙ cond-false (bytes_eq first (codes "device")) (line_range others) (by_output first others) no_device
+    behind_device = ap line_of_words is ∙ cond-false (bytes_eq first (codes "device")) (line_range others) (by_registers first others) no_device
 
-    pub is_output : bytes_eq first (codes "output") ≡ true → line_of_words words ≡ line_output others
-    is_output same = behind_device ∙ cond-true (bytes_eq first (codes "output")) (line_output others) (by_answer first others) same
+    pub is_registers_line : bytes_eq first (codes "registers") ≡ true → line_of_words words ≡ line_alone Registers others
+    is_registers_line same = behind_device ∙ cond-true (bytes_eq first (codes "registers")) (line_alone Registers others) (by_reset first others) same
 
-    module _ (no_output : bytes_eq first (codes "output") ≡ false) where
-      behind_output : line_of_words words ≡ by_answer first others
-      behind_output = behind_device ∙ cond-false (bytes_eq first (codes "output")) (line_output others) (by_answer first others) no_output
+    module _ (no_registers : bytes_eq first (codes "registers") ≡ false) where
+      behind_registers : line_of_words words ≡ by_reset first others
+      behind_registers = behind_device ∙ cond-false (bytes_eq first (codes "registers")) (line_alone Registers others) (by_reset first others) no_registers
 
-      pub is_answers : bytes_eq first (codes "answer") ≡ true → line_of_words words ≡ option_map Answer (line_bytes others)
-      is_answers same = behind_output ∙ cond-true (bytes_eq first (codes "answer")) (option_map Answer (line_bytes others)) (by_then first others) same
+      pub is_reset_line : bytes_eq first (codes "reset") ≡ true → line_of_words words ≡ line_alone Reset others
+      is_reset_line same = behind_registers ∙ cond-true (bytes_eq first (codes "reset")) (line_alone Reset others) (by_output first others) same
 
-      module _ (no_answer : bytes_eq first (codes "answer") ≡ false) where
-        behind_answer : line_of_words words ≡ by_then first others
-        behind_answer = behind_output ∙ cond-false (bytes_eq first (codes "answer")) (option_map Answer (line_bytes others)) (by_then first others) no_answer
+      module _ (no_reset : bytes_eq first (codes "reset") ≡ false) where
+        behind_reset : line_of_words words ≡ by_output first others
+        behind_reset = behind_registers ∙ cond-false (bytes_eq first (codes "reset")) (line_alone Reset others) (by_output first others) no_reset
 
-        pub is_last : bytes_eq first (codes "then") ≡ true → line_of_words words ≡ option_map Then (line_bytes others)
-        is_last same = behind_answer ∙ cond-true (bytes_eq first (codes "then")) (option_map Then (line_bytes others)) None same
+        pub is_output : bytes_eq first (codes "output") ≡ true → line_of_words words ≡ line_output others
+        is_output same = behind_reset ∙ cond-true (bytes_eq first (codes "output")) (line_output others) (by_answer first others) same
 
-        pub is_none_of_these : bytes_eq first (codes "then") ≡ false → line_of_words words ≡ None
-        is_none_of_these other = behind_answer ∙ cond-false (bytes_eq first (codes "then")) (option_map Then (line_bytes others)) None other
+        module _ (no_output : bytes_eq first (codes "output") ≡ false) where
+          behind_output : line_of_words words ≡ by_answer first others
+          behind_output = behind_reset ∙ cond-false (bytes_eq first (codes "output")) (line_output others) (by_answer first others) no_output
+
+          pub is_answers : bytes_eq first (codes "answer") ≡ true → line_of_words words ≡ option_map Answer (line_bytes others)
+          is_answers same = behind_output ∙ cond-true (bytes_eq first (codes "answer")) (option_map Answer (line_bytes others)) (by_then first others) same
+
+          module _ (no_answer : bytes_eq first (codes "answer") ≡ false) where
+            behind_answer : line_of_words words ≡ by_then first others
+            behind_answer = behind_output ∙ cond-false (bytes_eq first (codes "answer")) (option_map Answer (line_bytes others)) (by_then first others) no_answer
+
+            pub is_last : bytes_eq first (codes "then") ≡ true → line_of_words words ≡ option_map Then (line_bytes others)
+            is_last same = behind_answer ∙ cond-true (bytes_eq first (codes "then")) (option_map Then (line_bytes others)) None same
+
+            pub is_none_of_these : bytes_eq first (codes "then") ≡ false → line_of_words words ≡ None
+            is_none_of_these other = behind_answer ∙ cond-false (bytes_eq first (codes "then")) (option_map Then (line_bytes others)) None other
 
 -- ---- words that are left
 

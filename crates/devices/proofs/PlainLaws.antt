@@ -6,7 +6,7 @@ use Rattle.std.proofs.lemmas.List.Elements.{All-cons, All-from_recursion, All-ma
 use Rattle.text_lines.specs.Hex.{hex_byte, hex_digit, hex_word}
 use Rattle.text_lines.specs.Lines.{words_of}
 use Rattle.text_lines.proofs.PlainLaws.{IsLine, IsPlain, joined_line, words_again}
-use Rattle.devices.specs.Lines.{DevicesLine, Range, Output, Answer, Then}
+use Rattle.devices.specs.Lines.{DevicesLine, Range, Registers, Reset, Output, Answer, Then}
 use Rattle.devices.specs.Text.{devices_line, devices_title, devices_words}
 
 -- ---- words are plain
@@ -35,6 +35,10 @@ words_plain (Range d) =
     All-cons IsPlain (codes "device") (hex_word d.at ∷ (hex_word d.size ∷ [])) (six_plain 100 101 118 105 99 101 (lit< tt) (lit< tt) (lit< tt) (lit< tt) (lit< tt) (lit< tt))
     (All-cons IsPlain (hex_word d.at) (hex_word d.size ∷ []) (word_plain d.at)
     (All-cons IsPlain (hex_word d.size) [] (word_plain d.size) (All-nil IsPlain)))
+words_plain Registers =
+    All-cons IsPlain (codes "registers") [] (All-from_recursion (λ b. 32 < b) (codes "registers") (lit< tt, (lit< tt, (lit< tt, (lit< tt, (lit< tt, (lit< tt, (lit< tt, (lit< tt, (lit< tt, tt)))))))))) (All-nil IsPlain)
+words_plain Reset =
+    All-cons IsPlain (codes "reset") [] (All-from_recursion (λ b. 32 < b) (codes "reset") (lit< tt, (lit< tt, (lit< tt, (lit< tt, (lit< tt, tt)))))) (All-nil IsPlain)
 words_plain (Output a) =
     All-cons IsPlain (codes "output") (hex_word a ∷ []) (six_plain 111 117 116 112 117 116 (lit< tt) (lit< tt) (lit< tt) (lit< tt) (lit< tt) (lit< tt))
     (All-cons IsPlain (hex_word a) [] (word_plain a) (All-nil IsPlain))
@@ -47,6 +51,8 @@ words_plain (Then bytes) =
 
 pub words_back : (l : DevicesLine) → words_of (devices_line l) ≡ devices_words l
 words_back (Range d) = words_again (codes "device") (hex_word d.at ∷ (hex_word d.size ∷ [])) (words_plain (Range d))
+words_back Registers = words_again (codes "registers") [] (words_plain Registers)
+words_back Reset = words_again (codes "reset") [] (words_plain Reset)
 words_back (Output a) = words_again (codes "output") (hex_word a ∷ []) (words_plain (Output a))
 words_back (Answer bytes) = words_again (codes "answer") (map hex_byte bytes) (words_plain (Answer bytes))
 words_back (Then bytes) = words_again (codes "then") (map hex_byte bytes) (words_plain (Then bytes))

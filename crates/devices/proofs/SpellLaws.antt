@@ -9,9 +9,9 @@ use Rattle.text_lines.specs.Hex.{hex_byte, hex_word}
 use Rattle.text_lines.specs.Number.{hex_byte_of, hex_word_of}
 use Rattle.text_lines.proofs.HexLaws.{hex_byte_of-Some, hex_byte_of_is, hex_word_of-Some, hex_word_of_is}
 use Rattle.text_lines.proofs.OptionLaws.{mapped}
-use Rattle.devices.specs.Lines.{DevicesLine, Range, Output, Answer, Then}
-use Rattle.devices.specs.Text.{FitsLine, devices_words, line_bytes, line_of_words, line_output, line_range}
-use Rattle.devices.proofs.LineLaws.{by_answer, by_output, by_then}
+use Rattle.devices.specs.Lines.{DevicesLine, Range, Registers, Reset, Output, Answer, Then}
+use Rattle.devices.specs.Text.{FitsLine, devices_words, line_alone, line_bytes, line_of_words, line_output, line_range}
+use Rattle.devices.proofs.LineLaws.{by_answer, by_output, by_registers, by_reset, by_then}
 
 -- ---- bytes
 
@@ -60,6 +60,16 @@ output_is first (a ∷ []) l same is =
     subst (IsSpelled (first ∷ (a ∷ []))) all (ap₂ (λ w ws. w ∷ ws) same (ap (λ v. v ∷ []) p.1), p.0))
 output_is first (a ∷ (x ∷ xs)) l same is = absurd (none-some l is)
 
+registers_is : (first : List ℕ) (words : List (List ℕ)) (l : DevicesLine) → first ≡ codes "registers" → line_alone Registers words ≡ Some l → IsSpelled (first ∷ words) l
+unfolding IsSpelled
+registers_is first [] l same is = subst (IsSpelled (first ∷ [])) (same_Some Registers l is) (ap (λ w. w ∷ []) same, tt)
+registers_is first (word ∷ words) l same is = absurd (none-some l is)
+
+reset_is : (first : List ℕ) (words : List (List ℕ)) (l : DevicesLine) → first ≡ codes "reset" → line_alone Reset words ≡ Some l → IsSpelled (first ∷ words) l
+unfolding IsSpelled
+reset_is first [] l same is = subst (IsSpelled (first ∷ [])) (same_Some Reset l is) (ap (λ w. w ∷ []) same, tt)
+reset_is first (word ∷ words) l same is = absurd (none-some l is)
+
 answer_is : (first : List ℕ) (words : List (List ℕ)) (l : DevicesLine) → first ≡ codes "answer" → option_map Answer (line_bytes words) ≡ Some l → IsSpelled (first ∷ words) l
 unfolding IsSpelled AreBytes
 answer_is first words l same is =
@@ -91,9 +101,17 @@ by_keyword (first ∷ words) l is = device (bytes_eq first (codes "device")) ref
     output true same h = output_is first words l ((bytes_eq-Decides first (codes "output")).0 same) h
     output false other h = answer (bytes_eq first (codes "answer")) refl h
 
-    device : (b : Bool) → bytes_eq first (codes "device") ≡ b → cond b (line_range words) (by_output first words) ≡ Some l → IsSpelled (first ∷ words) l
+    reset : (b : Bool) → bytes_eq first (codes "reset") ≡ b → cond b (line_alone Reset words) (by_output first words) ≡ Some l → IsSpelled (first ∷ words) l
+    reset true same h = reset_is first words l ((bytes_eq-Decides first (codes "reset")).0 same) h
+    reset false other h = output (bytes_eq first (codes "output")) refl h
+
+    registers : (b : Bool) → bytes_eq first (codes "registers") ≡ b → cond b (line_alone Registers words) (by_reset first words) ≡ Some l → IsSpelled (first ∷ words) l
+    registers true same h = registers_is first words l ((bytes_eq-Decides first (codes "registers")).0 same) h
+    registers false other h = reset (bytes_eq first (codes "reset")) refl h
+
+    device : (b : Bool) → bytes_eq first (codes "device") ≡ b → cond b (line_range words) (by_registers first words) ≡ Some l → IsSpelled (first ∷ words) l
     device true same h = range_is first words l ((bytes_eq-Decides first (codes "device")).0 same) h
-    device false other h = output (bytes_eq first (codes "output")) refl h
+    device false other h = registers (bytes_eq first (codes "registers")) refl h
 
 pub line_is : (words : List (List ℕ)) (l : DevicesLine) → line_of_words words ≡ Some l → (words ≡ devices_words l) × FitsLine l
 unfolding IsSpelled
@@ -106,6 +124,8 @@ unfolding line_of_words
 line_back (Range d) fits =
     ap (option_and_then (λ a. option_map (λ n. Range (record { at = a; size = n })) (hex_word_of (hex_word d.size)))) (hex_word_of-Some d.at (hex_word d.at) fits.0 refl)
     ∙ ap (option_map (λ n. Range (record { at = d.at; size = n }))) (hex_word_of-Some d.size (hex_word d.size) fits.1 refl)
+line_back Registers fits = refl
+line_back Reset fits = refl
 line_back (Output a) fits = ap (option_map Output) (hex_word_of-Some a (hex_word a) fits refl)
 line_back (Answer bytes) fits = ap (option_map Answer) (bytes_back bytes fits)
 line_back (Then bytes) fits = ap (option_map Then) (bytes_back bytes fits)

@@ -5,7 +5,7 @@ use Rattle.devices.specs.Lines.{DevicesLine, answers_over, devices_of, outputs_o
 
 -- devices, and those of their addresses whose stored bytes appear on standard output
 pub record DeviceMap : Type 0 where
-  pub ranges : List Device
+  pub all : List Device
   pub outputs : List ℕ
 
 -- devices, and the bytes that reads and loads from devices take, from the front
@@ -16,7 +16,7 @@ pub record Environment : Type 0 where
 -- ---- without devices
 
 abbrev pub no_devices : DeviceMap
-no_devices = record { ranges = []; outputs = [] }
+no_devices = record { all = []; outputs = [] }
 
 abbrev pub only_input : List ℕ → Environment
 only_input input = record { devices = no_devices; input = input }
@@ -24,7 +24,7 @@ only_input input = record { devices = no_devices; input = input }
 -- ---- by the lines of a text
 
 abbrev pub device_map : List DevicesLine → DeviceMap
-device_map lines = record { ranges = devices_of lines; outputs = outputs_of lines }
+device_map lines = record { all = devices_of lines; outputs = outputs_of lines }
 
 -- in a run of at most `steps` steps, whose standard input has these bytes
 abbrev pub environment_of : List DevicesLine → ℕ → List ℕ → Environment

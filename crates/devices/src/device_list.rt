@@ -2,8 +2,8 @@
 
 ghost use Rattle.std.specs.Prelude.{◌≡◌, ◌<◌, ◌==◌, ◌++◌, ◌∷◌, [], IfOk, length};
 ghost use Rattle.std.specs.List.{list_any};
-ghost use Rattle.rv_decode.specs.Devices.{Device, in_devices};
-ghost use Rattle.devices.specs.Lines.{answers_over, devices_of, has_answers, outputs_of};
+ghost use Rattle.rv_decode.specs.Devices.{has_registers, in_devices};
+ghost use Rattle.devices.specs.Lines.{answers_over, devices_of, has_answers, outputs_of, starts_reset};
 ghost use Rattle.devices.specs.Text.{is_range, may_follow};
 ghost use Rattle.devices.specs.Invariants.Kept.{CanFollow, shown};
 
@@ -12,6 +12,7 @@ use crate::kept_line::KeptLine;
 use crate::ranges::{is_free, lie_in_one};
 use crate::tables::{
     is_answering, is_ended, with_again, with_end, with_first, with_output, with_pushed,
+    with_registers, with_reset,
 };
 use std::alloc::{AllocError, Global};
 use std::collections::{BTreeMap, BTreeSet};
@@ -24,6 +25,10 @@ pub struct Devices {
     lines: Vec<KeptLine>,
     // The end of each range, by its first address.
     ends: BTreeMap<u64, u64>,
+    // Whether the control and status registers are among them.
+    registers: bool,
+    // Whether runs start with sp not set.
+    reset: bool,
     // The addresses whose stored bytes appear on standard output.
     outputs: BTreeSet<u32>,
     // What devices answer first, and then again and again.
@@ -41,7 +46,7 @@ impl Model for Devices {
     ghost use Rattle.std.specs.BTreeSet.{contains};
     ghost use Rattle.std.specs.List.{list_any};
     ghost use Rattle.std.specs.Ordering.{nat_cmp};
-    ghost use Rattle.devices.specs.Lines.{DevicesLine, answers_of, devices_of, has_answers, is_then, outputs_of, then_of};
+    ghost use Rattle.devices.specs.Lines.{DevicesLine, answers_of, has_answers, is_then, names_registers, outputs_of, ranges_of, starts_reset, then_of};
     ghost use Rattle.devices.specs.Invariants.Kept.{IsSet, IsTable, shown};
 
     ghost Value = { List DevicesLine };
@@ -49,9 +54,10 @@ impl Model for Devices {
     ghost view = { λ d. map shown d.lines.items };
 
     ghost invariant = { λ d. let all = map shown d.lines.items in
-        IsTable (get nat_cmp d.ends) (devices_of all) × IsSet (contains nat_cmp d.outputs) (outputs_of all)
+        IsTable (get nat_cmp d.ends) (ranges_of all) × IsSet (contains nat_cmp d.outputs) (outputs_of all)
         × (d.first.items ≡ answers_of all) × (d.again.items ≡ then_of all)
-        × (d.answering ≡ has_answers all) × (d.ended ≡ list_any is_then all) };
+        × (d.answering ≡ has_answers all) × (d.ended ≡ list_any is_then all)
+        × (d.registers ≡ names_registers all) × (d.reset ≡ starts_reset all) };
 }
 
 impl Devices {
@@ -62,6 +68,8 @@ impl Devices {
         Devices {
             lines: Vec::new(alloc),
             ends: BTreeMap::new(alloc),
+            registers: false,
+            reset: false,
             outputs: BTreeSet::new(alloc),
             first: Vec::new(alloc),
             again: Vec::new(alloc),
@@ -83,6 +91,20 @@ impl Devices {
         ensures { result ≡ in_devices (devices_of self.now) at count }
     {
         lie_in_one(&self.ends, at, count)
+    }
+
+    /// Whether the control and status registers are among them.
+    pub fn has_registers(&self) -> bool
+        ensures { result ≡ has_registers (devices_of self.now) }
+    {
+        self.registers
+    }
+
+    /// Whether runs start with sp not set, as after a chip's reset.
+    pub fn starts_reset(&self) -> bool
+        ensures { result ≡ starts_reset self.now }
+    {
+        self.reset
     }
 
     /// Whether the byte that is stored at an address appears on standard output.
@@ -125,6 +147,8 @@ impl Devices {
             KeptLine::Range { at, size } => {
                 is_range(map, *at, *size) && is_free(&self.ends, *at, *size)
             }
+            KeptLine::Registers => !self.registers,
+            KeptLine::Reset => !self.reset,
             KeptLine::Output(at) => lie_in_one(&self.ends, *at, 1),
             KeptLine::Answer(_) => true,
             KeptLine::Then(bytes) => !bytes.is_empty(),
@@ -139,6 +163,8 @@ impl Devices {
         let Devices {
             lines,
             ends,
+            registers,
+            reset,
             outputs,
             first,
             again,
@@ -147,6 +173,8 @@ impl Devices {
         } = self;
         let answers = is_answering(answering, &line);
         let is_last = is_ended(ended, &line);
+        let has_registers = with_registers(registers, &line);
+        let has_reset = with_reset(reset, &line);
         let more = with_end(ends, &line)?;
         let addresses = with_output(outputs, &line)?;
         let bytes = with_first(first, &line)?;
@@ -155,6 +183,8 @@ impl Devices {
         Ok(Devices {
             lines: all,
             ends: more,
+            registers: has_registers,
+            reset: has_reset,
             outputs: addresses,
             first: bytes,
             again: copied,

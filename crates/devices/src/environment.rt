@@ -2,7 +2,7 @@
 
 ghost use Rattle.std.specs.Prelude.{◌≡◌, ◌+◌, ◌^◌, ◌≤◌, ◌<◌, ◌==◌, length, take};
 ghost use Rattle.std.specs.List.{list_any};
-ghost use Rattle.rv_decode.specs.Devices.{in_devices, sent_bytes};
+ghost use Rattle.rv_decode.specs.Devices.{has_registers, in_devices, sent_bytes};
 ghost use Rattle.rv_decode.specs.Effect.{store_width};
 ghost use Rattle.rv_decode.specs.EventBytes.{shown_bytes};
 ghost use Rattle.devices.specs.Environment.{device_map, environment_of, no_devices, only_input};
@@ -48,10 +48,20 @@ impl<'a> DeviceMap<'a> {
     /// Whether `count` bytes from an address on lie in one device.
     pub fn has(&self, at: u32, count: u32) -> bool
         requires { 0 < count }
-        ensures { result ≡ in_devices self.now.ranges at count }
+        ensures { result ≡ in_devices self.now.all at count }
     {
         match self.devices {
             Some(devices) => devices.has(at, count),
+            None => false,
+        }
+    }
+
+    /// Whether the control and status registers are among them.
+    pub fn has_registers(&self) -> bool
+        ensures { result ≡ has_registers self.now.all }
+    {
+        match self.devices {
+            Some(devices) => devices.has_registers(),
             None => false,
         }
     }

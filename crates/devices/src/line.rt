@@ -4,7 +4,7 @@ ghost use Rattle.std.specs.Prelude.{◌≡◌, IfOk};
 ghost use Rattle.std.specs.Option.{option_copied, option_map};
 ghost use Rattle.text_lines.specs.Lines.{words_in, words_of};
 ghost use Rattle.devices.specs.Lines.{Answer, Then};
-ghost use Rattle.devices.specs.Text.{line_bytes, line_of_words, line_output, line_range};
+ghost use Rattle.devices.specs.Text.{line_alone, line_bytes, line_of_words, line_output, line_range};
 ghost use Rattle.devices.specs.Invariants.Kept.{shown};
 
 use crate::kept_line::KeptLine;
@@ -19,6 +19,12 @@ pub fn read_line(alloc: Global, line: &[u8]) -> Result<Option<KeptLine>, AllocEr
     let (first, words) = split_word(line);
     if first == b"device".as_slice() {
         return Ok(read_range(words));
+    }
+    if first == b"registers".as_slice() {
+        return Ok(read_alone(KeptLine::Registers, words));
+    }
+    if first == b"reset".as_slice() {
+        return Ok(read_alone(KeptLine::Reset, words));
     }
     if first == b"output".as_slice() {
         return Ok(read_output(words));
@@ -50,6 +56,16 @@ fn read_range(words: Option<&[u8]>) -> Option<KeptLine>
     let at = read_hex_word(first)?;
     let size = read_hex_word(second)?;
     Some(KeptLine::Range { at, size })
+}
+
+// A line that is one word alone.
+fn read_alone(line: KeptLine, words: Option<&[u8]>) -> Option<KeptLine>
+    ensures { option_map shown result ≡ line_alone (shown line) (words_in (option_copied words.entry)) }
+{
+    if words.is_some() {
+        return None;
+    }
+    Some(line)
 }
 
 // The address that a word spells.

@@ -4,7 +4,8 @@ ghost use Rattle.std.specs.Prelude.{◌≡◌, ◌<◌, ◌+◌, not, List};
 ghost use Rattle.std.specs.BTreeMap.{get};
 ghost use Rattle.std.specs.List.{list_any};
 ghost use Rattle.std.specs.Ordering.{nat_cmp};
-ghost use Rattle.rv_decode.specs.Devices.{Device, in_devices};
+ghost use Rattle.rv_decode.specs.Devices.{DeviceRange, in_devices};
+ghost use Rattle.devices.specs.Lines.{DevicesLine, devices_of, ranges_of};
 ghost use Rattle.devices.specs.Text.{have_common};
 ghost use Rattle.devices.specs.Invariants.Kept.{IsLastBegun, IsTable};
 
@@ -20,7 +21,7 @@ fn last_begun(ends: &BTreeMap<u64, u64>, below: u64) -> Option<(u64, u64)>
 
 /// Whether a range that isn't empty has no address in common with those of the table.
 pub fn is_free(ends: &BTreeMap<u64, u64>, at: u32, size: u32) -> bool
-    ensures { (ds : List Device) → IsTable (get nat_cmp ends.now) ds
+    ensures { (ds : List DeviceRange) → IsTable (get nat_cmp ends.now) ds
         → result ≡ not (list_any (have_common (record { at = at; size = size })) ds) }
 {
     match last_begun(ends, u64::from(at) + u64::from(size)) {
@@ -29,10 +30,11 @@ pub fn is_free(ends: &BTreeMap<u64, u64>, at: u32, size: u32) -> bool
     }
 }
 
-/// Whether `count` bytes from an address on lie in one range of the table.
+/// Whether `count` bytes from an address on lie in one range of the table, which has those of some lines.
 pub fn lie_in_one(ends: &BTreeMap<u64, u64>, at: u32, count: u32) -> bool
     requires { 0 < count }
-    ensures { (ds : List Device) → IsTable (get nat_cmp ends.now) ds → result ≡ in_devices ds at count }
+    ensures { (lines : List DevicesLine) → IsTable (get nat_cmp ends.now) (ranges_of lines)
+        → result ≡ in_devices (devices_of lines) at count }
 {
     match last_begun(ends, u64::from(at) + 1) {
         None => false,

@@ -4,7 +4,7 @@ ghost use Rattle.std.specs.Prelude.{◌≡◌, ◌≢◌, ℕ, ◌+◌, ◌==◌
 ghost use Rattle.std.specs.BTreeMap.{get};
 ghost use Rattle.std.specs.BTreeSet.{contains};
 ghost use Rattle.std.specs.Ordering.{nat_cmp};
-ghost use Rattle.devices.specs.Lines.{DevicesLine, answer_in, devices_of, is_answer, is_then, outputs_of, then_in};
+ghost use Rattle.devices.specs.Lines.{DevicesLine, answer_in, is_answer, is_registers, is_reset, is_then, outputs_of, ranges_of, then_in};
 ghost use Rattle.devices.specs.Invariants.Kept.{CanFollow, IsSet, IsTable, shown};
 
 use crate::kept_line::KeptLine;
@@ -36,16 +36,20 @@ fn with_range(
 
 /// The table with the range of a line that may follow.
 pub fn with_end(ends: BTreeMap<u64, u64>, line: &KeptLine) -> Result<BTreeMap<u64, u64>, AllocError>
-    ensures { IfOk result (λ more. (before : List DevicesLine) → IsTable (get nat_cmp ends) (devices_of before)
+    ensures { IfOk result (λ more. (before : List DevicesLine) → IsTable (get nat_cmp ends) (ranges_of before)
         → CanFollow before (shown line.now)
-        → IsTable (get nat_cmp more) (devices_of (before ++ shown line.now ∷ []))) }
+        → IsTable (get nat_cmp more) (ranges_of (before ++ shown line.now ∷ []))) }
 {
     match line {
         KeptLine::Range { at, size } => {
             let more = with_range(ends, *at, *size)?;
             Ok(more)
         }
-        KeptLine::Output(_) | KeptLine::Answer(_) | KeptLine::Then(_) => Ok(ends),
+        KeptLine::Registers
+        | KeptLine::Reset
+        | KeptLine::Output(_)
+        | KeptLine::Answer(_)
+        | KeptLine::Then(_) => Ok(ends),
     }
 }
 
@@ -68,7 +72,11 @@ pub fn with_output(outputs: BTreeSet<u32>, line: &KeptLine) -> Result<BTreeSet<u
             let more = with_address(outputs, *at)?;
             Ok(more)
         }
-        KeptLine::Range { .. } | KeptLine::Answer(_) | KeptLine::Then(_) => Ok(outputs),
+        KeptLine::Range { .. }
+        | KeptLine::Registers
+        | KeptLine::Reset
+        | KeptLine::Answer(_)
+        | KeptLine::Then(_) => Ok(outputs),
     }
 }
 
@@ -87,7 +95,11 @@ pub fn with_first(first: Vec<u8>, line: &KeptLine) -> Result<Vec<u8>, AllocError
 {
     match line {
         KeptLine::Answer(bytes) => with_bytes(first, bytes.as_slice()),
-        KeptLine::Range { .. } | KeptLine::Output(_) | KeptLine::Then(_) => Ok(first),
+        KeptLine::Range { .. }
+        | KeptLine::Registers
+        | KeptLine::Reset
+        | KeptLine::Output(_)
+        | KeptLine::Then(_) => Ok(first),
     }
 }
 
@@ -97,7 +109,11 @@ pub fn with_again(again: Vec<u8>, line: &KeptLine) -> Result<Vec<u8>, AllocError
 {
     match line {
         KeptLine::Then(bytes) => with_bytes(again, bytes.as_slice()),
-        KeptLine::Range { .. } | KeptLine::Output(_) | KeptLine::Answer(_) => Ok(again),
+        KeptLine::Range { .. }
+        | KeptLine::Registers
+        | KeptLine::Reset
+        | KeptLine::Output(_)
+        | KeptLine::Answer(_) => Ok(again),
     }
 }
 
@@ -107,7 +123,8 @@ fn is_answer(line: &KeptLine) -> bool
 {
     match line {
         KeptLine::Answer(_) | KeptLine::Then(_) => true,
-        KeptLine::Range { .. } | KeptLine::Output(_) => false,
+        KeptLine::Range { .. } | KeptLine::Registers | KeptLine::Reset | KeptLine::Output(_) =>
+            false,
     }
 }
 
@@ -124,7 +141,11 @@ fn is_then(line: &KeptLine) -> bool
 {
     match line {
         KeptLine::Then(_) => true,
-        KeptLine::Range { .. } | KeptLine::Output(_) | KeptLine::Answer(_) => false,
+        KeptLine::Range { .. }
+        | KeptLine::Registers
+        | KeptLine::Reset
+        | KeptLine::Output(_)
+        | KeptLine::Answer(_) => false,
     }
 }
 
@@ -133,4 +154,18 @@ pub fn is_ended(ended: bool, line: &KeptLine) -> bool
     ensures { result ≡ (ended || is_then (shown line.now)) }
 {
     ended || is_then(line)
+}
+
+/// Whether the registers are among lines with one more.
+pub fn with_registers(registers: bool, line: &KeptLine) -> bool
+    ensures { result ≡ (registers || is_registers (shown line.now)) }
+{
+    registers || matches!(line, KeptLine::Registers)
+}
+
+/// Whether runs start with sp not set, by lines with one more.
+pub fn with_reset(reset: bool, line: &KeptLine) -> bool
+    ensures { result ≡ (reset || is_reset (shown line.now)) }
+{
+    reset || matches!(line, KeptLine::Reset)
 }

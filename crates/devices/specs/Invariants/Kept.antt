@@ -2,8 +2,8 @@
 use Rattle.std.specs.Prelude.{◌≡◌, ◌⊎◌, ℕ, ◌+◌, ◌<◌, ◌==◌, Bool, true, false, List, [], ◌∷◌, Option, Some, None}
 use Rattle.std.specs.List.{list_any}
 use Rattle.zc_base.specs.declared.mem_map.MemMap.{MemMap}
-use Rattle.rv_decode.specs.Devices.{Device}
-use Rattle.devices.specs.Lines.{DevicesLine, Range, Output, Answer, Then}
+use Rattle.rv_decode.specs.Devices.{DeviceRange}
+use Rattle.devices.specs.Lines.{DevicesLine, Range, Registers, Reset, Output, Answer, Then}
 use Rattle.devices.specs.Text.{have_common, may_follow}
 use Rattle.devices.specs.declared.kept_line.KeptLine.{KeptLine}
 use Rattle.devices.specs.declared.kept_line.KeptLine.TheVariants as kept
@@ -11,25 +11,27 @@ use Rattle.devices.specs.declared.kept_line.KeptLine.TheVariants as kept
 -- the line that is kept
 abbrev pub shown : KeptLine → DevicesLine
 shown (kept.Range at size) = Range (record { at = at; size = size })
+shown kept.Registers = Registers
+shown kept.Reset = Reset
 shown (kept.Output at) = Output at
 shown (kept.Answer bytes) = Answer bytes.items
 shown (kept.Then bytes) = Then bytes.items
 
--- a device is one of these
-abbrev pub IsOne : Device → List Device → Type 0
+-- a range is one of these
+abbrev pub IsOne : DeviceRange → List DeviceRange → Type 0
 IsOne e [] = ⊥
 IsOne e (d ∷ ds) = (e ≡ d) ⊎ IsOne e ds
 
 -- one of these begins at an address, and ends before another
-abbrev pub IsBegun : List Device → ℕ → ℕ → Type 0
-IsBegun ds a end = (e : Device) × IsOne e ds × (e.at ≡ a) × (e.at + e.size ≡ end)
+abbrev pub IsBegun : List DeviceRange → ℕ → ℕ → Type 0
+IsBegun ds a end = (e : DeviceRange) × IsOne e ds × (e.at ≡ a) × (e.at + e.size ≡ end)
 
 -- a table has the end of each of these at its first address, and nothing else; none is empty, and no two have an address in common
-pub record IsTable (ends : ℕ → Option ℕ) (ds : List Device) : Type 0 where
-  pub each : (e : Device) → IsOne e ds → ends e.at ≡ Some (e.at + e.size)
+pub record IsTable (ends : ℕ → Option ℕ) (ds : List DeviceRange) : Type 0 where
+  pub each : (e : DeviceRange) → IsOne e ds → ends e.at ≡ Some (e.at + e.size)
   pub only : (a end : ℕ) → ends a ≡ Some end → IsBegun ds a end
-  pub some : (e : Device) → IsOne e ds → 0 < e.size
-  pub apart : (e f : Device) → IsOne e ds → IsOne f ds → (e ≡ f) ⊎ (have_common e f ≡ false)
+  pub some : (e : DeviceRange) → IsOne e ds → 0 < e.size
+  pub apart : (e f : DeviceRange) → IsOne e ds → IsOne f ds → (e ≡ f) ⊎ (have_common e f ≡ false)
 
 -- a set has these addresses, and nothing else
 abbrev pub IsSet : (ℕ → Bool) → List ℕ → Type 0
