@@ -11,10 +11,11 @@ use Rattle.devices.specs.Environment.{only_input}
 use Rattle.interrupt_plan.specs.Plan.{Entry, interrupts_at}
 use Rattle.rv_decode.specs.EventBytes.{written_to}
 use Rattle.rv_decode.specs.Run.{◌>>=◌}
-use Rattle.rv_decode.specs.Devices.{in_devices, sent_bytes}
+use Rattle.rv_decode.specs.Devices.{has_registers, in_devices, sent_bytes}
 use Rattle.rv_decode.specs.declared.device_access.DeviceAccess.TheVariants as access
 use Rattle.rv_decode.specs.Effect.{load_width, store_width}
-use Rattle.rv_decode.specs.State.{Event, Exit, Load, Read, Store, Write, ZcCore, ZcState}
+use Rattle.rv_decode.specs.State.{Event, Exit, Load, Read, Store, System, Write, ZcCore, ZcState}
+use Rattle.rv_decode.specs.System.{system_width}
 use Rattle.rv_decode.proofs.RunLaws.{bind_ok}
 use Rattle.zc_outside.specs.Course.{EndsWithStop, ExitsAt}
 use Rattle.zc_outside.specs.Desk.{Desk}
@@ -24,7 +25,7 @@ use Rattle.zc_machine.specs.declared.reason.Reason.{Reason}
 use Rattle.zc_machine.specs.declared.run.RunEnd.TheVariants as end
 use Rattle.zc_machine.specs.Answer.{exited, has_read, has_written}
 use Rattle.zc_machine.specs.Buffer.{bytes_at}
-use Rattle.zc_machine.specs.declared.reason.Reason.TheVariants.{BadAccess}
+use Rattle.zc_machine.specs.declared.reason.Reason.TheVariants.{BadAccess, Illegal}
 use Rattle.zc_machine.specs.Run.{committed, device_answers, first_state, interrupts_by, machine_after, turn, turns, machine_after_with}
 use Rattle.zc_machine.specs.RunEnd.{Ran, course_of}
 use Rattle.zc_machine.specs.Step.{ZcStep, Committed, Wants, Ended, Stopped, Asks, zc_step}
@@ -80,6 +81,7 @@ is_exit (Write fd bytes) = false
 is_exit (Exit status) = true
 is_exit (Load a width bytes) = false
 is_exit (Store a bytes) = false
+is_exit (System word operand bytes) = false
 
 -- an event more
 none_more : (events : List Event) (e : Event) → (is_exit e || false) ≡ false → list_any is_exit events ≡ false → list_any is_exit (events ++ e ∷ []) ≡ false
@@ -128,6 +130,16 @@ commit_of z r s (Asks (access.Store op a word size)) shown running made = answer
     answered true h =
         left_by z.commits r.events (device_answers (access.Store op a word size) here) s h
         (record { counts = refl; quiet = λ going none. none_more r.events (Store a (sent_bytes op word)) refl none })
+    answered false h = absurd cc
+commit_of z r s (Asks (access.System word operand)) shown running made = answered (has_registers r.devices) made
+  where
+    here : ZcState
+    here = record r { core = z }
+
+    answered : (b : Bool) → cond b (Ok (device_answers (access.System word operand) here)) (Err Illegal) ≡ Ok s → IsCommit z.commits r.events s
+    answered true h =
+        left_by z.commits r.events (device_answers (access.System word operand) here) s h
+        (record { counts = refl; quiet = λ going none. none_more r.events (System word operand (take (system_width word) r.input)) refl none })
     answered false h = absurd cc
 
 turn_commits :

@@ -2,8 +2,9 @@
 use Rattle.std.specs.Prelude.{◌≡◌, ℕ, true, List, [], ◌∷◌, Result, Ok, Err, refl, None}
 use Rattle.zc_base.specs.MemMap.{all_extensions}
 use Rattle.rv_decode.specs.Decode.{decoded}
+use Rattle.rv_decode.specs.Devices.{Range, Registers}
 use Rattle.rv_decode.specs.Memory.{blank, Stack, Text}
-use Rattle.rv_decode.specs.State.{ZcCore, ZcState, Event, Exit, Load, Store, byte_in, reg_in, word_at}
+use Rattle.rv_decode.specs.State.{ZcCore, ZcState, Event, Exit, Load, Store, System, byte_in, reg_in, word_at}
 use Rattle.zc_decode.specs.Halfwords.{decoded16}
 use Rattle.zc_decode.specs.Rows.{form_of}
 use Rattle.interrupt_plan.specs.Plan.{Entry}
@@ -51,7 +52,7 @@ uart = 0x37 ∷ 0x35 ∷ 0x01 ∷ 0x10 ∷ 0x83 ∷ 0x25 ∷ 0x05 ∷ 0x00 ∷ 0
 -- with a device there, the word that is loaded is the next four bytes of the input; its low byte is stored; and the halfword has the one
 -- byte that is left, and 0 above
 uart_answers :
-    shown (machine_after_with (loaded uart 16) (record { at = 0x10013000; size = 0x1000 } ∷ []) (0x61 ∷ 2 ∷ 3 ∷ 4 ∷ 5 ∷ []) (interrupts_by []) 4)
+    shown (machine_after_with (loaded uart 16) (Range (record { at = 0x10013000; size = 0x1000 }) ∷ []) (0x61 ∷ 2 ∷ 3 ∷ 4 ∷ 5 ∷ []) (interrupts_by []) 4)
     ≡ Ok (Load 0x10013000 4 (0x61 ∷ 2 ∷ 3 ∷ 4 ∷ []) ∷ Store 0x10013004 (0x61 ∷ []) ∷ Load 0x10013008 2 (5 ∷ []) ∷ [], 4)
 unfolding decoded decoded16 form_of loaded uart first_core blank machine_after_with turn zc_step
 uart_answers = refl
@@ -60,6 +61,25 @@ uart_answers = refl
 no_uart : ran uart 16 [] 2 ≡ Err BadAccess
 unfolding decoded decoded16 form_of ran loaded uart first_core blank machine_after_with turn zc_step
 no_uart = refl
+
+-- ---- instructions of the system
+
+-- csrrs a0, mstatus, x0; csrrw x0, mtvec, a0; csrrsi a1, mie, 8; wfi
+start_up : List ℕ
+start_up = 0x73 ∷ 0x25 ∷ 0x00 ∷ 0x30 ∷ 0x73 ∷ 0x10 ∷ 0x55 ∷ 0x30 ∷ 0xF3 ∷ 0x65 ∷ 0x44 ∷ 0x30 ∷ 0x73 ∷ 0x00 ∷ 0x50 ∷ 0x10 ∷ []
+
+-- what is read is the next four bytes of the input, and what is written with x0 as rd takes none; the register that is read last gets the
+-- one byte that is left
+registers_answer :
+    shown (machine_after_with (loaded start_up 16) (Registers ∷ []) (0x80 ∷ 0x18 ∷ 0 ∷ 0 ∷ 5 ∷ []) (interrupts_by []) 4)
+    ≡ Ok (System 0x30002573 0 (0x80 ∷ 0x18 ∷ 0 ∷ 0 ∷ []) ∷ System 0x30551073 0x1880 [] ∷ System 0x304465F3 8 (5 ∷ []) ∷ System 0x10500073 0 [] ∷ [], 4)
+unfolding decoded decoded16 form_of loaded start_up first_core blank machine_after_with turn zc_step
+registers_answer = refl
+
+-- without the registers the machine stops, whatever other devices there are
+no_registers : shown (machine_after_with (loaded start_up 16) (Range (record { at = 0x10013000; size = 0x1000 }) ∷ []) [] (interrupts_by []) 1) ≡ Err Illegal
+unfolding decoded decoded16 form_of loaded start_up first_core blank machine_after_with turn zc_step
+no_registers = refl
 
 -- ---- interrupts
 

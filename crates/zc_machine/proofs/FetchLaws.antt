@@ -33,7 +33,7 @@ module _ (y z : ZcCore) (same : SameText y z) where
   half_same : (a : ℕ) → lies_in is_text (extents_of y.memory) a 2 ≡ true → half_at z a ≡ half_at y a
   half_same a h = ap₂ (λ b c. b + 256 * c) (byte_same a 2 a h (omega arith) (omega arith)) (byte_same a 2 (a + 1) h (omega arith) (omega arith))
 
-  word_same : (a : ℕ) → lies_in is_text (extents_of y.memory) a 4 ≡ true → word_at z a ≡ word_at y a
+  pub word_same : (a : ℕ) → lies_in is_text (extents_of y.memory) a 4 ≡ true → word_at z a ≡ word_at y a
   word_same a h =
       let e0 = byte_same a 4 a h (omega arith) (omega arith) in
       let e1 = byte_same a 4 (a + 1) h (omega arith) (omega arith) in

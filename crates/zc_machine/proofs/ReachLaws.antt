@@ -1,5 +1,5 @@
 -- What an access reaches is what memory holds there: bytes, halfwords and words, a load, and an instruction.
-use Rattle.std.proofs.Common.{◌≡◌, ℕ, ◌+◌, ◌*◌, ◌%◌, ◌^◌, ◌<◌, ◌≤◌, List, [], ◌∷◌, length, Bool, true, false, cond, eqb, Option, Some, None, refl, sym, ap, ap₂, ◌∙◌, arith}
+use Rattle.std.proofs.Common.{◌≡◌, ℕ, ◌+◌, ◌*◌, ◌%◌, ◌<◌, ◌≤◌, List, [], ◌∷◌, length, Bool, true, false, cond, eqb, Option, Some, None, refl, sym, ap, ap₂, ◌∙◌, arith}
 use Rattle.std.specs.Option.{option_map}
 use Rattle.std.proofs.lemmas.Bool.{cond-false, cond-true, le-leb, lt-leb}
 use Rattle.rv_decode.specs.Bits.{field}
@@ -9,7 +9,6 @@ use Rattle.rv_decode.specs.Memory.{extents_of, is_data, is_text, lies_in}
 use Rattle.rv_decode.specs.State.{ZcCore, byte_in, half_at, word_at}
 use Rattle.rv_decode.specs.declared.instr.LoadOp.{LoadOp}
 use Rattle.rv_decode.specs.declared.instr.LoadOp.TheVariants.{Lb, Lh, Lw, Lbu, Lhu}
-use Rattle.zc_decode.specs.Effect.{entry_at}
 use Rattle.zc_decode.specs.Halfwords.{decoded16}
 use Rattle.zc_decode.specs.declared.short.Short.TheVariants.{Base}
 use Rattle.zc_machine.specs.Cells.{first_byte, first_half, first_word, half_spells, instruction, loaded, word_spells}
@@ -54,15 +53,6 @@ module _ (way : AccessKind) (z : ZcCore) (a : ℕ) where
   reach_word (x ∷ y ∷ v ∷ w ∷ rest) reach room =
       let is : x + 256 * y + 65536 * v + 16777216 * w ≡ word_at z a = omega (arith, first x (y ∷ v ∷ w ∷ rest) reach, reach.holds 1 (omega arith), reach.holds 2 (omega arith), reach.holds 3 (omega arith)) in
       enough 4 (word_at z a) (x + 256 * y + 65536 * v + 16777216 * w) (x ∷ y ∷ v ∷ w ∷ rest) reach (omega arith) (omega arith) is
-
--- an entry of the jump table, of a state y that is z, as the code has it
-pub entry_reached :
-    (index number : ℕ) (y z : ZcCore) (cells : List ℕ) → y ≡ z → number ≡ index → Reaches access.Fetch y.memory ((y.jvt + 4 * number) % 2 ^ 32) cells
-    → first_word cells ≡ cond (lies_in is_text (extents_of z.memory) (entry_at index z) 4) (Some (word_at z (entry_at index z))) None
-entry_reached index number y z cells same is reach =
-    reach_word access.Fetch y (entry_at number y) cells reach (omega arith)
-    ∙ ap (λ k. held access.Fetch y (entry_at k y) 4 (word_at y (entry_at k y))) is
-    ∙ ap (λ (s : ZcCore). held access.Fetch s (entry_at index s) 4 (word_at s (entry_at index s))) same
 
 -- ---- a load
 

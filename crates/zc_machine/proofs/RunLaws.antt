@@ -23,10 +23,10 @@ use Rattle.rv_decode.specs.declared.device_access.DeviceAccess.TheVariants as ac
 use Rattle.devices.specs.Environment.{Environment}
 use Rattle.rv_decode.specs.Devices.{Device, sent_bytes}
 use Rattle.rv_decode.specs.Effect.{load_width}
-use Rattle.zc_machine.specs.Run.{committed, device_answers, first_state_with, is_answered, machine_after_with, turn}
+use Rattle.rv_decode.specs.System.{system_width}
+use Rattle.zc_machine.specs.Run.{committed, device_answers, first_state_with, is_answered, machine_after_with, turn, unanswered}
 use Rattle.zc_machine.specs.Shown.{shown_by}
 use Rattle.zc_machine.specs.RunEnd.{Ran, course_of}
-use Rattle.zc_machine.specs.declared.reason.Reason.TheVariants.{BadAccess}
 use Rattle.zc_machine.specs.Step.{ZcStep, Committed, Wants, Ended, Stopped, Asks, zc_step}
 use Rattle.zc_machine.proofs.OutputLaws.{Wrote-event}
 use Rattle.zc_machine.proofs.RegionLaws.{same_tests}
@@ -78,12 +78,12 @@ stopped_step devices (Ended status) reason e = absurd cc
 stopped_step devices (Stopped reason') reason e = record { made = λ r same. cc e; stays = λ z. refl }
 stopped_step devices (Asks x) reason e = absurd cc
 
--- an access outside memory stops if no device lies there
-pub unanswered_step : (devices : List Device) (s : ZcStep) (x : DeviceAccess) → answer.Asks x ≡ answer_of s → is_answered devices x ≡ false → Stops devices s BadAccess
+-- what asks a device stops if there is none
+pub unanswered_step : (devices : List Device) (s : ZcStep) (x : DeviceAccess) → answer.Asks x ≡ answer_of s → is_answered devices x ≡ false → Stops devices s (unanswered x)
 unanswered_step devices s x e none =
     let asks = asks_step s x e in
     record {
-      made = λ r same. ap (λ t. committed t r) asks ∙ cond-false (is_answered r.devices x) (Ok (device_answers x r)) (Err BadAccess) (ap (λ ds. is_answered ds x) same ∙ none);
+      made = λ r same. ap (λ t. committed t r) asks ∙ cond-false (is_answered r.devices x) (Ok (device_answers x r)) (Err (unanswered x)) (ap (λ ds. is_answered ds x) same ∙ none);
       stays = λ z. ap (λ t. core_after t z) asks;
     }
 
@@ -132,14 +132,14 @@ one_first n = same_tests (eqb n 1) (eqb 1 n) (λ h. eq-eqb 1 n (sym (eqb-true n 
 
 -- ---- how far a run has come
 
-machine_after-none : (first : ZcCore) (e : Environment) (happens : ℕ → ZcCore → ZcCore) → machine_after_with first e.devices.ranges e.input happens 0 ≡ Ok (first_state_with first e.devices.ranges e.input)
+machine_after-none : (first : ZcCore) (e : Environment) (happens : ℕ → ZcCore → ZcCore) → machine_after_with first e.devices.all e.input happens 0 ≡ Ok (first_state_with first e.devices.all e.input)
 unfolding machine_after_with
 machine_after-none first e happens = refl
 
 -- the run has come to this machine, which hasn't exited, with this much of its input left; what it has written stands
 pub record Came (first : ZcCore) (e : Environment) (happens : ℕ → ZcCore → ZcCore) (z : ZcCore) (left : List ℕ) (before now : Desk) : Type 0 where
   pub events : List Event
-  pub so_far : machine_after_with first e.devices.ranges e.input happens z.commits ≡ Ok (record { core = z; input = left; events = events; devices = e.devices.ranges })
+  pub so_far : machine_after_with first e.devices.all e.input happens z.commits ≡ Ok (record { core = z; input = left; events = events; devices = e.devices.all })
   pub running : z.exit ≡ None
   pub wrote : Wrote (written_to e.devices.outputs 1 events) (written_to e.devices.outputs 2 events) before now
   pub only : OnlyWrites before now
@@ -149,7 +149,7 @@ pub Came-start :
     (first : ZcCore) (e : Environment) (happens : ℕ → ZcCore → ZcCore) (desk : Desk) → first.exit ≡ None → first.commits ≡ 0 → Came first e happens first e.input desk desk
 Came-start first e happens desk running start = record {
   events = [];
-  so_far = ap (machine_after_with first e.devices.ranges e.input happens) start ∙ machine_after-none first e happens;
+  so_far = ap (machine_after_with first e.devices.all e.input happens) start ∙ machine_after-none first e happens;
   running = running;
   wrote = Wrote-none desk;
   only = OnlyWrites-refl desk;
@@ -172,31 +172,31 @@ module _
     {first : ZcCore} {e : Environment} {happens : ℕ → ZcCore → ZcCore} {z : ZcCore} {left : List ℕ} {before now : Desk} (came : Came first e happens z left before now)
     {z' : ZcCore} (had : Happened happens z z') where
   abbrev here : ZcState
-  here = record { core = z; input = left; events = came.events; devices = e.devices.ranges }
+  here = record { core = z; input = left; events = came.events; devices = e.devices.all }
 
   abbrev there : ZcState
-  there = record { core = z'; input = left; events = came.events; devices = e.devices.ranges }
+  there = record { core = z'; input = left; events = came.events; devices = e.devices.all }
 
   -- the turn is the step that follows what happens
   turn_made : turn (happens z.commits) here ≡ committed (zc_step z') there
   turn_made =
       turn-running (happens z.commits) here came.running
-      ∙ sym (ap (λ y. committed (zc_step y) (record { core = y; input = left; events = came.events; devices = e.devices.ranges })) had.made)
+      ∙ sym (ap (λ y. committed (zc_step y) (record { core = y; input = left; events = came.events; devices = e.devices.all })) had.made)
 
-  after_more : (r : ZcState) → committed (zc_step z') there ≡ Ok r → machine_after_with first e.devices.ranges e.input happens (z.commits + 1) ≡ Ok r
+  after_more : (r : ZcState) → committed (zc_step z') there ≡ Ok r → machine_after_with first e.devices.all e.input happens (z.commits + 1) ≡ Ok r
   unfolding machine_after_with
-  after_more r made = turns-more happens z.commits (first_state_with first e.devices.ranges e.input) here r came.so_far (turn_made ∙ made)
+  after_more r made = turns-more happens z.commits (first_state_with first e.devices.all e.input) here r came.so_far (turn_made ∙ made)
 
-  after_stop : (reason : Reason) → committed (zc_step z') there ≡ Err reason → machine_after_with first e.devices.ranges e.input happens (z.commits + 1) ≡ Err reason
+  after_stop : (reason : Reason) → committed (zc_step z') there ≡ Err reason → machine_after_with first e.devices.all e.input happens (z.commits + 1) ≡ Err reason
   unfolding machine_after_with
-  after_stop reason made = turns-stop happens z.commits (first_state_with first e.devices.ranges e.input) here reason came.so_far (turn_made ∙ made)
+  after_stop reason made = turns-stop happens z.commits (first_state_with first e.devices.all e.input) here reason came.so_far (turn_made ∙ made)
 
   exit_kept : z'.exit ≡ None
   exit_kept = had.exit ∙ came.running
 
   -- a commit that leads to a state is one more
   goes_on :
-      (r : ZcState) (desk : Desk) → r.devices ≡ e.devices.ranges → committed (zc_step z') there ≡ Ok r → r.core.commits ≡ z'.commits + 1 → r.core.exit ≡ z'.exit
+      (r : ZcState) (desk : Desk) → r.devices ≡ e.devices.all → committed (zc_step z') there ≡ Ok r → r.core.commits ≡ z'.commits + 1 → r.core.exit ≡ z'.exit
       → Wrote (written_to e.devices.outputs 1 r.events) (written_to e.devices.outputs 2 r.events) before desk → OnlyWrites now desk → Next first e happens z r.core r.input before desk
   goes_on r desk none turn counts exit wrote only =
       let more = counts ∙ ap (λ k. k + 1) had.commits in
@@ -204,7 +204,7 @@ module _
         counts = more;
         came = record {
           events = r.events;
-          so_far = ap (machine_after_with first e.devices.ranges e.input happens) more ∙ after_more r turn ∙ ap (λ ds. Ok (record r { devices = ds })) none;
+          so_far = ap (machine_after_with first e.devices.all e.input happens) more ∙ after_more r turn ∙ ap (λ ds. Ok (record r { devices = ds })) none;
           running = exit ∙ exit_kept;
           wrote = wrote;
           only = OnlyWrites-trans came.only only;
@@ -212,16 +212,16 @@ module _
       }
 
   -- an access that a device answers
-  device_made : (x : DeviceAccess) → zc_step z' ≡ Asks x → is_answered e.devices.ranges x ≡ true → committed (zc_step z') there ≡ Ok (device_answers x there)
-  device_made x asks lies = ap (λ s. committed s there) asks ∙ cond-true (is_answered e.devices.ranges x) (Ok (device_answers x there)) (Err BadAccess) lies
+  device_made : (x : DeviceAccess) → zc_step z' ≡ Asks x → is_answered e.devices.all x ≡ true → committed (zc_step z') there ≡ Ok (device_answers x there)
+  device_made x asks lies = ap (λ s. committed s there) asks ∙ cond-true (is_answered e.devices.all x) (Ok (device_answers x there)) (Err (unanswered x)) lies
 
   module _ (z2 : ZcCore) where
     -- an instruction that commits
     pub committed_next : answer.Committed ≡ answer_of (zc_step z') → z2 ≡ core_after (zc_step z') z' → Next first e happens z z2 left before now
     committed_next answers is =
         let q = committed_step z' (zc_step z') (step_shows z') answers in
-        goes_on (record { core = z2; input = left; events = came.events; devices = e.devices.ranges }) now refl
-        (q.made there ∙ sym (ap (λ y. Ok (record { core = y; input = left; events = came.events; devices = e.devices.ranges })) is))
+        goes_on (record { core = z2; input = left; events = came.events; devices = e.devices.all }) now refl
+        (q.made there ∙ sym (ap (λ y. Ok (record { core = y; input = left; events = came.events; devices = e.devices.all })) is))
         (ap (λ y. y.commits) is ∙ q.counts) (ap (λ y. y.exit) is ∙ q.exit) came.wrote (OnlyWrites-refl now)
 
     -- a read
@@ -230,9 +230,9 @@ module _
         → Next first e happens z z2 rest before now
     read_next at len front rest wants taken others is =
         let events : List Event = came.events ++ event.Read (take len left) ∷ [] in
-        goes_on (record { core = z2; input = rest; events = events; devices = e.devices.ranges }) now refl
+        goes_on (record { core = z2; input = rest; events = events; devices = e.devices.all }) now refl
         (ap (λ s. committed s there) wants
-        ∙ sym (ap₂ (λ y left2. Ok (record { core = y; input = left2; events = events; devices = e.devices.ranges })) (is ∙ ap (λ bytes. has_read bytes z') taken) others))
+        ∙ sym (ap₂ (λ y left2. Ok (record { core = y; input = left2; events = events; devices = e.devices.all })) (is ∙ ap (λ bytes. has_read bytes z') taken) others))
         (ap (λ y. y.commits) is) (ap (λ y. y.exit) is)
         (Wrote-event e.devices.outputs came.events (event.Read (take len left)) before now now came.wrote (Wrote-none now)) (OnlyWrites-refl now)
 
@@ -242,14 +242,14 @@ module _
         → Next first e happens z z2 left before desk
     write_next fd at len desk wants is wrote only =
         let events : List Event = came.events ++ event.Write fd (bytes_at z' at len) ∷ [] in
-        goes_on (record { core = z2; input = left; events = events; devices = e.devices.ranges }) desk refl
-        (ap (λ s. committed s there) wants ∙ sym (ap (λ y. Ok (record { core = y; input = left; events = events; devices = e.devices.ranges })) is))
+        goes_on (record { core = z2; input = left; events = events; devices = e.devices.all }) desk refl
+        (ap (λ s. committed s there) wants ∙ sym (ap (λ y. Ok (record { core = y; input = left; events = events; devices = e.devices.all })) is))
         (ap (λ y. y.commits) is) (ap (λ y. y.exit) is)
         (Wrote-event e.devices.outputs came.events (event.Write fd (bytes_at z' at len)) before now desk came.wrote wrote) only
 
     -- a device's answer, whose bytes for the output stand
     pub device_next :
-        (x : DeviceAccess) (rest : List ℕ) (desk : Desk) → zc_step z' ≡ Asks x → is_answered e.devices.ranges x ≡ true → z2 ≡ (device_answers x there).core → rest ≡ (device_answers x there).input
+        (x : DeviceAccess) (rest : List ℕ) (desk : Desk) → zc_step z' ≡ Asks x → is_answered e.devices.all x ≡ true → z2 ≡ (device_answers x there).core → rest ≡ (device_answers x there).input
         → WroteTo 1 (shown_by e.devices.outputs x) now desk → OnlyWrites now desk → Next first e happens z z2 rest before desk
     device_next x rest desk asks lies is others wrote only =
         subst (λ y. Next first e happens z y rest before desk) (sym is) (subst (λ xs. Next first e happens z (device_answers x there).core xs before desk) (sym others)
@@ -264,6 +264,9 @@ module _
         by_access (access.Store op a word size) made wrote =
             let stored : Event = event.Store a (sent_bytes op word) in
             goes_on (device_answers (access.Store op a word size) there) desk refl made refl refl (Wrote-event e.devices.outputs came.events stored before now desk came.wrote wrote) only
+        by_access (access.System word operand) made wrote =
+            let made_one : Event = event.System word operand (take (system_width word) left) in
+            goes_on (device_answers (access.System word operand) there) desk refl made refl refl (Wrote-event e.devices.outputs came.events made_one before now desk came.wrote wrote) only
 
   -- a program that runs doesn't end without its exit
   pub none_ended : (status : ℕ) → answer.Ended status ≡ answer_of (zc_step z') → ⊥
@@ -279,7 +282,7 @@ module _
     -- the exit
     pub exit_ran : (status : ℕ) → zc_step z' ≡ Wants (Exit status) → z2 ≡ exited status z' → Ran happens (course_of first e happens steps) (end.Exit status) z2 before now
     exit_ran status wants is =
-        let last : ZcState = record { core = exited status z'; input = left; events = came.events ++ event.Exit status ∷ []; devices = e.devices.ranges } in (
+        let last : ZcState = record { core = exited status z'; input = left; events = came.events ++ event.Exit status ∷ []; devices = e.devices.all } in (
           record {
             count = z.commits + 1;
             within = omega arith;
@@ -292,7 +295,7 @@ module _
         )
 
     -- a stop
-    pub stop_ran : (reason : Reason) → Stops e.devices.ranges (zc_step z') reason → z2 ≡ z' → Ran happens (course_of first e happens steps) (end.Stopped reason) z2 before now
+    pub stop_ran : (reason : Reason) → Stops e.devices.all (zc_step z') reason → z2 ≡ z' → Ran happens (course_of first e happens steps) (end.Stopped reason) z2 before now
     stop_ran reason stops is = (record { early = early; next = after_stop reason (stops.made there refl) }, is ∙ had.made)
 
     -- a write that the console refused
@@ -301,7 +304,7 @@ module _
         → WriteCause now desk fault → Ran happens (course_of first e happens steps) (end.Console fault) z2 before desk
     refused_ran fd at len fault desk wants part cause =
         let bytes = bytes_at z' at len in
-        let next : ZcState = record { core = has_written z'; input = left; events = came.events ++ event.Write fd bytes ∷ []; devices = e.devices.ranges } in
+        let next : ZcState = record { core = has_written z'; input = left; events = came.events ++ event.Write fd bytes ∷ []; devices = e.devices.all } in
         record {
           between = now;
           early = early;
@@ -316,7 +319,7 @@ module _
 
     -- a store at an address for output whose bytes the console refused
     pub device_refused_ran :
-        (x : DeviceAccess) (fault : ConsoleFault) (desk : Desk) → zc_step z' ≡ Asks x → is_answered e.devices.ranges x ≡ true → WrotePart 1 (shown_by e.devices.outputs x) now desk
+        (x : DeviceAccess) (fault : ConsoleFault) (desk : Desk) → zc_step z' ≡ Asks x → is_answered e.devices.all x ≡ true → WrotePart 1 (shown_by e.devices.outputs x) now desk
         → WriteCause now desk fault → Ran happens (course_of first e happens steps) (end.Console fault) z2 before desk
     device_refused_ran x fault desk asks lies part cause = by_access x (device_made x asks lies) part
       where
@@ -324,6 +327,7 @@ module _
             (x : DeviceAccess) → committed (zc_step z') there ≡ Ok (device_answers x there) → WrotePart 1 (shown_by e.devices.outputs x) now desk
             → Ran happens (course_of first e happens steps) (end.Console fault) z2 before desk
         by_access (access.Load op a rd size) made part = absurd (let none = part.part in omega (arith, none))
+        by_access (access.System word operand) made part = absurd (let none = part.part in omega (arith, none))
         by_access (access.Store op a word size) made part =
             let next : ZcState = device_answers (access.Store op a word size) there in
             let shown : List ℕ = shown_bytes e.devices.outputs a (sent_bytes op word) in
@@ -411,8 +415,8 @@ pub spent_ran :
     → z.commits ≡ steps → Ran happens (course_of first e happens steps) end.Spent z before now
 spent_ran first e happens steps z left before now came all = (
   record {
-    last = record { core = z; input = left; events = came.events; devices = e.devices.ranges };
-    state = ap (machine_after_with first e.devices.ranges e.input happens) (sym all) ∙ came.so_far;
+    last = record { core = z; input = left; events = came.events; devices = e.devices.all };
+    state = ap (machine_after_with first e.devices.all e.input happens) (sym all) ∙ came.so_far;
     running = came.running;
     wrote = came.wrote;
   },

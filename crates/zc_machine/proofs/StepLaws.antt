@@ -4,7 +4,9 @@ use Rattle.std.specs.Option.{option_map_or}
 use Rattle.std.specs.Prelude.{◌&&◌, ◌||◌}
 use Rattle.std.proofs.Common.{◌≡◌, ℕ, ◌+◌, ◌*◌, ◌/◌, ◌%◌, ◌^◌, ◌≤◌, ◌⊎◌, inl, inr, ⊎_elim, List, [], ◌∷◌, Bool, true, false, cond, eqb, ltb, Option, Some, None, refl, ap, subst, arith}
 use Rattle.std.proofs.lemmas.Bool.{and_parts, eqb-true, or_cases}
+use Rattle.rv_decode.specs.Formats.{rs1_of}
 use Rattle.rv_decode.specs.State.{ZcCore, reg_in, word_at}
+use Rattle.rv_decode.specs.System.{is_system, system_operand}
 use Rattle.rv_decode.specs.Bits.{add32}
 use Rattle.rv_decode.specs.declared.device_access.DeviceAccess.{DeviceAccess}
 use Rattle.rv_decode.specs.declared.device_access.DeviceAccess.TheVariants as access
@@ -22,7 +24,7 @@ use Rattle.zc_decode.specs.declared.short.Short.{Short}
 use Rattle.zc_decode.specs.declared.short.Short.TheVariants.{Base, Push, Pop, PopRet, PopRetz, MoveSa, MoveAs, TableJump}
 use Rattle.zc_machine.specs.declared.reason.Reason.{Reason}
 use Rattle.zc_machine.specs.declared.reason.Reason.TheVariants as reason
-use Rattle.zc_machine.specs.declared.reason.Reason.TheVariants.{UnknownCall}
+use Rattle.zc_machine.specs.declared.reason.Reason.TheVariants.{Illegal, UnknownCall}
 use Rattle.zc_machine.specs.declared.answer.EnvCall.{EnvCall}
 use Rattle.zc_machine.specs.declared.answer.EnvCall.TheVariants.{Exit, Read, Write}
 use Rattle.zc_machine.proofs.CutLaws.{all_accessed_keeps}
@@ -145,9 +147,21 @@ module _ (z : ZcCore) where
   short_shows (MoveAs first second) size = (refl, refl)
   short_shows (TableJump index) size = table_shows index size
 
+  -- where no instruction is fetched, one of the system may ask
+  missed_shows : (reason : Reason) → Shows z (made (Missing reason) z)
+  missed_shows Illegal = either (lies_in is_text (extents_of z.memory) z.pc 4 && is_system (word_at z z.pc))
+    where
+      either : (b : Bool) → Shows z (cond b (Asks (access.System (word_at z z.pc) (system_operand (word_at z z.pc) (reg_in z (rs1_of (word_at z z.pc)))))) (Stopped Illegal))
+      either true = tt
+      either false = tt
+  missed_shows reason.BadAccess = tt
+  missed_shows reason.Misaligned = tt
+  missed_shows reason.Break = tt
+  missed_shows UnknownCall = tt
+
   made_shows : (f : Fetched) → Shows z (made f z)
   made_shows (Found s size) = short_shows s size
-  made_shows (Missing reason) = tt
+  made_shows (Missing reason) = missed_shows reason
 
   from_shows : (x : Option ℕ) → z.exit ≡ x → Shows z (option_map_or Ended x (made (fetched_at z z.pc) z))
   from_shows None e = made_shows (fetched_at z z.pc)

@@ -4,13 +4,12 @@ use Rattle.std.specs.Option.{option_map_or}
 use Rattle.interrupt_plan.specs.Plan.{Interrupt}
 use Rattle.rv_decode.specs.Run.{◌>>=◌}
 use Rattle.rv_decode.specs.State.{ZcCore, ZcState}
-use Rattle.rv_decode.specs.declared.device_access.DeviceAccess.{DeviceAccess}
 use Rattle.rv_decode.specs.declared.device_access.DeviceAccess.TheVariants as access
 use Rattle.rv_decode.proofs.RunLaws.{bind_assoc, bind_ok}
 use Rattle.zc_machine.specs.declared.reason.Reason.{Reason}
 use Rattle.zc_machine.specs.Interrupt.{all_interrupted}
 use Rattle.zc_machine.specs.declared.answer.EnvCall.TheVariants as call
-use Rattle.zc_machine.specs.declared.reason.Reason.TheVariants.{BadAccess}
+use Rattle.zc_machine.specs.declared.reason.Reason.TheVariants.{BadAccess, Illegal}
 use Rattle.zc_machine.specs.Run.{committed, device_answers, turn, turns, zc_turn, zc_turns}
 use Rattle.zc_machine.specs.Step.{ZcStep, Committed, Wants, Ended, Stopped, Asks, zc_step}
 
@@ -70,9 +69,9 @@ turn_devices happens r s h = by_exit r.core.exit h
     same : (t : ZcState) → t.devices ≡ r.devices → ◌≡◌ {A = Result ZcState Reason} (Ok t) (Ok s) → s.devices ≡ r.devices
     same t kept g = let is : t ≡ s = cc in ap (λ x. x.devices) (sym is) ∙ kept
 
-    answered : (b : Bool) (x : DeviceAccess) (t : ZcState) → t.devices ≡ r.devices → cond b (Ok t) (Err BadAccess) ≡ Ok s → s.devices ≡ r.devices
-    answered true x t kept g = same t kept g
-    answered false x t kept g = absurd cc
+    answered : (b : Bool) (why : Reason) (t : ZcState) → t.devices ≡ r.devices → cond b (Ok t) (Err why) ≡ Ok s → s.devices ≡ r.devices
+    answered true why t kept g = same t kept g
+    answered false why t kept g = absurd cc
 
     by_step : (t : ZcStep) → committed t here ≡ Ok s → s.devices ≡ r.devices
     by_step (Committed z) g = same (record r { core = z }) refl g
@@ -81,8 +80,9 @@ turn_devices happens r s h = by_exit r.core.exit h
     by_step (Wants (call.Write fd at len)) g = same _ refl g
     by_step (Ended status) g = same here refl g
     by_step (Stopped reason) g = absurd cc
-    by_step (Asks (access.Load op a rd size)) g = answered _ (access.Load op a rd size) (device_answers (access.Load op a rd size) here) refl g
-    by_step (Asks (access.Store op a word size)) g = answered _ (access.Store op a word size) (device_answers (access.Store op a word size) here) refl g
+    by_step (Asks (access.Load op a rd size)) g = answered _ BadAccess (device_answers (access.Load op a rd size) here) refl g
+    by_step (Asks (access.Store op a word size)) g = answered _ BadAccess (device_answers (access.Store op a word size) here) refl g
+    by_step (Asks (access.System word operand)) g = answered _ Illegal (device_answers (access.System word operand) here) refl g
 
     by_exit : (o : Option ℕ) → option_map_or (λ _. Ok r) o (committed (zc_step (happens r.core)) here) ≡ Ok s → s.devices ≡ r.devices
     by_exit None g = by_step (zc_step (happens r.core)) g

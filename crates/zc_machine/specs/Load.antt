@@ -4,7 +4,7 @@ use Rattle.zc_base.specs.declared.mem_map.MemMap.{MemMap}
 use Rattle.elf32_read.specs.Header.{entry_address}
 use Rattle.elf32_read.specs.Segments.{SegmentData, segments_of}
 use Rattle.rv_decode.specs.Memory.{Region, Text, Data, Stack, blank}
-use Rattle.rv_decode.specs.State.{ZcCore, start_regs}
+use Rattle.rv_decode.specs.State.{ZcCore, set_reg, start_regs}
 
 -- the region of a segment: its bytes from the file, and zeros after them
 abbrev pub region_of : SegmentData → Region ℕ
@@ -25,6 +25,10 @@ first_core entry segments m = record {
   commits = 0;
   exit = None;
 }
+
+-- the state after a chip's reset, in which sp isn't set: it is 0
+abbrev pub reset_core : ZcCore → ZcCore
+reset_core z = record z { regs = set_reg z.regs 2 0 }
 
 -- an image's first state in a map
 abbrev pub first_core_of : List ℕ → MemMap → ZcCore

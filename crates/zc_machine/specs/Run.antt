@@ -3,12 +3,14 @@ use Rattle.std.specs.Prelude.{ℕ, zero, suc, Bool, List, [], ◌∷◌, ◌++�
 use Rattle.std.specs.Option.{option_map_or}
 use Rattle.interrupt_plan.specs.Plan.{Interrupt, Entry, interrupts_at}
 use Rattle.rv_decode.specs.Run.{◌>>=◌}
-use Rattle.rv_decode.specs.Devices.{Device, in_devices, number_from, sent_bytes, widened}
+use Rattle.rv_decode.specs.Devices.{Device, has_registers, in_devices, number_from, sent_bytes, widened}
 use Rattle.rv_decode.specs.declared.device_access.DeviceAccess.{DeviceAccess}
 use Rattle.rv_decode.specs.declared.device_access.DeviceAccess.TheVariants as access
 use Rattle.rv_decode.specs.Effect.{load_width, onward, store_width}
-use Rattle.rv_decode.specs.State.{ZcCore, ZcState, Exit, Load, Read, Store, Write, set_reg}
-use Rattle.zc_machine.specs.declared.reason.Reason.TheVariants.{BadAccess}
+use Rattle.rv_decode.specs.Formats.{rd_of}
+use Rattle.rv_decode.specs.State.{ZcCore, ZcState, Exit, Load, Read, Store, System, Write, set_reg}
+use Rattle.rv_decode.specs.System.{system_width}
+use Rattle.zc_machine.specs.declared.reason.Reason.TheVariants.{BadAccess, Illegal}
 use Rattle.zc_machine.specs.declared.reason.Reason.{Reason}
 use Rattle.zc_machine.specs.declared.answer.EnvCall.{EnvCall}
 use Rattle.zc_machine.specs.declared.answer.EnvCall.TheVariants as call
@@ -28,7 +30,8 @@ answered (call.Write fd at len) r =
     Ok (record r { core = has_written r.core; events = r.events ++ Write fd (bytes_at r.core at len) ∷ [] })
 
 -- a device's answer to an access is a commit with an event: a load takes as many bytes of the input as it asks for, or all that are
--- left, and what comes of them goes to its register; a store changes nothing else
+-- left, and what comes of them goes to its register; a store changes nothing else. An instruction of the system does what a load
+-- of a word does, unless rd is register 0
 abbrev pub device_answers : DeviceAccess → ZcState → ZcState
 device_answers (access.Load op a rd size) r =
     let bytes = take (load_width op) r.input in
@@ -39,15 +42,28 @@ device_answers (access.Load op a rd size) r =
     }
 device_answers (access.Store op a word size) r =
     record r { core = onward r.core size r.core.regs; events = r.events ++ Store a (sent_bytes op word) ∷ [] }
+device_answers (access.System word operand) r =
+    let bytes = take (system_width word) r.input in
+    record r {
+      core = onward r.core 4 (set_reg r.core.regs (rd_of word) (number_from bytes));
+      input = drop (system_width word) r.input;
+      events = r.events ++ System word operand bytes ∷ [];
+    }
 
--- whether a device lies where an access goes
+-- whether there is a device for an access
 abbrev pub is_answered : List Device → DeviceAccess → Bool
 is_answered devices (access.Load op a rd size) = in_devices devices a (load_width op)
 is_answered devices (access.Store op a word size) = in_devices devices a (store_width op)
+is_answered devices (access.System word operand) = has_registers devices
 
--- an access outside memory
+-- why the machine stops if there is none
+abbrev pub unanswered : DeviceAccess → Reason
+unanswered (access.System word operand) = Illegal
+unanswered other = BadAccess
+
+-- what asks a device
 abbrev pub asked : DeviceAccess → ZcState → Result ZcState Reason
-asked x r = if is_answered r.devices x then Ok (device_answers x r) else Err BadAccess
+asked x r = if is_answered r.devices x then Ok (device_answers x r) else Err (unanswered x)
 
 -- the state after a step, with the environment's answer if it wants one
 abbrev pub committed : ZcStep → ZcState → Result ZcState Reason

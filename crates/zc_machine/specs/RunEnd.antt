@@ -14,7 +14,7 @@ use Rattle.zc_machine.specs.Run.{interrupts_by, machine_after_with}
 -- the run from this core in this environment, of at most `steps` commits, with what happens before each of them
 abbrev pub course_of : ZcCore → Environment → (ℕ → ZcCore → ZcCore) → ℕ → Course ZcState Reason
 course_of first e happens steps = record {
-  after = machine_after_with first e.devices.ranges e.input happens;
+  after = machine_after_with first e.devices.all e.input happens;
   exit = λ s. s.core.exit;
   written = λ s stream. written_to e.devices.outputs stream s.events;
   steps = steps;

@@ -1,19 +1,23 @@
 -- One step of the machine.
 use Rattle.std.specs.Prelude.{ℕ, ◌%◌, ◌==◌, ◌&&◌, ◌||◌, if◌then◌else◌}
 use Rattle.std.specs.Option.{option_map_or}
-use Rattle.rv_decode.specs.Memory.{extents_of, is_data, lies_in}
+use Rattle.rv_decode.specs.Formats.{rs1_of}
+use Rattle.rv_decode.specs.Memory.{extents_of, is_data, is_text, lies_in}
+use Rattle.rv_decode.specs.System.{is_system, system_operand}
 use Rattle.rv_decode.specs.declared.device_access.DeviceAccess.{DeviceAccess}
-use Rattle.rv_decode.specs.State.{ZcCore, reg_in}
+use Rattle.rv_decode.specs.declared.device_access.DeviceAccess.TheVariants as access
+use Rattle.rv_decode.specs.State.{ZcCore, reg_in, word_at}
 use Rattle.rv_decode.specs.Effect as act
 use Rattle.rv_decode.specs.Effect.{Effect}
 use Rattle.zc_decode.specs.Effect.{short_effect}
 use Rattle.zc_machine.specs.declared.reason.Reason.{Reason}
-use Rattle.zc_machine.specs.declared.reason.Reason.TheVariants.{BadAccess, Misaligned, Break, UnknownCall}
+use Rattle.zc_machine.specs.declared.reason.Reason.TheVariants.{Illegal, BadAccess, Misaligned, Break, UnknownCall}
 use Rattle.zc_machine.specs.declared.answer.EnvCall.{EnvCall}
 use Rattle.zc_machine.specs.declared.answer.EnvCall.TheVariants as call
 use Rattle.zc_machine.specs.Fetch.{Fetched, Found, Missing, fetched_at}
 
--- what a step comes to: an instruction commits and leaves this state, or nothing changes; an access outside memory asks a device
+-- what a step comes to: an instruction commits and leaves this state, or nothing changes; an access outside memory, or an
+-- instruction of the system, asks a device
 pub data ZcStep : Type 0 where
   Committed : ZcCore → ZcStep
   Wants : EnvCall → ZcStep
@@ -44,9 +48,17 @@ effect_step (act.Outside x) z = Asks x
 effect_step act.Break z = Stopped Break
 effect_step act.Call z = called z
 
+-- where the tables have no instruction, a word of code may be one of the system
+abbrev pub unread : ZcCore → ZcStep
+unread z =
+    let word = word_at z z.pc in
+    if lies_in is_text (extents_of z.memory) z.pc 4 && is_system word
+    then Asks (access.System word (system_operand word (reg_in z (rs1_of word)))) else Stopped Illegal
+
 -- what was fetched is executed
 abbrev pub made : Fetched → ZcCore → ZcStep
 made (Found s size) z = effect_step (short_effect s size z) z
+made (Missing Illegal) z = unread z
 made (Missing reason) z = Stopped reason
 
 -- one step; after the exit nothing changes

@@ -13,7 +13,8 @@ pub enum EnvCall {
 }
 
 /// What one step comes to: an instruction was committed, or nothing changed, since the program wants
-/// an environment call, has ended, or is stopped, or since it loads or stores outside memory, where a device may lie.
+/// an environment call, has ended, or is stopped, or since it asks a device: it loads or stores outside memory, or makes
+/// an instruction of the system.
 #[derive(Clone, Copy)]
 pub enum Step {
     Committed,

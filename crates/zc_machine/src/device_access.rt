@@ -1,24 +1,36 @@
-// Loads and stores outside memory: whether a device lies there, and what a store there shows.
+// What asks a device: whether there is one, and what a store shows.
 
 ghost use Rattle.std.specs.Prelude.{◌≡◌, ◌≤◌, IfErr, OnErr, OnOk, take};
 ghost use Rattle.zc_machine.specs.Shown.{EndsWithin, shown_by};
-ghost use Rattle.zc_machine.specs.Run.{is_answered};
+ghost use Rattle.zc_machine.specs.Run.{is_answered, unanswered};
 ghost use Rattle.zc_outside.specs.Course.{WrotePart, WroteTo};
 ghost use Rattle.zc_outside.specs.Desk.{OnlyWrites, WriteCause};
 
 use crate::output::put;
+use crate::reason::Reason;
 use devices::environment::DeviceMap;
 use rv_decode::device_access::DeviceAccess;
 use rv_decode::widths::{load_width, store_width};
 use zc_outside::console::{Console, ConsoleFault};
 
-/// Whether a device lies where an access goes.
+/// Whether there is a device for an access.
 pub fn is_answered(devices: &DeviceMap<'_>, access: &DeviceAccess) -> bool
-    ensures { result ≡ is_answered devices.now.ranges access.now }
+    ensures { result ≡ is_answered devices.now.all access.now }
 {
     match access {
         DeviceAccess::Load { op, at, .. } => devices.has(*at, load_width(*op)),
         DeviceAccess::Store { op, at, .. } => devices.has(*at, store_width(*op)),
+        DeviceAccess::System { .. } => devices.has_registers(),
+    }
+}
+
+/// Why the machine stops where there is none.
+pub fn unanswered(access: &DeviceAccess) -> Reason
+    ensures { result ≡ unanswered access.now }
+{
+    match access {
+        DeviceAccess::Load { .. } | DeviceAccess::Store { .. } => Reason::BadAccess,
+        DeviceAccess::System { .. } => Reason::Illegal,
     }
 }
 
@@ -50,7 +62,7 @@ fn shown_by(devices: &DeviceMap<'_>, access: &DeviceAccess) -> ([u8; 4], usize)
     ensures bytes { take result.1 result.0 ≡ shown_by devices.now.outputs access.now }
 {
     match access {
-        DeviceAccess::Load { .. } => ([0; 4], 0),
+        DeviceAccess::Load { .. } | DeviceAccess::System { .. } => ([0; 4], 0),
         DeviceAccess::Store { op, at, word, .. } => devices.shown(*op, *at, *word),
     }
 }

@@ -1,5 +1,5 @@
 //! The machine that runs linked images: RV32IM with the halfwords of Zca, Zcb, Zcmp and Zcmt, and
-//! `csrrw` on jvt.
+//! `csrrw` on jvt. Its environment answers all other accesses to control and status registers, and `wfi`.
 #![tactic(auto)]
 
 pub mod answer;

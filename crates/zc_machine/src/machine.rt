@@ -10,7 +10,7 @@ ghost use Rattle.rv_decode.specs.State.{reg_in, set_reg};
 ghost use Rattle.zc_decode.specs.Effect.{short_effect};
 ghost use Rattle.zc_machine.specs.Answer.{answer_of, core_after, fetched_as};
 ghost use Rattle.zc_machine.specs.Fetch.{fetched_at};
-ghost use Rattle.zc_machine.specs.Load.{first_core};
+ghost use Rattle.zc_machine.specs.Load.{first_core, reset_core};
 ghost use Rattle.zc_machine.specs.Step.{effect_step, zc_step};
 
 mod accesses;
@@ -19,6 +19,7 @@ mod device_answers;
 mod frames;
 mod interrupts;
 mod jumps;
+mod system;
 
 use crate::answer::Step;
 use crate::load::first_regions;
@@ -86,6 +87,13 @@ impl Machine {
         })
     }
 
+    /// Leaves sp unset, as after a chip's reset: it is 0.
+    pub fn reset(&mut self)
+        ensures { self.new ≡ reset_core self.old }
+    {
+        self.regs[2] = 0;
+    }
+
     /// The program counter.
     pub fn pc(&self) -> u32
         ensures { result ≡ self.now.pc }
@@ -120,7 +128,10 @@ impl Machine {
         }
         match self.fetch() {
             Ok((short, size)) => self.execute(short, u32::from(size)),
-            Err(reason) => Step::Stopped(reason),
+            Err(reason) => match self.missed(reason) {
+                Some(access) => Step::Asks(access),
+                None => Step::Stopped(reason),
+            },
         }
     }
 

@@ -6,7 +6,8 @@ ghost use Rattle.zc_machine.specs.Reason.{reason_name, reason_number};
 /// Why the machine stops.
 #[derive(Clone, Copy, PartialEq, Eq, Debug)]
 pub enum Reason {
-    /// The word or halfword at the program counter encodes no instruction that the machine runs.
+    /// The word or halfword at the program counter encodes no instruction that the machine runs, or one of the system
+    /// that nothing answers.
     Illegal,
     /// An instruction or a table entry is fetched from outside the segments of code, or a load, a
     /// store or a call's buffer isn't wholly in the memory for data.

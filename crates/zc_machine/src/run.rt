@@ -8,7 +8,7 @@ ghost use Rattle.zc_outside.specs.Desk.{OnlyWrites};
 
 use crate::answer::{EnvCall, Step};
 use crate::between::BetweenCommits;
-use crate::device_access::{is_answered, show};
+use crate::device_access::{is_answered, show, unanswered};
 use crate::machine::Machine;
 use crate::output::write;
 use crate::reason::Reason;
@@ -94,7 +94,7 @@ pub fn run_with<B: BetweenCommits + Drop, C: Console>(
             Step::Stopped(reason) => return RunEnd::Stopped(reason),
             Step::Asks(access) => {
                 if !is_answered(&devices, &access) {
-                    return RunEnd::Stopped(Reason::BadAccess);
+                    return RunEnd::Stopped(unanswered(&access));
                 }
                 if let Err(fault) = show(&devices, &access, console) {
                     return RunEnd::Console(fault);

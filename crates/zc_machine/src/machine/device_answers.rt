@@ -1,8 +1,10 @@
 // What reads and loads from devices take from the answers of a machine's environment.
 
 ghost use Rattle.std.specs.Prelude.{◌≡◌, ◌+◌, ◌<◌, ◌-◌, ◌^◌, drop, length, slice_index, take, true};
+ghost use Rattle.rv_decode.specs.Devices.{number_from};
 ghost use Rattle.rv_decode.specs.Memory.{changed, extents_of, is_data, lies_in, written};
 ghost use Rattle.rv_decode.specs.State.{ZcState, reg_in};
+ghost use Rattle.rv_decode.specs.System.{system_width};
 ghost use Rattle.zc_machine.specs.Answer.{WantsRead, has_read};
 ghost use Rattle.zc_machine.specs.Run.{device_answers};
 ghost use Rattle.zc_machine.specs.Step.{zc_step};
@@ -11,7 +13,10 @@ use super::Machine;
 use crate::memory::Memory;
 use crate::region::AccessKind;
 use devices::answers::Answers;
+use rv_decode::bits::register_at;
 use rv_decode::device_access::DeviceAccess;
+use rv_decode::instr::LoadOp;
+use rv_decode::system::system_width;
 
 impl Machine {
     /// Makes the commit of the read that `step` wants, with as many bytes from the front of the answers as its buffer has
@@ -28,7 +33,8 @@ impl Machine {
         self.commits += 1;
     }
 
-    /// Makes the commit of a device's answer to an access. A load takes its bytes from the front of the answers.
+    /// Makes the commit of a device's answer to an access. A load, and an instruction of the system that has a register
+    /// for it, takes its bytes from the front of the answers.
     pub fn answer_access(&mut self, access: &DeviceAccess, answers: &mut Answers<'_>)
         requires { self.old.commits < 2 ^ 64 - 1 }
         ensures state { (r : ZcState) → r.core ≡ self.old → r.input ≡ answers.old
@@ -43,8 +49,23 @@ impl Machine {
             DeviceAccess::Store { size, .. } => {
                 self.go_on(*size);
             }
+            DeviceAccess::System { word, .. } => {
+                let value = system_value(*word, answers);
+                self.give(value, register_at(*word, 7), 4);
+            }
         }
     }
+}
+
+// Takes what is answered to an instruction of the system, and gives the number that it is.
+fn system_value(word: u32, answers: &mut Answers<'_>) -> u32
+    ensures value { result ≡ number_from (take (system_width word) answers.old) }
+    ensures left { answers.new ≡ drop (system_width word) answers.old }
+{
+    if system_width(word) == 0 {
+        return 0;
+    }
+    answers.take_value(LoadOp::Lw)
 }
 
 // Writes bytes from the front of the answers to a buffer, until it is full or none are left, and returns their number.

@@ -59,7 +59,15 @@ impl Machine {
         ensures { result ≡ (if lies_in is_text (extents_of self.now.memory) (entry_at index self.now) 4
             then Some (word_at self.now (entry_at index self.now)) else None) }
     {
-        let at = self.jvt.wrapping_add(4 * u32::from(index));
+        self.code_word(self.jvt.wrapping_add(4 * u32::from(index)))
+    }
+
+    // The word at an address, if it lies in code.
+    #[inline(always)]
+    pub(super) fn code_word(&self, at: u32) -> Option<u32>
+        ensures { result ≡ (if lies_in is_text (extents_of self.now.memory) at 4
+            then Some (word_at self.now at) else None) }
+    {
         first_word(self.memory.reach(AccessKind::Fetch, at))
     }
 }

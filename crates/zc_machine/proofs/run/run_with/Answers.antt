@@ -8,7 +8,6 @@ use Rattle.zc_machine.specs.Run.{is_answered}
 use Rattle.zc_machine.specs.Shown.{shown_by}
 use Rattle.zc_outside.specs.Course.{WrotePart, WroteTo}
 use Rattle.zc_machine.specs.Step.{zc_step}
-use Rattle.zc_machine.specs.declared.reason.Reason.TheVariants.{BadAccess}
 use Rattle.zc_machine.proofs.RunLaws.{Came, Came-start, Stops, asking, committed_next, device_next, device_refused_ran, exit_ran, none_ended, read_next, refused_ran, spent_ran, stepped, stop_ran, stopped_step, unanswered_step, wanted, write_next}
 use Rattle.zc_machine.proofs.StepLaws.{asks_within, read_shows, write_shows}
 use Rattle.zc_machine.proofs.run.run_with.Goals as goal
@@ -139,10 +138,11 @@ returns-then-not-is_answered-clause-ran g c =
     let s = stepped c.loop-devices.invariant.came c.loop-devices.invariant.goes_on c.act_on.ensures.made c.act_on.ensures.commits c.act_on.ensures.exit c.act_on.ensures.goes_on c.next_commit.ensures.none_before (omega arith) c.advance.ensures in
     let z' = s.acted in
     let x = c.in-Asks.access in
-    let devices = c.args.environment.devices.ranges in
-    let none = subst (λ (e : Environment). is_answered e.devices.ranges x ≡ false) c.environment.view_is (sym c.is_answered.ensures ∙ c.if-not-is_answered.true) in
-    let stops : Stops devices (zc_step z') BadAccess = unanswered_step devices (zc_step z') x (cc s.answers) none in
-    stop_ran s.came s.had c.advance.new.machine c.args.steps (omega arith) BadAccess stops (s.left_as ∙ stops.stays z')
+    let devices = c.args.environment.devices.all in
+    let none = subst (λ (e : Environment). is_answered e.devices.all x ≡ false) c.environment.view_is (sym c.is_answered.ensures ∙ c.if-not-is_answered.true) in
+    let why = c.unanswered.result in
+    let stops : Stops devices (zc_step z') why = subst (Stops devices (zc_step z')) (sym c.unanswered.ensures) (unanswered_step devices (zc_step z') x (cc s.answers) none) in
+    stop_ran s.came s.had c.advance.new.machine c.args.steps (omega arith) why stops (s.left_as ∙ stops.stays z')
 
 pub show-requires : goal.show-requires
 show-requires g c =
@@ -157,7 +157,7 @@ returns-in-Err-show-clause-ran g c =
     let asks = asking s.acted c.advance.new.machine x (cc s.answers) s.left_as in
     let now = g.C.Console.shown c.loop-devices.console in
     let after = g.C.Console.shown c.show.new.console in
-    let lies = subst (λ (e : Environment). is_answered e.devices.ranges x ≡ true) c.environment.view_is (sym c.is_answered.ensures ∙ c.if-not-is_answered.false) in
+    let lies = subst (λ (e : Environment). is_answered e.devices.all x ≡ true) c.environment.view_is (sym c.is_answered.ensures ∙ c.if-not-is_answered.false) in
     let part = subst (λ (e : Environment). WrotePart 1 (shown_by e.devices.outputs x) now after) c.environment.view_is c.in-Err-show.ensures.err in
     device_refused_ran s.came s.had c.advance.new.machine c.args.steps (omega arith) x c.in-Err-show.fault after asks.is lies part c.in-Err-show.ensures.cause
 
@@ -173,10 +173,10 @@ loop-devices-preserved g c =
     let s = stepped c.loop-devices.invariant.came c.loop-devices.invariant.goes_on c.act_on.ensures.made c.act_on.ensures.commits c.act_on.ensures.exit c.act_on.ensures.goes_on c.next_commit.ensures.none_before (omega arith) c.advance.ensures in
     let x = c.in-Asks.access in
     let asks = asking s.acted c.advance.new.machine x (cc s.answers) s.left_as in
-    let there : ZcState = record { core = s.acted; input = c.loop-devices.answers; events = s.came.events; devices = c.args.environment.devices.ranges } in
+    let there : ZcState = record { core = s.acted; input = c.loop-devices.answers; events = s.came.events; devices = c.args.environment.devices.all } in
     let now = g.C.Console.shown c.loop-devices.console in
     let after = g.C.Console.shown c.show.new.console in
-    let lies = subst (λ (e : Environment). is_answered e.devices.ranges x ≡ true) c.environment.view_is (sym c.is_answered.ensures ∙ c.if-not-is_answered.false) in
+    let lies = subst (λ (e : Environment). is_answered e.devices.all x ≡ true) c.environment.view_is (sym c.is_answered.ensures ∙ c.if-not-is_answered.false) in
     let wrote = subst (λ (e : Environment). WroteTo 1 (shown_by e.devices.outputs x) now after) c.environment.view_is c.in_default-show.ensures.ok in
     let next =
     device_next s.came s.had c.answer_access.new.self x c.answer_access.new.answers after asks.is lies (c.answer_access.ensures.state there (sym asks.stays) refl) (c.answer_access.ensures.left there refl) wrote
@@ -189,10 +189,10 @@ loop-devices-smaller g c =
     let s = stepped c.loop-devices.invariant.came c.loop-devices.invariant.goes_on c.act_on.ensures.made c.act_on.ensures.commits c.act_on.ensures.exit c.act_on.ensures.goes_on c.next_commit.ensures.none_before (omega arith) c.advance.ensures in
     let x = c.in-Asks.access in
     let asks = asking s.acted c.advance.new.machine x (cc s.answers) s.left_as in
-    let there : ZcState = record { core = s.acted; input = c.loop-devices.answers; events = s.came.events; devices = c.args.environment.devices.ranges } in
+    let there : ZcState = record { core = s.acted; input = c.loop-devices.answers; events = s.came.events; devices = c.args.environment.devices.all } in
     let now = g.C.Console.shown c.loop-devices.console in
     let after = g.C.Console.shown c.show.new.console in
-    let lies = subst (λ (e : Environment). is_answered e.devices.ranges x ≡ true) c.environment.view_is (sym c.is_answered.ensures ∙ c.if-not-is_answered.false) in
+    let lies = subst (λ (e : Environment). is_answered e.devices.all x ≡ true) c.environment.view_is (sym c.is_answered.ensures ∙ c.if-not-is_answered.false) in
     let wrote = subst (λ (e : Environment). WroteTo 1 (shown_by e.devices.outputs x) now after) c.environment.view_is c.in_default-show.ensures.ok in
     let next =
     device_next s.came s.had c.answer_access.new.self x c.answer_access.new.answers after asks.is lies (c.answer_access.ensures.state there (sym asks.stays) refl) (c.answer_access.ensures.left there refl) wrote
@@ -227,7 +227,7 @@ pub returns-in-Stopped-clause-ran : goal.returns-in-Stopped-clause-ran
 returns-in-Stopped-clause-ran g c =
     let s = stepped c.loop-devices.invariant.came c.loop-devices.invariant.goes_on c.act_on.ensures.made c.act_on.ensures.commits c.act_on.ensures.exit c.act_on.ensures.goes_on c.next_commit.ensures.none_before (omega arith) c.advance.ensures in
     let z' = s.acted in
-    let stops : Stops c.args.environment.devices.ranges (zc_step z') c.in-Stopped.reason = stopped_step c.args.environment.devices.ranges (zc_step z') c.in-Stopped.reason (cc s.answers) in
+    let stops : Stops c.args.environment.devices.all (zc_step z') c.in-Stopped.reason = stopped_step c.args.environment.devices.all (zc_step z') c.in-Stopped.reason (cc s.answers) in
     stop_ran s.came s.had c.advance.new.machine c.args.steps (omega arith) c.in-Stopped.reason stops (s.left_as ∙ stops.stays z')
 
 pub returns-clause-ran : goal.returns-clause-ran
