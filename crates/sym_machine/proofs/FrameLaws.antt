@@ -23,13 +23,13 @@ use Rattle.sym_machine.specs.Expansions.{restores, saves}
 use Rattle.sym_machine.specs.Invariants.Frames.{AreReached, HasStack, IsFrameBytes, IsFrameRegister, IsInStack, IsLoading, IsObstacle, IsReached, word_address}
 use Rattle.sym_machine.specs.Kept.{IsKept, Kept, regions_of}
 use Rattle.sym_machine.specs.State.{PlainCore, reg_of}
-use Rattle.sym_machine.specs.Step.{Stuck, Went, after_change, and_then, applied, in_turn, undefined_below}
+use Rattle.sym_machine.specs.Step.{Stuck, Went, after_change, and_then, applied, in_turn, is_set, undefined_below}
 use Rattle.sym_machine.specs.Words.{number_of, number_word, numeric, sum_word, undef_word}
 use Rattle.sym_machine.specs.declared.why.Why.{Why}
 use Rattle.sym_machine.specs.declared.why.Why.TheVariants.{BadAddress, Misaligned}
 use Rattle.sym_machine.specs.declared.word.SymWord.{SymWord}
 use Rattle.sym_machine.proofs.MemoryLaws.{reaches_is}
-use Rattle.sym_machine.proofs.StepLaws.{ended, ends_within, extents-made, settled}
+use Rattle.sym_machine.proofs.StepLaws.{ended, ends_within, extents-made, set_to, settled}
 use Rattle.sym_machine.proofs.WordLaws.{number_back}
 
 -- ---- accesses
@@ -179,7 +179,7 @@ module _ (map : MemMap) (sp top : ℕ) (registers : List ℕ) (next : Place) (fi
         let change = puts (word_address sp top k) (bytes_of (reg_of s r)) next in
         let does = next_store k s few is ∙ reached (λ a. Goes (puts a (bytes_of (reg_of s r)) next)) in
         record {
-          regs = ap (λ (t : PlainCore). t.regs) (ended map (after_change change s) s' [] [] h).0.state ∙ is.regs;
+          regs = ap (λ (t : PlainCore). t.regs) (ended map (is_set map s) (after_change change s) s' [] [] h).0.state ∙ is.regs;
           extents = extents-made map s s' (Goes change) [] h ∙ is.extents;
           same =
               is.same ∙ ap (λ l. in_turn map (saves (top - 4 * k) l) next s) (left_is sp top k registers few)
@@ -212,14 +212,13 @@ pub record IsSet (map : MemMap) (sp r : ℕ) (w : SymWord) (s s' : PlainCore) : 
   pub memory : s'.memory ≡ s.memory
   pub regs : s'.regs ≡ set_reg s.regs r w
 
-pub is_set : (map : MemMap) (sp r : ℕ) (w : SymWord) (next : Place) (s s' : PlainCore) → r ≢ 2 → HasStack map sp s → applied map s (Goes (sets r w next)) ≡ Went s' [] → IsSet map sp r w s s'
-is_set map sp r w next s s' other stack h =
-    let end = (ended map (after_change (sets r w next) s) s' [] [] h).0 in
+pub sets_other : (map : MemMap) (sp r : ℕ) (w : SymWord) (next : Place) (s s' : PlainCore) → r ≢ 2 → HasStack map sp s → applied map s (Goes (sets r w next)) ≡ Went s' [] → IsSet map sp r w s s'
+sets_other map sp r w next s s' other stack h =
+    let end = (ended map (is_set map s) (after_change (sets r w next) s) s' [] [] h).0 in
     let kept : number_of (reg_of (after_change (sets r w next) s) 2) ≡ Some sp = ap number_of (reads-set_reg_other (number_word 0) undef_word s.regs r w 2 (λ e. other (sym e))) ∙ stack.number in
-    let same : Some end.sp ≡ Some sp = sym end.is ∙ kept in
-    let sp_is : end.sp ≡ sp = (let e : end.sp ≡ sp = cc in e) in
+    let mark = (set_to map sp (after_change (sets r w next) s) kept stack.low stack.high).mark in
     let regs : s'.regs ≡ set_reg s.regs r w = ap (λ (t : PlainCore). t.regs) end.state in
-    let memory : s'.memory ≡ s.memory = ap (λ (t : PlainCore). t.memory) end.state ∙ ap (λ n. changed (undefined_below map n) s.memory) sp_is ∙ stack.settled in
+    let memory : s'.memory ≡ s.memory = ap (λ (t : PlainCore). t.memory) end.state ∙ ap (λ n. changed (undefined_below map n) s.memory) mark ∙ stack.settled in
     record {
       stack = record {
         count = ap length regs ∙ length-set_reg s.regs r w ∙ stack.count;
@@ -249,7 +248,7 @@ module _ (map : MemMap) (sp top : ℕ) (registers : List ℕ) (next : Place) (fi
       let r : ℕ = get_or registers k 0 in
       let w = load_word Lw s (word_address sp top k) in
       let fits : IsFrameRegister r = All-get_or IsFrameRegister registers k 0 few known in
-      let after = is_set map sp r w next s s' fits.2 is.stack h in
+      let after = sets_other map sp r w next s s' fits.2 is.stack h in
       let does = next_load k s few is ∙ reached (λ a. Goes (sets r (load_word Lw s a) next)) in
       let same_word : w ≡ load_word Lw first (word_address sp top k) = ap (λ m. load_word Lw (record s { memory = m }) (word_address sp top k)) is.memory in
       let index : k + 1 - 1 ≡ k = omega arith in
@@ -296,7 +295,7 @@ module _ (map : MemMap) (sp top : ℕ) (registers : List ℕ) (next : Place) (fi
         let sp_is : number_of (reg_of (after_change change s) 2) ≡ Some sp =
         ap number_of (reads-set_reg_other (number_word 0) undef_word s.regs r (load_word Lw s (word_address sp top k)) 2 (λ e. fits.2 (sym e))) ∙ before.is.stack.number in
         let s' = settled map sp (after_change change s) in
-        let made : applied map s (Goes change) ≡ Went s' [] = ends_within map sp (after_change change s) [] sp_is stack.low stack.high in
+        let made : applied map s (Goes change) ≡ Went s' [] = ends_within map (is_set map s) sp (after_change change s) [] sp_is stack.low stack.high in
         record { state = s'; is = subst (λ m. IsLoading map sp top m registers next first s') (sym (one k)) (loading_more k s s' within (reached k (omega arith)) before.is made) }
 
     -- where the first load can't be made, all of it is stuck, whatever comes behind

@@ -1,5 +1,6 @@
 pub mod CursorLaws
 pub mod StepLaws
+pub mod EventLaws
 pub mod PageLaws
 pub mod MemoryLaws
 mod NumberLaws

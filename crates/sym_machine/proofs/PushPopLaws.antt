@@ -1,7 +1,7 @@
 -- Pushes and pops as a whole: what they come to if all accesses can be made, and the cause if they are stuck, in the order of what
 -- they stand for. A pop's loads and its a0 leave a state (Loaded) from which sp is raised and the pop goes on or returns.
 use Rattle.std.proofs.Common.{◌≡◌, ℕ, suc, pos, negsuc, ◌+◌, ◌-◌, ◌*◌, ◌%◌, ◌^◌, ◌<◌, ◌≤◌, List, [], ◌∷◌, ◌++◌, length, Some, None, Bool, true, false, cond, refl, sym, ap, ◌∙◌, subst, arith, drop, get_or, eqb, leb, ltb, get_or-set_other, get_or-set_same}
-use Rattle.std.specs.Prelude.{All, ◌&&◌, nat_le}
+use Rattle.std.specs.Prelude.{All, ◌&&◌}
 use Rattle.std.proofs.Math.Seq.{drop-length}
 use Rattle.std.proofs.lemmas.Bool.{and_parts, cond-false, leb-true, ne_eqb}
 use Rattle.std.proofs.lemmas.List.Elements.{All-drop, All-from_recursion}
@@ -17,7 +17,7 @@ use Rattle.sym_machine.specs.Change.{Goes, jump_does, load_word, sets}
 use Rattle.sym_machine.specs.Expansions.{restores, saves}
 use Rattle.sym_machine.specs.Invariants.Frames.{AreReached, HasStack, IsFrameBytes, IsFrameRegister, IsLoading, IsObstacle, IsZeroed, behind_loads, pop_target, word_address}
 use Rattle.sym_machine.specs.State.{PlainCore, reg_of}
-use Rattle.sym_machine.specs.Step.{Stuck, Went, after_change, and_then, applied, in_turn, undefined_below}
+use Rattle.sym_machine.specs.Step.{Stuck, Went, after_change, and_then, applied, in_stack, in_turn, is_set, undefined_below}
 use Rattle.sym_machine.specs.Words.{code_of, code_word, number_of, number_word, numeric, undef_word}
 use Rattle.sym_machine.specs.declared.state.frames.PopEnd.{PopEnd}
 use Rattle.sym_machine.specs.declared.state.frames.PopEnd.TheVariants.{GoesOn, Returns, ReturnsZero}
@@ -26,19 +26,16 @@ use Rattle.sym_machine.specs.declared.why.Why.TheVariants.{StackPointer, TargetU
 use Rattle.sym_machine.specs.declared.word.SymByte.{SymByte}
 use Rattle.sym_machine.specs.declared.word.SymByte.TheVariants.{Undef}
 use Rattle.sym_machine.specs.declared.word.SymWord.{SymWord}
-use Rattle.sym_machine.proofs.FrameLaws.{is_set, loading_to, obstacle_same, saves_stuck}
+use Rattle.sym_machine.proofs.FrameLaws.{loading_to, obstacle_same, saves_stuck, sets_other}
 use Rattle.rv_decode.proofs.WriteLaws.{changed-after}
 use Rattle.sym_machine.proofs.StateLaws.{sp_outside}
-use Rattle.sym_machine.proofs.StepLaws.{ended, ends_within, extents-made, settled}
+use Rattle.sym_machine.proofs.StepLaws.{ends_within, extents-made, set_to, settled}
 use Rattle.sym_machine.proofs.WordLaws.{number_back}
 use Rattle.zc_decode.specs.Lists.{registers_of, saved_registers}
 use Rattle.zc_decode.specs.Operands.{IsFrameSize}
 use Rattle.zc_decode.proofs.OperandLaws.{frame_list, frame_range, frame_room}
 
 -- ---- sp moves
-
-abbrev pub is_within : MemMap → ℕ → Bool
-is_within map sp = nat_le map.stack_low sp && nat_le sp map.stack_high
 
 module _ (map : MemMap) (s : PlainCore) (many : 2 < length s.regs) (to : ℕ) (small : to < 2 ^ 32) (next : Place) where
   sp_set : number_of (reg_of (after_change (sets 2 (number_word to) next) s) 2) ≡ Some to
@@ -48,13 +45,13 @@ module _ (map : MemMap) (s : PlainCore) (many : 2 < length s.regs) (to : ℕ) (s
   abbrev moved : PlainCore
   moved = settled map to (after_change (sets 2 (number_word to) next) s)
 
-  move_goes : is_within map to ≡ true → applied map s (Goes (sets 2 (number_word to) next)) ≡ Went moved []
+  move_goes : in_stack map to ≡ true → applied map s (Goes (sets 2 (number_word to) next)) ≡ Went moved []
   move_goes inside =
       let q = and_parts (leb map.stack_low to) (leb to map.stack_high) inside in
-      ends_within map to (after_change (sets 2 (number_word to) next) s) [] sp_set (leb-true map.stack_low to q.0) (leb-true to map.stack_high q.1)
+      ends_within map (is_set map s) to (after_change (sets 2 (number_word to) next) s) [] sp_set (leb-true map.stack_low to q.0) (leb-true to map.stack_high q.1)
 
-  move_stuck : is_within map to ≡ false → applied map s (Goes (sets 2 (number_word to) next)) ≡ Stuck StackPointer
-  move_stuck out = sp_outside map s many (number_word to) next to (number_back to small) out
+  move_stuck : is_set map s ≡ true → in_stack map to ≡ false → applied map s (Goes (sets 2 (number_word to) next)) ≡ Stuck StackPointer
+  move_stuck set out = sp_outside map s many set (number_word to) next to (number_back to small) out
 
 -- ---- pushes
 
@@ -79,17 +76,16 @@ module _ (map : MemMap) (s : PlainCore) (sp adjust : ℕ) (stack : HasStack map 
   lowers = ap (λ o. and_then (applied map s (Goes (sets 2 (numeric o (λ n. add32 n (negsuc (adjust - 1)))) next))) (in_turn map (saves adjust registers) next)) stack.number
 
   -- sp would leave the stack
-  pub push_outside : is_within map (add32 sp (negsuc (adjust - 1))) ≡ false → in_turn map (WithImm Addi 2 2 (negsuc (adjust - 1)) ∷ saves adjust registers) next s ≡ Stuck StackPointer
-  push_outside out = lowers ∙ ap (λ t. and_then t (in_turn map (saves adjust registers) next)) (move_stuck map s many lowered below next out)
+  pub push_outside : in_stack map (add32 sp (negsuc (adjust - 1))) ≡ false → in_turn map (WithImm Addi 2 2 (negsuc (adjust - 1)) ∷ saves adjust registers) next s ≡ Stuck StackPointer
+  push_outside out = lowers ∙ ap (λ t. and_then t (in_turn map (saves adjust registers) next)) (move_stuck map s many lowered below next (set_to map sp s stack.number stack.low stack.high).set out)
 
   -- a store can't be made
   pub push_stuck :
-      (why : Why) → is_within map (add32 sp (negsuc (adjust - 1))) ≡ true → 0 < length registers → IsObstacle s (add32 sp (negsuc (adjust - 1))) adjust why
+      (why : Why) → in_stack map (add32 sp (negsuc (adjust - 1))) ≡ true → 0 < length registers → IsObstacle s (add32 sp (negsuc (adjust - 1))) adjust why
       → in_turn map (WithImm Addi 2 2 (negsuc (adjust - 1)) ∷ saves adjust registers) next s ≡ Stuck why
   push_stuck why inside some is =
       let s1 = moved map s many lowered below next in
       let h = move_goes map s many lowered below next inside in
-      let end = (ended map (after_change (sets 2 (number_word lowered) next) s) s1 [] [] h).0 in
       let number : number_of (reg_of s1 2) ≡ Some lowered = sp_set map s many lowered below next in
       lowers ∙ ap (λ t. and_then t (in_turn map (saves adjust registers) next)) h
       ∙ saves_stuck map lowered adjust registers next s1 below number why some
@@ -169,7 +165,7 @@ module _ (map : MemMap) (sp frame : ℕ) (end : PopEnd) (registers : List ℕ) (
   zeroed GoesOn s z w stack ra is = (subst (HasStack map sp) (sym is) stack, ap (λ t. reg_of t 1) is ∙ ra, ap (in_turn map (WithImm Addi 2 2 (pos frame) ∷ []) next) (sym is))
   zeroed Returns s z w stack ra is = (subst (HasStack map sp) (sym is) stack, ap (λ t. reg_of t 1) is ∙ ra, ap (in_turn map (WithImm Addi 2 2 (pos frame) ∷ Jalr 0 1 (pos 0) ∷ []) next) (sym is))
   zeroed ReturnsZero s z w stack ra is =
-      let after = is_set map sp 10 (number_word 0) next s z (λ (e : 10 ≡ 2). omega (arith, e)) stack is in (
+      let after = sets_other map sp 10 (number_word 0) next s z (λ (e : 10 ≡ 2). omega (arith, e)) stack is in (
         after.stack,
         ap (λ l. get_or l 1 undef_word) after.regs ∙ get_or-set_other s.regs 10 1 (number_word 0) undef_word (λ (e : 1 ≡ 10). omega (arith, e)) ∙ ra,
         ap (λ t. and_then t (in_turn map (WithImm Addi 2 2 (pos frame) ∷ Jalr 0 1 (pos 0) ∷ []) next)) is,
@@ -185,7 +181,7 @@ module _ (map : MemMap) (sp frame : ℕ) (end : PopEnd) (registers : List ℕ) (
   zero_some ReturnsZero s stack =
       let change = sets 10 (number_word 0) next in
       let kept : number_of (reg_of (after_change change s) 2) ≡ Some sp = ap number_of (get_or-set_other s.regs 10 2 (number_word 0) undef_word (λ (e : 2 ≡ 10). omega (arith, e))) ∙ stack.number in
-      record { state = settled map sp (after_change change s); is = ends_within map sp (after_change change s) [] kept stack.low stack.high }
+      record { state = settled map sp (after_change change s); is = ends_within map (is_set map s) sp (after_change change s) [] kept stack.low stack.high }
 
   module _ (some : 0 < length registers) (last : get_or registers (length registers - 1) 0 ≡ 1) where
     pub loaded_of : (s z : PlainCore) → IsLoading map sp frame (length registers) registers next first s → IsZeroed end map next s z → Loaded z
@@ -225,7 +221,7 @@ module _ (map : MemMap) (sp frame : ℕ) (next : Place) (z : PlainCore) (stack :
       (cond-false (eqb frame 0) (reg_of z 2) (numeric (number_of (reg_of z 2)) (λ n. add32 n (pos frame))) (ne_eqb frame 0 (λ e. omega (arith, e, some)))
       ∙ ap (λ o. numeric o (λ n. add32 n (pos frame))) stack.number)
 
-  module _ (inside : is_within map (add32 sp (pos frame)) ≡ true) where
+  module _ (inside : in_stack map (add32 sp (pos frame)) ≡ true) where
     raise_goes : (is : List Instr) → in_turn map (WithImm Addi 2 2 (pos frame) ∷ is) next z ≡ in_turn map is next s3
     raise_goes is = raise_is is ∙ ap (λ t. and_then t (in_turn map is next)) (move_goes map z many_z raised raised_small next inside)
 
@@ -258,7 +254,7 @@ module _ (map : MemMap) (sp frame : ℕ) (next : Place) (z : PlainCore) (stack :
         let q = and_parts (leb map.stack_low raised) (leb raised map.stack_high) inside in
         ap (λ o. and_then (applied map s3 (jump_does o 0 next)) (in_turn map [] next)) (ap code_of ra_stays ∙ is)
         ∙ ap (λ t. and_then t (in_turn map [] next))
-        (ends_within map raised (after_change (sets 0 (code_word next) to) s3) [] (sp_set map z many_z raised raised_small next) (leb-true map.stack_low raised q.0) (leb-true raised map.stack_high q.1))
+        (ends_within map (is_set map s3) raised (after_change (sets 0 (code_word next) to) s3) [] (sp_set map z many_z raised raised_small next) (leb-true map.stack_low raised q.0) (leb-true raised map.stack_high q.1))
         ∙ ap (λ m. Went (record (moved map z many_z raised raised_small to) { memory = m }) []) settled_again
 
     -- sp is raised, and the pop goes on or returns

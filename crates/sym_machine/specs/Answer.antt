@@ -3,30 +3,48 @@ use Rattle.std.specs.Prelude.{◌≡◌, ℕ, ◌+◌, ◌^◌, ◌≤◌, ◌�
 use Rattle.std.specs.declared.alloc.AllocError.{AllocError}
 use Rattle.rv_decode.specs.Devices.{sent_bytes}
 use Rattle.rv_decode.specs.Effect.{load_width, store_width}
-use Rattle.rv_decode.specs.State.{Event, Exit, Load, Read, Store, Write}
+use Rattle.rv_decode.specs.State.{Exit, Load, Read, Store, System, Write}
+use Rattle.rv_decode.specs.System.{system_width}
 use Rattle.sym_machine.specs.declared.answer.SymStep.{SymStep}
 use Rattle.sym_machine.specs.declared.answer.SymStep.TheVariants as answer
+use Rattle.sym_machine.specs.declared.known.Known.{Known}
+use Rattle.sym_machine.specs.declared.known.Known.TheVariants.{Number, Code, Unknown}
 use Rattle.sym_machine.specs.declared.why.Why.{Why}
 use Rattle.sym_machine.specs.Change.{Does, Stops, is_output}
+use Rattle.sym_machine.specs.Events.{SymEvent, Numeric, StoresCode, HandsCode}
 use Rattle.sym_machine.specs.State.{PlainCore}
 use Rattle.sym_machine.specs.Step.{PlainStep, Went, Stuck}
 
 -- a step of a program that runs on, with these events
-abbrev pub RunsOn : PlainStep → List Event → PlainCore → PlainCore → Type 0
+abbrev pub RunsOn : PlainStep → List SymEvent → PlainCore → PlainCore → Type 0
 RunsOn step events old new = (old.exit ≡ None) × (new.exit ≡ None) × (step ≡ Went new events)
+
+-- the bytes of the input that an answer of n bytes takes
+abbrev pub answer_bytes : ℕ → PlainCore → List ℕ
+answer_bytes n s = take (min n (length s.input)) s.input
+
+-- the event of an instruction of the system, by its word, its operand, which is a number or the address of a place, and the answer
+abbrev pub system_event : ℕ → Known → List ℕ → List SymEvent
+system_event word (Number n) bytes = Numeric (System word n bytes) ∷ []
+system_event word (Code q) bytes = HandsCode word q bytes ∷ []
+system_event word Unknown bytes = []
 
 -- the answer and the state after it are this step's: reads, writes, the exit and what a device answers are events, a stuck step
 -- changes nothing, and after the exit nothing changes any more
 abbrev pub StepAnswers : PlainStep → SymStep → PlainCore → PlainCore → Type 0
 StepAnswers step answer.Done old new = RunsOn step [] old new
-StepAnswers step (answer.Read count) old new = (count ≤ length old.input) × RunsOn step (Read (take count old.input) ∷ []) old new
-StepAnswers step (answer.Wrote fd bytes) old new = (is_output fd ≡ true) × RunsOn step (Write fd bytes.items ∷ []) old new
+StepAnswers step (answer.Read count) old new =
+    (count ≤ length old.input) × RunsOn step (Numeric (Read (take count old.input)) ∷ []) old new
+StepAnswers step (answer.Wrote fd bytes) old new = (is_output fd ≡ true) × RunsOn step (Numeric (Write fd bytes.items) ∷ []) old new
 StepAnswers step (answer.Loaded op at) old new =
-    RunsOn step (Load at (load_width op) (take (min (load_width op) (length old.input)) old.input) ∷ []) old new
+    RunsOn step (Numeric (Load at (load_width op) (answer_bytes (load_width op) old)) ∷ []) old new
 StepAnswers step (answer.Stored sent) old new =
-    (sent.at + store_width sent.op ≤ 2 ^ 32) × RunsOn step (Store sent.at (sent_bytes sent.op sent.word) ∷ []) old new
+    (sent.at + store_width sent.op ≤ 2 ^ 32) × RunsOn step (Numeric (Store sent.at (sent_bytes sent.op sent.word)) ∷ []) old new
+StepAnswers step (answer.StoredCode at place) old new = RunsOn step (StoresCode at place ∷ []) old new
+StepAnswers step (answer.System word operand) old new =
+    RunsOn step (system_event word operand (answer_bytes (system_width word) old)) old new
 StepAnswers step (answer.Exited status) old new =
-    ((old.exit ≡ None) × (new.exit ≡ Some status) × (step ≡ Went new (Exit status ∷ [])))
+    ((old.exit ≡ None) × (new.exit ≡ Some status) × (step ≡ Went new (Numeric (Exit status) ∷ [])))
     ⊎ ((old.exit ≡ Some status) × (new ≡ old) × (step ≡ Went new []))
 StepAnswers step (answer.Stuck place why) old new =
     (old.exit ≡ None) × (new ≡ old) × (place ≡ old.place) × (step ≡ Stuck why)

@@ -14,7 +14,7 @@ use Rattle.rv_decode.specs.declared.instr.StoreOp.{StoreOp}
 use Rattle.rv_decode.specs.declared.instr.StoreOp.TheVariants.{Sb, Sh, Sw}
 use Rattle.rv_decode.specs.Effect.{load_width, store_width}
 use Rattle.rv_decode.specs.Memory.{Region, cell_at, extents_of, is_data, lies_in}
-use Rattle.rv_decode.specs.State.{Event, Exit, Read, Write}
+use Rattle.rv_decode.specs.State.{Exit, Read, Write}
 use Rattle.block_cut.specs.declared.item.Item.{Item}
 use Rattle.block_cut.specs.declared.item.Item.TheVariants.{Op, Hi, Lo, PcHi, PcLo, Branch, Jump, Call, Align, Word, Raw, RawShort, RawPair}
 use Rattle.sym_machine.specs.declared.arguments.Arguments.{Arguments}
@@ -26,6 +26,7 @@ use Rattle.sym_machine.specs.declared.word.SymWord.{SymWord}
 use Rattle.sym_machine.specs.declared.word.Value.TheVariants as value
 use Rattle.sym_machine.specs.AddressParts.{bytes_of, high_word, low_sum, pc_low_sum, pc_target}
 use Rattle.sym_machine.specs.Conditions.{condition}
+use Rattle.sym_machine.specs.Events.{SymEvent, Numeric}
 use Rattle.sym_machine.specs.Program.{Program}
 use Rattle.sym_machine.specs.State.{PlainCore, cell_of, reg_of}
 use Rattle.sym_machine.specs.Words.{byte_word, code_of, code_word, half_word, imm_word, number_of, number_word, reg_word, sign_of, sum_word, undef_word, upper_word, value_word}
@@ -38,7 +39,7 @@ pub record Change : Type 0 where
   pub stores : List (ℕ × List SymByte)
   pub taken : ℕ
   pub exit : Option ℕ
-  pub events : List Event
+  pub events : List SymEvent
 
 pub data Does : Type 0 where
   Goes : Change → Does
@@ -106,7 +107,7 @@ branch_does (Some taken) to next = Goes (continues (if taken then to else next))
 -- the exit, with the low byte of a0; the place stays
 abbrev pub exit_does : Option ℕ → Place → Does
 exit_does None at = Stops ArgumentUnknown
-exit_does (Some a0) at = Goes (record (continues at) { exit = Some (a0 % 256); events = Exit (a0 % 256) ∷ [] })
+exit_does (Some a0) at = Goes (record (continues at) { exit = Some (a0 % 256); events = Numeric (Exit (a0 % 256)) ∷ [] })
 
 -- what a call with a buffer uses, by a0, a1 and a2, if all of it is known; of no bytes a1 isn't looked at
 abbrev pub arguments_of : Option ℕ → Option ℕ → Option ℕ → Option Arguments
@@ -134,7 +135,7 @@ read_does s next c =
       writes = (10, number_word count) ∷ [];
       stores = (c.at, map Num bytes) ∷ [];
       taken = count;
-      events = Read bytes ∷ [];
+      events = Numeric (Read bytes) ∷ [];
     })
 
 -- a byte before others, if all are numbers
@@ -150,7 +151,7 @@ numbers_at memory a (suc n) = then_number (cell_at Undef memory a) (numbers_at m
 -- the buffer's bytes go out, if they are numbers, and their number goes to a0
 abbrev pub write_does : PlainCore → Place → Arguments → Does
 write_does s next c =
-    option_map_or (λ bytes. Goes (record (sets 10 (number_word c.len) next) { events = Write c.a0 bytes ∷ [] }))
+    option_map_or (λ bytes. Goes (record (sets 10 (number_word c.len) next) { events = Numeric (Write c.a0 bytes) ∷ [] }))
     (numbers_at s.memory c.at c.len) (Stops ArgumentUnknown)
 
 -- a write goes to the output (1) or to the output for errors (2)

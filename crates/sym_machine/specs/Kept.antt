@@ -1,5 +1,5 @@
 -- What the machine keeps of a state, and the state that this stands for.
-use Rattle.std.specs.Prelude.{◌≡◌, ℕ, ◌+◌, ◌-◌, ◌^◌, ◌<◌, ◌≤◌, List, [], ◌∷◌, length, map, Some, slice_index_or}
+use Rattle.std.specs.Prelude.{◌≡◌, ℕ, ◌+◌, ◌-◌, ◌^◌, ◌<◌, ◌≤◌, List, [], ◌∷◌, length, map, slice_index_or}
 use Rattle.zc_base.specs.declared.mem_map.MemMap.{MemMap}
 use Rattle.rv_decode.specs.Memory.{Region, Data, Stack, cell_at, changed, extents_of}
 use Rattle.sym_machine.specs.declared.held.Held.{Held}
@@ -11,7 +11,7 @@ use Rattle.sym_machine.specs.declared.word.SymByte.TheVariants.{Undef}
 use Rattle.sym_machine.specs.declared.word.SymWord.{SymWord}
 use Rattle.sym_machine.specs.Program.{Program, start_memory}
 use Rattle.sym_machine.specs.State.{IsRegisters, PlainCore}
-use Rattle.sym_machine.specs.Step.{undefined_below}
+use Rattle.sym_machine.specs.Step.{mark_for, undefined_below}
 use Rattle.sym_machine.specs.Words.{code_word, number_of, number_word, undef_word}
 
 -- ---- words
@@ -89,10 +89,10 @@ pub record Working : Type 0 where
   pub core : PlainCore
   pub map : MemMap
 
--- registers, and memory that is kept from sp up
+-- registers, and memory that is kept from sp up, or from the stack's end up where sp isn't set
 pub record IsWorking (registers : List SymWord) (memory : Kept) : Type 0 where
   pub registers_are : IsRegisters registers
-  pub sp : number_of (slice_index_or registers 2 undef_word) ≡ Some (kept_from memory)
+  pub mark : kept_from memory ≡ mark_for memory.map (number_of (slice_index_or registers 2 undef_word))
   pub kept : IsKept memory
 
 -- a state of this program: its memory lies where the program's does

@@ -3,6 +3,7 @@ pub mod Words
 pub mod AddressParts
 pub mod Program
 pub mod Objects
+pub mod Events
 pub mod State
 pub mod Conditions
 pub mod Change

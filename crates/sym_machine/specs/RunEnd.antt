@@ -1,25 +1,25 @@
 -- How a run of the symbolic machine ends, and what it has then written.
 use Rattle.std.specs.Prelude.{◌≡◌, ℕ, List, [], ◌∷◌, ◌++◌, ⊤}
 use Rattle.zc_base.specs.declared.place.Place.{Place}
-use Rattle.devices.specs.Environment.{Environment}
-use Rattle.rv_decode.specs.EventBytes.{written_to}
-use Rattle.rv_decode.specs.State.{Event, Exit}
+use Rattle.devices.specs.Environment.{DeviceMap}
+use Rattle.rv_decode.specs.State.{Exit}
 use Rattle.zc_outside.specs.Course.{Course, EndsAfter, EndsEarly, EndsWithExit, EndsWithRefusal, EndsWithStop, ExitsAt}
 use Rattle.zc_outside.specs.Desk.{Desk}
 use Rattle.zc_outside.specs.Streams.{Adds}
 use Rattle.sym_machine.specs.declared.run.TraceEnd.{TraceEnd}
 use Rattle.sym_machine.specs.declared.run.TraceEnd.TheVariants as end
 use Rattle.sym_machine.specs.declared.why.Why.{Why}
+use Rattle.sym_machine.specs.Events.{SymEvent, Numeric, sym_written_to}
 use Rattle.sym_machine.specs.Program.{Program}
 use Rattle.sym_machine.specs.Run.{program_after_with}
-use Rattle.sym_machine.specs.State.{PlainState}
+use Rattle.sym_machine.specs.State.{PlainCore, PlainState}
 
--- the run of a program in an environment, of at most `steps` steps; what stops it is that it is stuck at a place
-abbrev pub plain_course : Program → Environment → ℕ → Course PlainState (Place × Why)
-plain_course p e steps = record {
-  after = program_after_with p e.devices.ranges e.input;
+-- the run of a program from a first state with devices, of at most `steps` steps; what stops it is that it is stuck at a place
+abbrev pub plain_course : Program → PlainCore → DeviceMap → ℕ → Course PlainState (Place × Why)
+plain_course p first devices steps = record {
+  after = program_after_with p first devices.all;
   exit = λ s. s.core.exit;
-  written = λ s stream. written_to e.devices.outputs stream s.events;
+  written = λ s stream. sym_written_to devices.outputs stream s.events;
   steps = steps;
 }
 
@@ -36,8 +36,8 @@ Traced run end.OutOfMemory before after = EndsEarly run before after
 pub record IsCounted (run : Course PlainState (Place × Why)) (count status : ℕ) (before after : Desk) : Type 0 where
   pub bytes : List ℕ
   pub exits : ExitsAt run count (record { bytes = bytes; status = status })
-  pub events : List Event
-  pub event : exits.last.events ≡ events ++ Exit status ∷ []
+  pub events : List SymEvent
+  pub event : exits.last.events ≡ events ++ Numeric (Exit status) ∷ []
   pub wrote : Adds before.out after.out bytes
 
 -- if the run exited, `count` is the number of its steps; for other ends the count says nothing

@@ -1,12 +1,13 @@
 -- The state of the symbolic machine.
-use Rattle.std.specs.Prelude.{◌≡◌, ℕ, ◌<◌, ◌==◌, if◌then◌else◌, List, length, All, Option, None, slice_index_or}
+use Rattle.std.specs.Prelude.{◌≡◌, ℕ, ◌<◌, Bool, true, false, ◌==◌, if◌then◌else◌, List, length, All, Option, None, slice_index_or}
 use Rattle.zc_base.specs.declared.place.Place.{Place}
 use Rattle.rv_decode.specs.Devices.{Device}
 use Rattle.rv_decode.specs.Memory.{Region, cell_at}
-use Rattle.rv_decode.specs.State.{Event, start_regs}
+use Rattle.rv_decode.specs.State.{start_regs}
 use Rattle.sym_machine.specs.declared.word.SymByte.{SymByte}
 use Rattle.sym_machine.specs.declared.word.SymByte.TheVariants.{Undef}
 use Rattle.sym_machine.specs.declared.word.SymWord.{SymWord}
+use Rattle.sym_machine.specs.Events.{SymEvent}
 use Rattle.sym_machine.specs.Words.{undef_word, number_word}
 use Rattle.sym_machine.specs.Program.{Program, start_memory}
 
@@ -22,7 +23,7 @@ pub record PlainCore : Type 0 where
 -- a state of the machine, with the events up to it, and where devices lie
 pub record PlainState : Type 0 where
   pub core : PlainCore
-  pub events : List Event
+  pub events : List SymEvent
   pub devices : List Device
 
 -- the registers as the machine keeps them: 32, and register 0 holds the number 0
@@ -43,7 +44,7 @@ pub record IsPlainState (s : PlainCore) : Type 0 where
   pub count : length s.regs ≡ 32
   pub input : All (λ b. b < 256) s.input
 
--- the state at the start: sp is the stack's end, and the other registers are undefined
+-- the state at the start where sp is set: it is the stack's end, and the other registers are undefined
 abbrev pub first_plain : Program → List ℕ → PlainCore
 first_plain p input = record {
   place = p.entry;
@@ -52,3 +53,8 @@ first_plain p input = record {
   input = input;
   exit = None;
 }
+
+-- the state at the start, where sp is set or undefined, too
+abbrev pub start_plain : Bool → Program → List ℕ → PlainCore
+start_plain true p input = first_plain p input
+start_plain false p input = record (first_plain p input) { regs = start_regs (number_word 0) undef_word undef_word }

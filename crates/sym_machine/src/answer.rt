@@ -1,5 +1,6 @@
 // What a step of the symbolic machine comes to.
 
+use crate::known::Known;
 use crate::why::Why;
 use rv_decode::instr::{LoadOp, StoreOp};
 use zc_base::place::Place;
@@ -13,7 +14,8 @@ pub struct SentWord {
 }
 
 /// What a step comes to: the machine went on, and has read `count` bytes or written these bytes to the output (1) or to
-/// the output for errors (2), or a device has answered a load or got what a store sends; or it exited, or is stuck.
+/// the output for errors (2); or a device has answered a load or an instruction of the system, or got a number or the
+/// address of a place by a store; or it exited, or is stuck.
 #[derive(Drop)]
 pub enum SymStep {
     Done,
@@ -21,6 +23,8 @@ pub enum SymStep {
     Wrote { fd: u8, bytes: Vec<u8> },
     Loaded { op: LoadOp, at: u32 },
     Stored(SentWord),
+    StoredCode { at: u32, place: Place },
+    System { word: u32, operand: Known },
     Exited(u8),
     Stuck(Place, Why),
 }

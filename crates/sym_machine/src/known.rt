@@ -24,8 +24,8 @@ pub enum Known {
     Unknown,
 }
 
-// What a word is known to be.
-fn known_of(word: &Held) -> Known
+/// What a word is known to be.
+pub fn known_of(word: &Held) -> Known
     ensures { result ≡ known_of (word_of word.now) }
 {
     match (word.number(), word.code()) {

@@ -10,10 +10,14 @@ use rv_decode::instr::{ImmOp, RegOp, UpperOp};
 use rv_decode::results::{imm_result, reg_result, upper_result};
 use zc_base::reg::Reg;
 
-/// A word's sum with an immediate.
+/// A word's sum with an immediate. Of a number no bytes are copied.
+#[tactic(auto, using(crate::proofs::WordLaws::number_sum))]
 pub fn sum(word: &Held, imm: i32) -> Held
     ensures { word_of result ≡ sum_word (word_of word.now) imm }
 {
+    if let Held::Number(n) = word {
+        return Held::Number(n.wrapping_add(imm.cast_unsigned()));
+    }
     if imm == 0 {
         return *word;
     }

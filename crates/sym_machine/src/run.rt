@@ -1,13 +1,13 @@
 // Runs of the symbolic machine.
 
-ghost use Rattle.std.specs.Prelude.{◌≡◌};
-ghost use Rattle.devices.specs.Environment.{Environment, only_input};
+ghost use Rattle.std.specs.Prelude.{◌≡◌, None};
+ghost use Rattle.devices.specs.Environment.{no_devices};
 ghost use Rattle.psabi_sym.specs.Inputs.{parsed};
 ghost use Rattle.sym_machine.specs.Answer.{StepAnswers};
 ghost use Rattle.sym_machine.specs.Kept.{IsOf};
 ghost use Rattle.sym_machine.specs.Objects.{program_of};
 ghost use Rattle.sym_machine.specs.RunEnd.{CountsSteps, Traced, plain_course};
-ghost use Rattle.sym_machine.specs.State.{PlainCore, first_plain};
+ghost use Rattle.sym_machine.specs.State.{PlainCore};
 ghost use Rattle.sym_machine.specs.Step.{plain_step, step_with};
 ghost use Rattle.zc_outside.specs.Desk.{OnlyWrites};
 
@@ -31,11 +31,12 @@ pub enum TraceEnd {
     OutOfMemory,
 }
 
-/// Runs the symbolic machine from the objects' start for at most `steps` steps. What the program writes goes to the
-/// console, each write in one piece.
+/// Runs the symbolic machine on for at most `steps` steps. What the program writes goes to the console, each write in
+/// one piece.
 pub fn run<C: Console>(sym: &mut Sym<'_>, cut: &Cut, steps: u64, console: &mut C) -> TraceEnd
-    requires start { sym.old ≡ first_plain (program_of (parsed cut.now)) sym.old.input }
-    ensures ran { Traced (plain_course (program_of (parsed cut.now)) (only_input sym.old.input) steps) result
+    requires of { IsOf (program_of (parsed cut.now)) sym.old }
+    requires running { sym.old.exit ≡ None }
+    ensures ran { Traced (plain_course (program_of (parsed cut.now)) sym.old no_devices steps) result
         (C.shown console.old) (C.shown console.new) }
     ensures writes { OnlyWrites (C.shown console.old) (C.shown console.new) }
 {
@@ -49,18 +50,19 @@ pub fn run_counted<C: Console>(
     steps: u64,
     console: &mut C,
 ) -> (TraceEnd, u64)
-    requires start { sym.old ≡ first_plain (program_of (parsed cut.now)) sym.old.input }
-    ensures ran { Traced (plain_course (program_of (parsed cut.now)) (only_input sym.old.input) steps) result.0
+    requires of { IsOf (program_of (parsed cut.now)) sym.old }
+    requires running { sym.old.exit ≡ None }
+    ensures ran { Traced (plain_course (program_of (parsed cut.now)) sym.old no_devices steps) result.0
         (C.shown console.old) (C.shown console.new) }
-    ensures count { CountsSteps (plain_course (program_of (parsed cut.now)) (only_input sym.old.input) steps) result.0
+    ensures count { CountsSteps (plain_course (program_of (parsed cut.now)) sym.old no_devices steps) result.0
         result.1 (C.shown console.old) (C.shown console.new) }
     ensures writes { OnlyWrites (C.shown console.old) (C.shown console.new) }
 {
     run_with(sym, cut, DeviceMap::none(), steps, console)
 }
 
-/// Runs the symbolic machine as `run_counted` does, with devices. A load from one takes bytes from the front of the
-/// input, and a byte that is stored at an address for output goes to the console.
+/// Runs the symbolic machine as `run_counted` does, with devices. A load from one and an instruction of the system take
+/// bytes from the front of the input, and a byte that is stored at an address for output goes to the console.
 pub fn run_with<C: Console>(
     sym: &mut Sym<'_>,
     cut: &Cut,
@@ -68,13 +70,12 @@ pub fn run_with<C: Console>(
     steps: u64,
     console: &mut C,
 ) -> (TraceEnd, u64)
-    requires start { sym.old ≡ first_plain (program_of (parsed cut.now)) sym.old.input }
-    ensures ran { let e : Environment = record { devices = devices.entry; input = sym.old.input } in
-        Traced (plain_course (program_of (parsed cut.now)) e steps) result.0 (C.shown console.old)
-        (C.shown console.new) }
-    ensures count { let e : Environment = record { devices = devices.entry; input = sym.old.input } in
-        CountsSteps (plain_course (program_of (parsed cut.now)) e steps) result.0 result.1 (C.shown console.old)
-        (C.shown console.new) }
+    requires of { IsOf (program_of (parsed cut.now)) sym.old }
+    requires running { sym.old.exit ≡ None }
+    ensures ran { Traced (plain_course (program_of (parsed cut.now)) sym.old devices.entry steps) result.0
+        (C.shown console.old) (C.shown console.new) }
+    ensures count { CountsSteps (plain_course (program_of (parsed cut.now)) sym.old devices.entry steps) result.0
+        result.1 (C.shown console.old) (C.shown console.new) }
     ensures writes { OnlyWrites (C.shown console.old) (C.shown console.new) }
 {
     let mut made = 0;
@@ -86,7 +87,11 @@ pub fn run_with<C: Console>(
         };
         ask_if_stuck(sym, cut, &devices, &mut step);
         match step {
-            SymStep::Done | SymStep::Read { .. } | SymStep::Loaded { .. } => {}
+            SymStep::Done
+            | SymStep::Read { .. }
+            | SymStep::Loaded { .. }
+            | SymStep::StoredCode { .. }
+            | SymStep::System { .. } => {}
             SymStep::Wrote { fd, bytes } => {
                 if let Err(fault) = write_to(console, fd, &bytes) {
                     return (TraceEnd::Console(fault), made);
@@ -111,7 +116,7 @@ pub fn run_with<C: Console>(
 fn ask_if_stuck(sym: &mut Sym<'_>, cut: &Cut, devices: &DeviceMap<'_>, step: &mut SymStep)
     requires { IsOf (program_of (parsed cut.now)) sym.old }
     ensures { let p = program_of (parsed cut.now) in (s : PlainCore) → StepAnswers (plain_step p s) step.old s sym.old
-        → StepAnswers (step_with devices.now.ranges p s) step.new s sym.new }
+        → StepAnswers (step_with devices.now.all p s) step.new s sym.new }
 {
     if let SymStep::Stuck(_, _) = step {
         if let Some(answer) = sym.ask(cut, devices) {

@@ -1,15 +1,16 @@
 // The state of the symbolic machine, and its steps.
 
-ghost use Rattle.std.specs.Prelude.{◌≡◌, ◌<◌, [], IfOk, IfSome, MatchOption, None, Some, true};
+ghost use Rattle.std.specs.Prelude.{◌≡◌, ◌<◌, [], if◌then◌else◌, IfOk, IfSome, MatchOption, None, Some, true};
 ghost use Rattle.psabi_sym.specs.Inputs.{parsed};
 ghost use Rattle.rv_decode.specs.Effect.{load_width};
+ghost use Rattle.rv_decode.specs.State.{start_regs};
 ghost use Rattle.sym_machine.specs.Answer.{Makes};
 ghost use Rattle.sym_machine.specs.Change.{in_memory, load_word, numbers_at};
-ghost use Rattle.sym_machine.specs.Kept.{IsOf, word_of};
+ghost use Rattle.sym_machine.specs.Kept.{IsOf, register_words, word_of};
 ghost use Rattle.sym_machine.specs.Objects.{program_of};
 ghost use Rattle.sym_machine.specs.Program.{Program};
-ghost use Rattle.sym_machine.specs.State.{first_plain, reg_of};
-ghost use Rattle.sym_machine.specs.Step.{item_step, plain_step};
+ghost use Rattle.sym_machine.specs.State.{reg_of, start_plain};
+ghost use Rattle.sym_machine.specs.Step.{is_set, item_step, plain_step};
 ghost use Rattle.sym_machine.specs.Words.{code_word, number_of, number_word, undef_word};
 
 mod accesses;
@@ -22,6 +23,7 @@ mod items;
 mod jumps;
 mod quick;
 mod shorts;
+mod stack_pointer;
 mod sums;
 mod uppers;
 
@@ -70,25 +72,36 @@ impl<'a> Model for State<'a> {
     ghost invariant = { λ s. IsWorking (register_words s.registers) s.memory };
 }
 
+// The registers at the start, where sp is the stack's end, or undefined.
+fn first_registers(sp_set: bool, end: u32) -> [Held; 32]
+    ensures { register_words result
+        ≡ start_regs (number_word 0) (if sp_set then number_word end else undef_word) undef_word }
+{
+    let mut registers = [Held::UNDEFINED; 32];
+    registers[0] = Held::Number(0);
+    if sp_set {
+        registers[2] = Held::Number(end);
+    }
+    registers
+}
+
 impl<'a> State<'a> {
-    /// The state at the objects' start, with this input.
+    /// The state at the objects' start, with this input; sp is the stack's end, or undefined.
     #[tactic(auto, unfolding(crate::specs::Objects::program_of))]
     pub fn start_with(
         alloc: Global,
         cut: &Cut,
         answers: Answers<'a>,
+        sp_set: bool,
     ) -> Result<State<'a>, AllocError>
-        ensures { IfOk result (λ s. s.core ≡ first_plain (program_of (parsed cut.now)) answers.entry) }
+        ensures { IfOk result (λ s. s.core ≡ start_plain sp_set (program_of (parsed cut.now)) answers.entry) }
     {
         let map = cut.objects().map();
         let data = first_data(alloc, cut)?;
         let memory = SymMemory::new(alloc, map, data)?;
-        let mut registers = [Held::UNDEFINED; 32];
-        registers[0] = Held::Number(0);
-        registers[2] = Held::Number(map.stack_high);
         Ok(State {
             place: cut.entry(),
-            registers,
+            registers: first_registers(sp_set, map.stack_high),
             memory,
             answers,
             exit: None,
@@ -100,8 +113,10 @@ impl<'a> State<'a> {
     #[inline(always)]
     pub fn place(&self) -> Place
         ensures value { result ≡ self.now.core.place }
+        ensures set { (p : Program) → IsOf p self.now.core
+            → is_set p.map self.now.core ≡ is_set self.now.map self.now.core }
         ensures step { (p : Program) → IsOf p self.now.core → self.now.core.exit ≡ None
-            → plain_step p self.now.core
+            → is_set p.map self.now.core ≡ true → plain_step p self.now.core
             ≡ item_step [] self.now.map p (p.item result) self.now.core (p.next result) }
     {
         self.place
@@ -229,6 +244,9 @@ impl<'a> State<'a> {
         let Some(item) = &here.item else {
             return Ok(self.stuck(Why::NoInstruction));
         };
+        if self.lacks_stack(item) {
+            return Ok(self.stuck(Why::StackPointer));
+        }
         // Objects without a fault have no item near the end of the numbers.
         cut.recall_invariant();
         let next = Place {

@@ -6,7 +6,7 @@ ghost use Rattle.sym_machine.specs.Advance.{Advanced};
 ghost use Rattle.sym_machine.specs.Answer.{DevicesAnswer, Makes};
 ghost use Rattle.sym_machine.specs.Kept.{IsOf};
 ghost use Rattle.sym_machine.specs.Objects.{program_of};
-ghost use Rattle.sym_machine.specs.State.{first_plain};
+ghost use Rattle.sym_machine.specs.State.{first_plain, start_plain};
 ghost use Rattle.sym_machine.specs.Step.{plain_step, step_with};
 
 use crate::answer::SymStep;
@@ -36,16 +36,24 @@ impl<'a> Sym<'a> {
     pub fn start(alloc: Global, cut: &Cut, input: &'a [u8]) -> Result<Sym<'a>, AllocError>
         ensures first { IfOk result (λ s. s ≡ first_plain (program_of (parsed cut.now)) input.now) }
         ensures of { IfOk result (λ s. IsOf (program_of (parsed cut.now)) s) }
+        ensures running { IfOk result (λ s. s.exit ≡ None) }
     {
-        Sym::start_with(alloc, cut, Answers::new(input, &[], 0))
+        Sym::start_with(alloc, cut, Answers::new(input, &[], 0), true)
     }
 
-    /// The state at the objects' start. Reads take these answers from the front, and so do loads from devices.
-    pub fn start_with(alloc: Global, cut: &Cut, answers: Answers<'a>) -> Result<Sym<'a>, AllocError>
-        ensures first { IfOk result (λ s. s ≡ first_plain (program_of (parsed cut.now)) answers.entry) }
+    /// The state at the objects' start, where sp is the stack's end, or undefined as after a reset. Reads take these
+    /// answers from the front, and so do loads from devices and instructions of the system.
+    pub fn start_with(
+        alloc: Global,
+        cut: &Cut,
+        answers: Answers<'a>,
+        sp_set: bool,
+    ) -> Result<Sym<'a>, AllocError>
+        ensures first { IfOk result (λ s. s ≡ start_plain sp_set (program_of (parsed cut.now)) answers.entry) }
         ensures of { IfOk result (λ s. IsOf (program_of (parsed cut.now)) s) }
+        ensures running { IfOk result (λ s. s.exit ≡ None) }
     {
-        let state = State::start_with(alloc, cut, answers)?;
+        let state = State::start_with(alloc, cut, answers, sp_set)?;
         Ok(Sym { state })
     }
 
@@ -75,11 +83,11 @@ impl<'a> Sym<'a> {
     }
 
     /// Asks devices for the step of the objects that the machine was started with. If one of them answers, the step is
-    /// made; it is stuck where sp can't have what a load gives. If none does, nothing changes, and the step is the one
-    /// without devices.
+    /// made; it is stuck where sp can't have the answer, or where an instruction of the system has an operand that isn't
+    /// known. If none does, nothing changes, and the step is the one without devices.
     pub fn ask(&mut self, cut: &Cut, devices: &DeviceMap<'_>) -> Option<SymStep>
         requires { IsOf (program_of (parsed cut.now)) self.old }
-        ensures asked { DevicesAnswer (step_with devices.now.ranges (program_of (parsed cut.now)) self.old)
+        ensures asked { DevicesAnswer (step_with devices.now.all (program_of (parsed cut.now)) self.old)
             (plain_step (program_of (parsed cut.now)) self.old) result self.old self.new }
     {
         self.state.ask(cut, devices)

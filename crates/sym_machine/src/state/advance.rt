@@ -23,6 +23,10 @@ impl State<'_> {
         ensures within { result.0 < steps }
         ensures advanced { Advanced (program_of (parsed cut.now)) self.old.core self.new.core result.0 result.1 }
     {
+        // The loop doesn't look whether a step needs sp to be set. Once set, sp stays so.
+        if !self.sp_is_set() {
+            return (0, self.step(cut));
+        }
         let Some(mut cursor) = Cursor::new(cut, self.place()) else {
             return (0, self.step(cut));
         };

@@ -6,6 +6,7 @@ ghost use Rattle.sym_machine.specs.declared.word.SymByte.TheVariants.{Num};
 ghost use Rattle.rv_decode.specs.State.{Write};
 ghost use Rattle.sym_machine.specs.Answer.{Makes, RunsOn, StepAnswers};
 ghost use Rattle.sym_machine.specs.Change.{Goes, Stops, call_to, exit_does, sets, in_memory, is_output, continues, puts, read_does};
+ghost use Rattle.sym_machine.specs.Events.{Numeric};
 ghost use Rattle.sym_machine.specs.Kept.{word_of};
 ghost use Rattle.sym_machine.specs.State.{reg_of};
 ghost use Rattle.sym_machine.specs.Step.{applied};
@@ -185,27 +186,20 @@ impl State<'_> {
         }
     }
 
-    // Sets sp to a word, if it is a number within the stack, and goes on to a place.
+    // Sets sp to a word and goes on to a place, or is stuck.
     fn give_sp(&mut self, word: &Held, to: Place) -> Result<SymStep, AllocError>
         requires { self.old.core.exit ≡ None }
         ensures { Makes result (applied self.old.map self.old.core (Goes (sets 2
             (word_of word.now) to))) self.old.core self.new.core }
     {
-        let _ = &self.registers;
-        let Some(sp) = word.number() else {
-            return Ok(self.stuck(Why::StackPointer));
-        };
-        if !self.memory.has_sp(sp) {
+        if !self.set_sp(word, to) {
             return Ok(self.stuck(Why::StackPointer));
         }
-        self.memory.settle(sp);
-        self.registers[2] = *word;
-        self.place = to;
         Ok(SymStep::Done)
     }
 
     // Calls a place: the first register isn't known afterwards, and the link register gets the next
-    // place's address. Register 0 takes no part of an address, and sp stays a number.
+    // place's address. Register 0 takes no part of an address, and sp stays set if it is.
     pub(super) fn call(&mut self, rd: Reg, temp: Reg, to: Place, next: Place) -> SymStep
         requires { self.old.core.exit ≡ None }
         ensures { StepAnswers (applied self.old.map self.old.core (call_to rd temp to next)) result self.old.core
@@ -216,7 +210,7 @@ impl State<'_> {
         if part == 0 {
             return self.stuck(Why::TargetUnknown);
         }
-        if link == 2 || part == 2 {
+        if self.loses_sp(rd, temp) {
             return self.stuck(Why::StackPointer);
         }
         self.registers[part] = Held::UNDEFINED;
@@ -284,8 +278,8 @@ impl State<'_> {
         requires running { self.old.core.exit ≡ None }
         requires stream { is_output arguments.a0 ≡ true }
         ensures { StepAnswers (applied self.old.map self.old.core (Goes (record (sets 10
-            (number_word arguments.len) to) { events = Write arguments.a0 bytes.items ∷ [] }))) result self.old.core
-            self.new.core }
+            (number_word arguments.len) to) { events = Numeric (Write arguments.a0 bytes.items) ∷ [] }))) result
+            self.old.core self.new.core }
     {
         self.registers[A0] = Held::Number(arguments.len);
         self.place = to;

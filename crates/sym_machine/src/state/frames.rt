@@ -1,6 +1,6 @@
 // Pushes and pops.
 
-ghost use Rattle.std.specs.Prelude.{◌≡◌, ◌≢◌, ◌∷◌, ◌++◌, ◌-◌, ◌*◌, ◌≤◌, ◌%◌, ◌&&◌, [], All, MatchOption, None, Some, length, nat_le, negsuc};
+ghost use Rattle.std.specs.Prelude.{◌≡◌, ◌≢◌, ◌∷◌, ◌++◌, ◌-◌, ◌*◌, ◌≤◌, ◌%◌, ◌&&◌, [], All, MatchOption, None, Some, length, nat_le, negsuc, true};
 ghost use Rattle.rv_decode.specs.declared.instr.ImmOp.TheVariants.{Addi};
 ghost use Rattle.rv_decode.specs.declared.instr.Instr.TheVariants.{WithImm};
 ghost use Rattle.sym_machine.specs.AddressParts.{bytes_of};
@@ -10,7 +10,7 @@ ghost use Rattle.sym_machine.specs.Expansions.{restores, saves};
 ghost use Rattle.sym_machine.specs.Invariants.Frames as frames;
 ghost use Rattle.sym_machine.specs.Invariants.Frames.{AreReached, HasStack, IsFrameBytes, IsFrameRegister, IsInStack, IsLoading, IsObstacle, IsZeroed, behind_loads};
 ghost use Rattle.sym_machine.specs.State.{reg_of};
-ghost use Rattle.sym_machine.specs.Step.{applied, in_turn};
+ghost use Rattle.sym_machine.specs.Step.{applied, in_turn, is_set};
 ghost use Rattle.sym_machine.specs.Words.{code_of, number_of};
 ghost use Rattle.zc_decode.specs.Lists.{registers_of};
 ghost use Rattle.zc_decode.specs.Operands.{IsFrameSize};
@@ -34,6 +34,7 @@ impl State<'_> {
     // A push: sp is lowered, and the registers of a list are saved above it. Or nothing changes, and this is why.
     pub(super) fn push(&mut self, list: u8, adjust: u8, next: Place) -> Option<Why>
         requires running { self.old.core.exit ≡ None }
+        requires stack { is_set self.old.map self.old.core ≡ true }
         requires size { IsFrameSize list adjust }
         ensures { RunsOnUnlessStuck (in_turn self.old.map (WithImm Addi 2 2 (negsuc (adjust - 1))
             ∷ saves adjust (registers_of list)) next self.old.core) result self.old.core self.new.core }
@@ -56,6 +57,7 @@ impl State<'_> {
     // ra then holds. Or nothing changes, and this is why.
     pub(super) fn pop(&mut self, list: u8, adjust: u8, end: PopEnd, next: Place) -> Option<Why>
         requires running { self.old.core.exit ≡ None }
+        requires stack { is_set self.old.map self.old.core ≡ true }
         requires size { IsFrameSize list adjust }
         ensures { RunsOnUnlessStuck (in_turn self.old.map (restores adjust (registers_of list)
             ++ behind_loads end adjust) next self.old.core) result self.old.core self.new.core }
@@ -76,9 +78,10 @@ impl State<'_> {
         None
     }
 
-    // The number in sp.
+    // The number in sp, which is set.
     #[inline(always)]
     fn sp(&self) -> u32
+        requires { is_set self.now.map self.now.core ≡ true }
         ensures { HasStack self.now.map result self.now.core }
     {
         // The invariant speaks of the registers, so it is read here.

@@ -1,11 +1,11 @@
 // Steps of items.
 
-ghost use Rattle.std.specs.Prelude.{◌≡◌, [], None, Some};
+ghost use Rattle.std.specs.Prelude.{◌≡◌, [], None, Some, true};
 ghost use Rattle.psabi_sym.specs.Inputs.{parsed};
 ghost use Rattle.sym_machine.specs.Answer.{Makes};
 ghost use Rattle.sym_machine.specs.Change.{op_does};
 ghost use Rattle.sym_machine.specs.Objects.{program_of};
-ghost use Rattle.sym_machine.specs.Step.{applied, item_step};
+ghost use Rattle.sym_machine.specs.Step.{applied, is_set, item_step, needs_stack};
 
 use super::State;
 use crate::address_parts::pc_low_sum;
@@ -27,7 +27,8 @@ impl State<'_> {
         item: &Item,
         next: Place,
     ) -> Result<SymStep, AllocError>
-        requires { self.old.core.exit ≡ None }
+        requires running { self.old.core.exit ≡ None }
+        requires stack { needs_stack (Some item.now) ≡ true → is_set self.old.map self.old.core ≡ true }
         ensures { Makes result
             (item_step [] self.old.map (program_of (parsed cut.now)) (Some item.now) self.old.core next)
             self.old.core self.new.core }

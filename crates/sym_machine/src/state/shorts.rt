@@ -1,6 +1,7 @@
 // Steps of two bytes that stand for several instructions.
 
-ghost use Rattle.std.specs.Prelude.{◌≡◌, ◌≢◌, ◌∷◌, [], None, Some, pos};
+ghost use Rattle.std.specs.Prelude.{◌≡◌, ◌≢◌, ◌∷◌, [], None, Some, false, pos, true};
+ghost use Rattle.std.specs.List.{list_any};
 ghost use Rattle.std.specs.Option.{option_map_or};
 ghost use Rattle.block_cut.specs.declared.item.Item.TheVariants.{RawShort};
 ghost use Rattle.rv_decode.specs.declared.instr.ImmOp.TheVariants.{Addi};
@@ -10,7 +11,7 @@ ghost use Rattle.sym_machine.specs.Change.{Goes, Stops, sets};
 ghost use Rattle.sym_machine.specs.Expansions.{expansion};
 ghost use Rattle.sym_machine.specs.Program.{Program};
 ghost use Rattle.sym_machine.specs.State.{reg_of};
-ghost use Rattle.sym_machine.specs.Step.{applied, in_turn, item_step};
+ghost use Rattle.sym_machine.specs.Step.{applied, in_turn, is_of_frame, is_set, item_step, needs_stack};
 ghost use Rattle.sym_machine.specs.declared.why.Why.TheVariants.{NoInstruction};
 ghost use Rattle.zc_decode.specs.Operands.{HasOperands, IsMoved};
 
@@ -26,7 +27,8 @@ use zc_decode::short::Short;
 impl State<'_> {
     // The step of two bytes that are no instruction of RV32IM: a push, a pop or two moves.
     pub(super) fn step_short(&mut self, half: u16, next: Place) -> SymStep
-        requires { self.old.core.exit ≡ None }
+        requires running { self.old.core.exit ≡ None }
+        requires stack { needs_stack (Some (RawShort half)) ≡ true → is_set self.old.map self.old.core ≡ true }
         ensures { (p : Program) → StepAnswers (item_step [] self.old.map p (Some (RawShort half)) self.old.core next)
             result self.old.core self.new.core }
     {
@@ -42,6 +44,8 @@ impl State<'_> {
     // Makes the step of the short instruction that a halfword is, or changes nothing and says why it is stuck.
     fn make_short(&mut self, short: &Short, next: Place) -> Option<Why>
         requires running { self.old.core.exit ≡ None }
+        requires stack { option_map_or (list_any is_of_frame) (expansion short.now) false ≡ true
+            → is_set self.old.map self.old.core ≡ true }
         requires operands { HasOperands short.now }
         ensures { RunsOnUnlessStuck (option_map_or (λ is. in_turn self.old.map is next self.old.core)
             (expansion short.now) (applied self.old.map self.old.core (Stops NoInstruction))) result self.old.core

@@ -8,7 +8,7 @@ use Rattle.sym_machine.proofs.run.run_with.Given as goal
 abbrev pub invariant-loop-made : goal.invariant-loop-made
 invariant-loop-made g l = let shown = g.C.Console.shown in record {
   within : l.made ≤ l.steps;
-  came : Came (program_of (parsed l.cut)) (record { devices = l.fn.devices; input = l.fn.sym.input }) l.made l.sym (shown l.fn.console) (shown l.console);
+  came : Came (program_of (parsed l.cut)) l.fn.sym l.fn.devices l.made l.sym (shown l.fn.console) (shown l.console);
   writes : OnlyWrites (shown l.fn.console) (shown l.console);
 }
 

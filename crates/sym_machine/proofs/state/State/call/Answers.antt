@@ -1,5 +1,8 @@
--- A call sets one register or two, or leaves no number in sp.
-use Rattle.std.proofs.Common.{◌≡◌, ◌<◌, ℕ, None, ap, sym, ◌∙◌, length, subst, refl, set, arith}
+-- A call sets one register or two, or would leave no number in sp though it is set.
+use Rattle.std.proofs.Common.{◌≡◌, ◌≢◌, ◌<◌, ℕ, None, true, false, eqb, ap, inl, inr, sym, ◌∙◌, length, subst, refl, set, arith}
+use Rattle.std.specs.Prelude.{◌&&◌, ◌||◌, ◌⊎◌}
+use Rattle.std.proofs.lemmas.Bool.{and_parts}
+use Rattle.std.proofs.lemmas.Bool.Decides.{eqb_tells}
 use Rattle.sym_machine.specs.declared.held.Held.TheVariants as held
 use Rattle.sym_machine.specs.declared.state.State.TheInside.{Inside}
 use Rattle.sym_machine.specs.declared.answer.SymStep.TheVariants as answer
@@ -8,38 +11,52 @@ use Rattle.sym_machine.specs.Answer.{StepAnswers}
 use Rattle.sym_machine.specs.Change.{Does, Goes, call_to}
 use Rattle.sym_machine.specs.Kept.{IsWorking, Working, register_words}
 use Rattle.sym_machine.specs.State.{PlainCore}
-use Rattle.sym_machine.specs.Step.{PlainStep, Stuck, applied}
-use Rattle.sym_machine.proofs.StateLaws.{call_forgets_sp, call_goes, call_links_sp, calls, calls_off, calls_on, core_of, forgotten, working_set}
+use Rattle.sym_machine.specs.Step.{PlainStep, Stuck, applied, is_set}
+use Rattle.sym_machine.proofs.StateLaws.{call_goes, call_stuck, calls, calls_made, calls_off_made, core_of, forgotten, kept_high, lost_unset, working_lost}
 use Rattle.sym_machine.proofs.state.State.call.Goals as goal
-use Rattle.sym_machine.proofs.state.State.call.Goals.{then-link-eq2-via-then-link-eq2, then-link-eq2-via-else-link-eq2+then-part-eq2, then-link-ne0, else-link-ne0}
+use Rattle.sym_machine.proofs.state.State.call.Goals.{then-link-ne0, else-link-ne0}
 
-pub returns-then-link-eq2 : goal.returns-then-link-eq2
-returns-then-link-eq2 c =
-    let s = c.args.self.now.core in
-    let many : 2 < length s.regs = omega (arith, c.self.invariant.registers_are.count, ap (λ (w : Working). length w.core.regs) c.self.view_is) in
-    let does : call_to c.args.rd c.args.temp c.args.to c.args.next ≡ Goes (calls c.number.result c.number-2.result c.args.next c.args.to) =
-    (λ j. call_to (sym c.number.ensures.value j) (sym c.number-2.ensures.value j) c.args.to c.args.next) ∙ call_goes c.number.result c.number-2.result c.args.to c.args.next c.if-part-eq0.false in
-    let stuck : applied c.args.self.now.map s (Goes (calls c.number.result c.number-2.result c.args.next c.args.to)) ≡ Stuck StackPointer =
-    elim c.then-link-eq2.branch [
-      | then-link-eq2-via-then-link-eq2 w ↦
-          ap (λ n. applied c.args.self.now.map s (Goes (calls n c.number-2.result c.args.next c.args.to))) w.if-link-eq2.true
-          ∙ call_links_sp c.args.self.now.map s many c.args.to c.args.next c.number-2.result
-      | then-link-eq2-via-else-link-eq2+then-part-eq2 w ↦
-          ap (λ n. applied c.args.self.now.map s (Goes (calls c.number.result n c.args.next c.args.to))) w.if-part-eq2.true
-          ∙ call_forgets_sp c.args.self.now.map s many c.args.to c.args.next c.number.result w.if-link-eq2.false
-    ] in
-    subst (λ (st : PlainStep). StepAnswers st c.stuck-then-link-eq2.result s s) (sym (ap (applied c.args.self.now.map s) does ∙ stuck)) c.stuck-then-link-eq2.ensures
+-- one of two registers is sp
+one_is : (r t : ℕ) → (eqb r 2 || eqb t 2) ≡ true → (r ≡ 2) ⊎ (t ≡ 2)
+one_is r t either = by (eqb_tells r 2)
+  where
+    other : (r ≢ 2) → ((eqb t 2 ≡ true) × (t ≡ 2)) ⊎ ((eqb t 2 ≡ false) × (t ≢ 2)) → (eqb r 2 ≡ false) → (r ≡ 2) ⊎ (t ≡ 2)
+    other apart (inl is) none = inr is.1
+    other apart (inr is) none = absurd (let both : (false || false) ≡ true = (λ j. sym none j || sym is.0 j) ∙ either in cc)
+
+    by : ((eqb r 2 ≡ true) × (r ≡ 2)) ⊎ ((eqb r 2 ≡ false) × (r ≢ 2)) → (r ≡ 2) ⊎ (t ≡ 2)
+    by (inl is) = inl is.1
+    by (inr is) = other is.1 (eqb_tells t 2) is.0
+
+pub returns-then-loses_sp : goal.returns-then-loses_sp
+returns-then-loses_sp c =
+    let w : Working = c.args.self.now in
+    let many : 2 < length w.core.regs = omega (arith, c.self.invariant.registers_are.count, ap (λ (v : Working). length v.core.regs) c.self.view_is) in
+    let some : c.args.temp ≢ 0 = λ e. c.if-part-eq0.false (c.number-2.ensures.value ∙ e) in
+    let lost = and_parts (eqb c.args.rd 2 || eqb c.args.temp 2) (is_set w.map w.core) (sym c.loses_sp.ensures ∙ c.if-loses_sp.true) in
+    let stuck : applied w.map w.core (call_to c.args.rd c.args.temp c.args.to c.args.next) ≡ Stuck StackPointer =
+    ap (applied w.map w.core) (call_goes c.args.rd c.args.temp c.args.to c.args.next some)
+    ∙ call_stuck w.map w.core many lost.1 c.args.rd c.args.temp c.args.to c.args.next (one_is c.args.rd c.args.temp lost.0) in
+    subst (λ (st : PlainStep). StepAnswers st c.stuck-then-loses_sp.result w.core w.core) (sym stuck) c.stuck-then-loses_sp.ensures
 
 pub invariant_of-self : goal.invariant_of-self
 invariant_of-self c =
     let i = c.self.inside in
     let is = c.self.invariant in
-    let is' = working_set i.registers i.memory i.memory c.number-2.result forgotten is is.kept refl c.if-part-eq0.false c.if-part-eq2.false in
+    let running : i.exit ≡ None = ap (λ (w : Working). w.core.exit) c.self.view_is ∙ c.requires in
+    let link = c.number.result in
+    let part = c.number-2.result in
+    let kept : ((eqb link 2 || eqb part 2) && is_set i.memory.map (core_of i.place i.registers i.memory i.answers i.exit)) ≡ false =
+    (λ j. (eqb (c.number.ensures.value j) 2 || eqb (c.number-2.ensures.value j) 2) && is_set (c.self.view_is j).map (c.self.view_is j).core)
+    ∙ sym c.loses_sp.ensures ∙ c.if-loses_sp.false in
+    let high = λ (sp : (link ≡ 2) ⊎ (part ≡ 2)).
+    kept_high i.memory i.registers is i.place c.args.to i.answers i.exit running (lost_unset link part (is_set i.memory.map (core_of i.place i.registers i.memory i.answers i.exit)) kept sp) in
+    let is' = working_lost i.registers i.memory part forgotten is c.if-part-eq0.false refl (λ e. high (inr e)) in
     let Is : Inside → Type 0 = λ n. IsWorking (register_words n.registers) n.memory in
     elim c.if-link-ne0.branch [
       | then-link-ne0 w ↦
           subst Is (sym w.self-inside-is)
-          (working_set (set i.registers c.number-2.result forgotten) i.memory i.memory c.number.result (held.Code c.args.next) is' is.kept refl w.if-link-ne0.true c.if-link-eq2.false)
+          (working_lost (set i.registers part forgotten) i.memory link (held.Code c.args.next) is' w.if-link-ne0.true refl (λ e. high (inl e)))
       | else-link-ne0 w ↦ subst Is (sym w.self-inside-is) is'
     ]
 
@@ -48,21 +65,26 @@ returns c =
     let i = c.self.inside in
     let running : i.exit ≡ None = ap (λ (w : Working). w.core.exit) c.self.view_is ∙ c.requires in
     let input = i.answers in
+    let link = c.number.result in
     let part = c.number-2.result in
     let before = core_of i.place i.registers i.memory input i.exit in
-    let does : Goes (calls c.number.result part c.args.next c.args.to) ≡ call_to c.args.rd c.args.temp c.args.to c.args.next =
-    sym (call_goes c.number.result part c.args.to c.args.next c.if-part-eq0.false) ∙ (λ j. call_to (c.number.ensures.value j) (c.number-2.ensures.value j) c.args.to c.args.next) in
+    let kept : ((eqb link 2 || eqb part 2) && is_set i.memory.map before) ≡ false =
+    (λ j. (eqb (c.number.ensures.value j) 2 || eqb (c.number-2.ensures.value j) 2) && is_set (c.self.view_is j).map (c.self.view_is j).core)
+    ∙ sym c.loses_sp.ensures ∙ c.if-loses_sp.false in
+    let does : Goes (calls link part c.args.next c.args.to) ≡ call_to c.args.rd c.args.temp c.args.to c.args.next =
+    sym (call_goes link part c.args.to c.args.next c.if-part-eq0.false) ∙ (λ j. call_to (c.number.ensures.value j) (c.number-2.ensures.value j) c.args.to c.args.next) in
     let After : PlainCore → Type 0 = λ after. StepAnswers (applied c.args.self.now.map c.args.self.now.core (call_to c.args.rd c.args.temp c.args.to c.args.next)) answer.Done c.args.self.now.core after in
-    let told : (after : PlainCore) → StepAnswers (applied i.memory.map before (Goes (calls c.number.result part c.args.next c.args.to))) answer.Done before after → After after =
+    let told : (after : PlainCore) → StepAnswers (applied i.memory.map before (Goes (calls link part c.args.next c.args.to))) answer.Done before after → After after =
     λ after h. subst (λ (w : Working). StepAnswers (applied w.map w.core (call_to c.args.rd c.args.temp c.args.to c.args.next)) answer.Done w.core after) c.self.view_is
     (subst (λ (d : Does). StepAnswers (applied i.memory.map before d) answer.Done before after) does h) in
     let Is : Inside → Type 0 = λ n. After (core_of c.args.to n.registers n.memory n.answers n.exit) in
     elim c.if-link-ne0.branch [
       | then-link-ne0 w ↦
           subst Is (sym w.self-inside-is)
-          (told _ (calls_on i.memory i.registers c.self.invariant i.place c.args.to input i.exit running part c.number.result c.args.next c.if-part-eq0.false c.if-part-eq2.false w.if-link-ne0.true c.if-link-eq2.false))
+          (told _ (calls_made i.memory i.registers c.self.invariant i.place c.args.to input i.exit running part link c.args.next c.if-part-eq0.false w.if-link-ne0.true kept))
       | else-link-ne0 w ↦
           subst Is (sym w.self-inside-is)
           (told _ (subst (λ (r : ℕ). StepAnswers (applied i.memory.map before (Goes (calls r part c.args.next c.args.to))) answer.Done before (core_of c.args.to (set i.registers part forgotten) i.memory input i.exit)) (sym w.if-link-ne0.false)
-          (calls_off i.memory i.registers c.self.invariant i.place c.args.to input i.exit running part c.args.next c.if-part-eq0.false c.if-part-eq2.false)))
+          (calls_off_made i.memory i.registers c.self.invariant i.place c.args.to input i.exit running part c.args.next c.if-part-eq0.false
+          (ap (λ (n : ℕ). (eqb n 2 || eqb part 2) && is_set i.memory.map before) (sym w.if-link-ne0.false) ∙ kept))))
     ]

@@ -11,12 +11,12 @@ use Rattle.sym_machine.specs.Expansions.{restores}
 use Rattle.sym_machine.specs.Invariants.Frames as frames
 use Rattle.sym_machine.specs.Invariants.Frames.{AreReached, HasStack, IsFrameBytes, IsFrameRegister, IsLoading, IsZeroed, behind_loads, word_address}
 use Rattle.sym_machine.specs.State.{PlainCore}
-use Rattle.sym_machine.specs.Step.{Stuck, Went, applied, in_turn}
+use Rattle.sym_machine.specs.Step.{Stuck, Went, applied, in_stack, in_turn}
 use Rattle.sym_machine.specs.Words.{code_of, number_word}
 use Rattle.sym_machine.specs.declared.state.frames.PopEnd.{PopEnd}
 use Rattle.sym_machine.specs.declared.why.Why.TheVariants.{TargetUnknown}
 use Rattle.sym_machine.proofs.FrameLaws.{loading_more, loads_stuck}
-use Rattle.sym_machine.proofs.PushPopLaws.{IsListed, is_listed, is_within, loaded_of, loaded_some, pop_goes, return_stuck}
+use Rattle.sym_machine.proofs.PushPopLaws.{IsListed, is_listed, loaded_of, loaded_some, pop_goes, return_stuck}
 use Rattle.sym_machine.proofs.state.State.pop.Goals as goal
 
 -- the address of ra's word
@@ -24,13 +24,13 @@ ra_at : (sp frame n : ℕ) → 0 < n → (sp + (frame - 4 * n)) % 2 ^ 32 ≡ wor
 ra_at sp frame n some = ap (λ k. (sp + k) % 2 ^ 32) (let same : frame - 4 * n ≡ frame - 4 * (n - 1 + 1) = omega (arith, some) in same)
 
 module _ (map : MemMap) (sp frame : ℕ) (end : PopEnd) (rs : List ℕ) (next : Place) (s : PlainCore) (small : sp < 2 ^ 32) (of : IsListed frame rs) (stack : HasStack map sp s) (reached : AreReached s sp frame (length rs)) where
-  unknown : is_within map (add32 sp (pos frame)) ≡ true → frames.pop_target end (code_of (load_word Lw s (word_address sp frame (length rs - 1)))) next ≡ None
+  unknown : in_stack map (add32 sp (pos frame)) ≡ true → frames.pop_target end (code_of (load_word Lw s (word_address sp frame (length rs - 1)))) next ≡ None
       → in_turn map (restores frame rs ++ behind_loads end frame) next s ≡ Stuck TargetUnknown
   unknown inside none =
       let z = loaded_some map sp frame end rs next s of.some of.last small of.known stack reached in
       z.is.same ∙ return_stuck map sp frame next z.state z.is.stack of.size.some inside end (ap (λ w. frames.pop_target end (code_of w) next) z.is.ra ∙ none)
 
-  goes : (s1 z s4 : PlainCore) (to : Place) → is_within map (add32 sp (pos frame)) ≡ true
+  goes : (s1 z s4 : PlainCore) (to : Place) → in_stack map (add32 sp (pos frame)) ≡ true
       → frames.pop_target end (code_of (load_word Lw s (word_address sp frame (length rs - 1)))) next ≡ Some to
       → IsLoading map sp frame (length rs) rs next s s1 → IsZeroed end map next s1 z → applied map z (Goes (sets 2 (number_word (add32 sp (pos frame))) to)) ≡ Went s4 []
       → in_turn map (restores frame rs ++ behind_loads end frame) next s ≡ Went s4 []
@@ -123,7 +123,7 @@ returns c =
     let target = ap (λ a. frames.pop_target c.args.end (code_of (load_word Lw s a)) next) (sym (ra_at sp frame (length rs) of.some)) ∙ sym c.pop_target.ensures ∙ c.in-Some-pop_target.is in
     let map_z : z.map ≡ first.map = c.clear_a0.ensures.runs.1 ∙ map2 in
     let top : ℕ = (sp + frame) % 2 ^ 32 in
-    let could = c.move_sp-raised.ensures.could ∙ ap (λ (m : MemMap). is_within m top) map_z ∙ inside in
+    let could = c.move_sp-raised.ensures.could ∙ ap (λ (m : MemMap). in_stack m top) map_z ∙ inside in
     let made = subst (λ (b : Bool). OnTrue b (RunsOn (applied z.map z.core (Goes (sets 2 (number_word top) to))) [] z.core s4)) could c.move_sp-raised.ensures.made in
     let raised : applied first.map z.core (Goes (sets 2 (number_word top) to)) ≡ Went s4 [] = ap (λ (m : MemMap). applied m z.core (Goes (sets 2 (number_word top) to))) (sym map_z) ∙ made.2 in
     let cleared = subst (λ (m : MemMap). IsZeroed c.args.end m next s2.core z.core) map2 c.clear_a0.ensures.zeroed in (

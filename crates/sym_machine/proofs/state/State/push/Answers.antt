@@ -10,10 +10,10 @@ use Rattle.sym_machine.specs.Answer.{RunsOn}
 use Rattle.sym_machine.specs.Change.{Goes, sets}
 use Rattle.sym_machine.specs.Expansions.{saves}
 use Rattle.sym_machine.specs.Invariants.Frames.{IsObstacle}
-use Rattle.sym_machine.specs.Step.{Went, applied, in_turn}
+use Rattle.sym_machine.specs.Step.{Went, applied, in_stack, in_turn}
 use Rattle.sym_machine.specs.Words.{number_word}
 use Rattle.sym_machine.proofs.FrameLaws.{reached_same}
-use Rattle.sym_machine.proofs.PushPopLaws.{is_listed, is_within, lowered_is, push_goes, push_outside, push_stuck}
+use Rattle.sym_machine.proofs.PushPopLaws.{is_listed, lowered_is, push_goes, push_outside, push_stuck}
 use Rattle.sym_machine.proofs.StepLaws.{extents-made}
 use Rattle.zc_decode.proofs.OperandLaws.{frame_range}
 use Rattle.sym_machine.proofs.state.State.push.Goals as goal
@@ -31,7 +31,7 @@ returns-then-not-has_sp c =
     let rs : List ℕ = c.registers-registers.result.now in
     let range = frame_range c.args.list c.args.adjust c.requires.size in
     let low = lowers sp frame c.args.adjust c.from-frame.ensures range.least range.most in
-    let out = ap (is_within first.map) (sym low) ∙ sym c.has_sp.ensures ∙ c.if-not-has_sp.true in (
+    let out = ap (in_stack first.map) (sym low) ∙ sym c.has_sp.ensures ∙ c.if-not-has_sp.true in (
       c.requires.running,
       refl,
       (λ j. in_turn first.map (WithImm Addi 2 2 (negsuc (sym c.from-frame.ensures j - 1)) ∷ saves (sym c.from-frame.ensures j) (sym c.registers-registers.ensures.value j)) c.args.next s)
@@ -64,7 +64,7 @@ returns-in-Some c =
     let range = frame_range c.args.list c.args.adjust c.requires.size in
     let low = lowers sp frame c.args.adjust c.from-frame.ensures range.least range.most in
     let of = is_listed c.args.list c.args.adjust frame rs c.requires.size c.from-frame.ensures c.registers-registers.ensures.value in
-    let inside = ap (is_within first.map) (sym low) ∙ sym c.has_sp.ensures ∙ c.if-not-has_sp.false in
+    let inside = ap (in_stack first.map) (sym low) ∙ sym c.has_sp.ensures ∙ c.if-not-has_sp.false in
     let why = c.in-Some.why in
     let is = subst (λ (n : ℕ). IsObstacle s n frame why) low c.in-Some.ensures in (
       c.requires.running,

@@ -12,7 +12,7 @@ pub invariant_of-self : goal.invariant_of-self
 invariant_of-self c =
     let i = c.self.inside in
     let new = c.fill-count.ensures.filled in
-    working_set i.registers i.memory c.fill-count.new.self 10 (held.Number c.fill-count.result) c.self.invariant new.kept new.from (λ e. omega (arith, e)) (λ e. omega (arith, e))
+    working_set i.registers i.memory c.fill-count.new.self 10 (held.Number c.fill-count.result) c.self.invariant new.kept new.map new.from (λ e. omega (arith, e)) (λ e. omega (arith, e))
 
 pub returns : goal.returns
 returns c =

@@ -11,7 +11,7 @@ invariant_of-self c =
     let i = c.self.inside in
     let is = c.self.invariant in
     let same = sym c.number.ensures.value in
-    working_set i.registers i.memory i.memory c.number.result c.args.word is is.kept refl (λ e. c.requires.some (same ∙ e)) (λ e. c.requires.other (same ∙ e))
+    working_set i.registers i.memory i.memory c.number.result c.args.word is is.kept refl refl (λ e. c.requires.some (same ∙ e)) (λ e. c.requires.other (same ∙ e))
 
 pub returns-clause-made : goal.returns-clause-made
 returns-clause-made c =

@@ -2,6 +2,7 @@ use Rattle.std.proofs.Common.{◌≡◌, ◌∷◌, [], None, ap, ◌∙◌, sub
 use Rattle.rv_decode.specs.State.{Write}
 use Rattle.sym_machine.specs.declared.held.Held.TheVariants as held
 use Rattle.sym_machine.specs.Change.{Goes, sets}
+use Rattle.sym_machine.specs.Events.{Numeric}
 use Rattle.sym_machine.specs.Kept.{Working}
 use Rattle.sym_machine.specs.Step.{Went, applied}
 use Rattle.sym_machine.specs.Words.{number_word}
@@ -12,7 +13,7 @@ pub invariant_of-self : goal.invariant_of-self
 invariant_of-self c =
     let i = c.self.inside in
     let is = c.self.invariant in
-    working_set i.registers i.memory i.memory 10 (held.Number c.args.arguments.len) is is.kept refl (λ e. omega (arith, e)) (λ e. omega (arith, e))
+    working_set i.registers i.memory i.memory 10 (held.Number c.args.arguments.len) is is.kept refl refl (λ e. omega (arith, e)) (λ e. omega (arith, e))
 
 pub returns : goal.returns
 returns c =
@@ -20,7 +21,7 @@ returns c =
     let running : i.exit ≡ None = ap (λ (w : Working). w.core.exit) c.self.view_is ∙ c.requires.running in
     let input = i.answers in
     let call = c.args.arguments in
-    let event = Write call.a0 c.args.bytes.items in
+    let event = Numeric (Write call.a0 c.args.bytes.items) in
     let after = core_of c.args.to (set i.registers 10 (held.Number call.len)) i.memory input i.exit in (
       c.requires.stream,
       (
