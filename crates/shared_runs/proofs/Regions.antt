@@ -11,18 +11,20 @@ use Rattle.rv_decode.specs.Effect.{Effect, Commits, attempting, effect, jumps, l
 use Rattle.rv_decode.specs.declared.device_access.DeviceAccess.{DeviceAccess}
 use Rattle.rv_decode.specs.declared.device_access.DeviceAccess.TheVariants as access
 use Rattle.rv_decode.specs.Memory.{Extent, byte_of, changed, extents_of, is_data, is_stack, is_text, lies_in, written}
-use Rattle.rv_decode.specs.State.{ZcCore, ZcState, reg_in}
+use Rattle.rv_decode.specs.State.{ZcCore, ZcState, reg_in, word_at}
+use Rattle.rv_decode.specs.System.{is_system}
 use Rattle.rv_decode.proofs.MemoryLaws.{extents-changed}
 use Rattle.zc_decode.specs.Accesses.{Access, accesses_of}
 use Rattle.zc_decode.specs.Effect.{accessed, all_accessed, entry_at, framed, reaching_all, returned, short_effect, zeroed}
 use Rattle.zc_decode.specs.declared.short.Short.{Short}
 use Rattle.zc_decode.specs.declared.short.Short.TheVariants.{Base, MoveAs, MoveSa, Pop, PopRet, PopRetz, Push, TableJump}
-use Rattle.zc_machine.specs.declared.reason.Reason.TheVariants.{BadAccess}
+use Rattle.zc_machine.specs.declared.reason.Reason.{Reason}
+use Rattle.zc_machine.specs.declared.reason.Reason.TheVariants.{BadAccess, Illegal}
 use Rattle.zc_machine.specs.declared.answer.EnvCall.{EnvCall}
 use Rattle.zc_machine.specs.declared.answer.EnvCall.TheVariants as call
 use Rattle.zc_machine.specs.Fetch.{Fetched, Found, Missing, fetched_at}
 use Rattle.zc_machine.specs.Interrupt.{all_dirtied, all_interrupted, dirtied, done_all, done_of, done_one, interrupted}
-use Rattle.zc_machine.specs.Run.{answered, committed, device_answers, is_answered, turn, zc_turn}
+use Rattle.zc_machine.specs.Run.{answered, committed, device_answers, is_answered, turn, unanswered, zc_turn}
 use Rattle.zc_machine.specs.Step.{Asks, Committed, Ended, Stopped, Wants, ZcStep, buffered, called, effect_step, made, zc_step}
 use Rattle.zc_machine.proofs.TurnLaws.{zc_turn-running}
 
@@ -169,7 +171,13 @@ made_leaves (Found s size) z = by (short_effect s size z) (short_leaves s size z
     by (act.Outside x) h = tt
     by act.Break h = tt
     by act.Call h = called_leaves (extents_of z.memory) z
-made_leaves (Missing reason) z = tt
+made_leaves (Missing reason) z = missed_leaves reason
+  where
+    -- an instruction of the system asks a device
+    missed_leaves : (why : Reason) → StepLeaves (extents_of z.memory) (made (Missing why) z)
+    missed_leaves Illegal =
+        cond_both (lies_in is_text (extents_of z.memory) z.pc 4 && is_system (word_at z z.pc)) _ (Stopped Illegal) (StepLeaves (extents_of z.memory)) (λ _. tt) (λ _. tt)
+    missed_leaves other = tt
 
 answered_extents : (c : EnvCall) (r r' : ZcState) → answered c r ≡ Ok r' → extents_of r'.core.memory ≡ extents_of r.core.memory
 answered_extents (call.Exit status) r r' h = ap (λ (x : ZcState). extents_of x.core.memory) (one_result (answered (call.Exit status) r) r' _ h refl)
@@ -183,10 +191,11 @@ committed_extents (Ended status) r r' leaves h = let same : r ≡ r' = cc in ap 
 committed_extents (Stopped reason) r r' leaves h = absurd cc
 committed_extents (Asks x) r r' leaves h = by x (is_answered r.devices x) h
   where
-    by : (x : DeviceAccess) (b : Bool) → cond b (Ok (device_answers x r)) (Err BadAccess) ≡ Ok r' → extents_of r'.core.memory ≡ extents_of r.core.memory
+    by : (x : DeviceAccess) (b : Bool) → cond b (Ok (device_answers x r)) (Err (unanswered x)) ≡ Ok r' → extents_of r'.core.memory ≡ extents_of r.core.memory
     by x false g = absurd cc
     by (access.Load op a rd size) true g = let same : device_answers (access.Load op a rd size) r ≡ r' = cc in ap (λ y. extents_of y.core.memory) (sym same)
     by (access.Store op a word size) true g = let same : device_answers (access.Store op a word size) r ≡ r' = cc in ap (λ y. extents_of y.core.memory) (sym same)
+    by (access.System word operand) true g = let same : device_answers (access.System word operand) r ≡ r' = cc in ap (λ y. extents_of y.core.memory) (sym same)
 
 -- a commit leaves regions where they lie
 pub turn_extents : (r r' : ZcState) → zc_turn [] r ≡ Ok r' → extents_of r'.core.memory ≡ extents_of r.core.memory

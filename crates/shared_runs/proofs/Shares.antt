@@ -1,14 +1,14 @@
 -- An image that keeps step with the program does so if interrupts write shared data, too. Before a stretch the cells of all its commits
 -- may be written in both machines; a run that ends inside a stretch has made none of its commits, so only the events are claimed.
-use Rattle.std.proofs.Common.{◌≡◌, ℕ, zero, suc, ◌+◌, ◌-◌, ◌*◌, ◌<◌, ◌≤◌, List, [], ◌∷◌, ◌++◌, Bool, true, false, cond, Option, Some, None, Result, Ok, refl, sym, ap, ap₂, ◌∙◌, subst, inr, ⊎_elim, arith, eqb}
-use Rattle.std.specs.Prelude.{◌⊎◌, All, IsSome}
+use Rattle.std.proofs.Common.{◌≡◌, ℕ, zero, suc, ◌+◌, ◌-◌, ◌*◌, ◌<◌, ◌≤◌, List, [], ◌∷◌, ◌++◌, map, Bool, true, false, cond, Option, Some, None, Result, Ok, refl, sym, ap, ap₂, ◌∙◌, subst, inr, ⊎_elim, arith, eqb}
+use Rattle.std.specs.Prelude.{All, IsSome}
 use Rattle.std.specs.Option.{is_some}
 use Rattle.std.proofs.lemmas.Bool.{cond-false, cond-true, eqb-false, eqb-true, false≢true, ne_eqb}
 use Rattle.std.proofs.lemmas.List.Elements.{All-cons, All-filter, All-head, All-nil, All-tail}
 use Rattle.zc_base.specs.declared.place.Place.{Place}
 use Rattle.interrupt_plan.specs.Plan.{IsInterrupt}
 use Rattle.interrupt_plan.specs.SharedPlan.{IsSharedPlan, SharedEntry, shared_at}
-use Rattle.rv_decode.specs.Devices.{AreOutside}
+use Rattle.rv_decode.specs.Devices.{AreOutside, IsOutside}
 use Rattle.rv_decode.specs.Memory.{Region, changed, written}
 use Rattle.rv_decode.specs.Run.{◌>>=◌, iterate}
 use Rattle.rv_decode.specs.State.{ZcState}
@@ -16,6 +16,7 @@ use Rattle.rv_decode.proofs.RunLaws.{bind_ok, iterate-add, iterate-one}
 use Rattle.shared_cells.specs.SharedRun.{in_ranges, shared_by}
 use Rattle.sym_machine.specs.declared.word.SymByte.{SymByte}
 use Rattle.sym_machine.specs.declared.word.SymByte.TheVariants.{Num}
+use Rattle.sym_machine.specs.Events.{event_in}
 use Rattle.sym_machine.specs.Program.{Program}
 use Rattle.sym_machine.specs.Run.{plain_turn}
 use Rattle.sym_machine.specs.State.{PlainCore, PlainState, first_plain}
@@ -27,8 +28,10 @@ use Rattle.zc_link.specs.DataApart.{CellsLie, FromLoad, FromPair, IsCell, Starts
 use Rattle.zc_link.specs.Image.{Image, loaded_core}
 use Rattle.zc_link.specs.IsSimulation.{IsInside, IsSimulation}
 use Rattle.zc_link.specs.Pace.{Pace, lead_from, lead_of}
+use Rattle.zc_link.specs.Setting.{Setting}
 use Rattle.zc_link.specs.Sound.{Over, Sound, Together}
 use Rattle.zc_link.specs.Stands.{Stands}
+use Rattle.zc_link.proofs.EventLaws.{events_kept}
 use Rattle.zc_link.proofs.Start.{loaded_first}
 use Rattle.shared_runs.specs.SharedPlain.{SharedState, Sharing, after_step, cells_from, shared_after, shared_start, shared_step, step_within, stretch_begun}
 use Rattle.shared_runs.specs.SharesCells.{KeepsPace, SharesCells}
@@ -88,14 +91,14 @@ module _ (p : Program) (Named : Place → Type 0) (e : Image) (pace : Pace) (law
       after : ZcState
       runs : turns (λ j. shared_by ranges plan (k + j)) count z ≡ Ok after
       together : Together p Named e r'.core after
-      events : after.events ≡ r'.events
+      events : after.events ≡ map (event_in e.address) r'.events
       none : after.devices ≡ []
 
     abbrev begun : ℕ → PlainState → PlainState
     begun k r = all_poked (cells_from ranges plan k (pace.weight r.core)) r
 
     stretch :
-        (k : ℕ) (r r' : PlainState) (z : ZcState) → Sound p Named e r.core z → z.events ≡ r.events → z.devices ≡ [] → r.devices ≡ []
+        (k : ℕ) (r r' : PlainState) (z : ZcState) → Sound p Named e r.core z → z.events ≡ map (event_in e.address) r.events → z.devices ≡ [] → r.devices ≡ []
         → iterate (plain_turn p) (pace.span r.core.place) (begun k r) ≡ Ok r' → Came k (pace.weight r.core) z r'
     stretch k r r' z so events none bare h =
         let w = pace.weight r.core in
@@ -110,8 +113,8 @@ module _ (p : Program) (Named : Place → Type 0) (e : Image) (pace : Pace) (law
         let comes =
         law.step (all_poked cs r) r' (ap (λ q. iterate (plain_turn p) (pace.span q) (all_poked cs r)) (poked_place cs r) ∙ steps)
         (λ j. cuts_in (entries j)) (λ j. cuts_are (entries j) (entries_ok j)) (all_written cs z) (written_sound lie cs r z are so)
-        (written_events cs z ∙ events ∙ sym (poked_events cs r)) (no_device ∙ sym without)
-        (subst (AreOutside p.map) (sym without) (All-nil (λ d. (d.at + d.size ≤ p.map.text) ⊎ (p.map.stack_high ≤ d.at)))) in
+        (events_kept e.address r.events (all_poked cs r).events (all_written cs z).events (written_events cs z ∙ events) (poked_events cs r)) (no_device ∙ sym without)
+        (subst (AreOutside p.map) (sym without) (All-nil (IsOutside p.map))) in
         let from : FromPair p Named e pace r w z = record { commits = refl; sound = so; cells = cs; are = are; after = r'; steps = steps } in
         record {
           after = comes.after;
@@ -143,7 +146,7 @@ module _ (p : Program) (Named : Place → Type 0) (e : Image) (pace : Pace) (law
         z : ZcState
         runs : run commits ≡ Ok z
         sound : Sound p Named e r.core z
-        events : z.events ≡ r.events
+        events : z.events ≡ map (event_in e.address) r.events
         none : z.devices ≡ []
         bare : r.devices ≡ []
 
@@ -161,7 +164,7 @@ module _ (p : Program) (Named : Place → Type 0) (e : Image) (pace : Pace) (law
         z : ZcState
         runs : run s.commits ≡ Ok z
         over : Over p e s.plain.core z
-        events : z.events ≡ s.plain.events
+        events : z.events ≡ map (event_in e.address) s.plain.events
 
       -- between two stretches, inside one, or after the exit
       data Reached (n : ℕ) (s : SharedState) : Type 0 where
@@ -269,17 +272,20 @@ module _ (p : Program) (Named : Place → Type 0) (e : Image) (pace : Pace) (law
           let first : PlainState = record { core = first_plain p input; events = []; devices = [] } in
           let z0 = first_state (loaded_core e) input in
           let entries_ok : AreEntries (shared_at plan) = λ k. All-filter (λ (x : SharedEntry). eqb x.entry.at k) IsEntry plan is in
-          let comes = law.start (loaded_core e) (loaded_first e) [] input bytes (λ k. cuts_in (shared_at plan k)) (λ k. cuts_are (shared_at plan k) (entries_ok k)) in
+          let setting : Setting = record { sp_set = true; devices = []; input = input } in
+          let comes = law.start setting (loaded_core e) (loaded_first e) bytes (λ k. cuts_in (shared_at plan k)) (λ k. cuts_are (shared_at plan k) (entries_ok k)) in
           let cs = cells_of lie ranges within (shared_at plan) lead in
           let are = cells_are lie ranges within lead (shared_at plan) entries_ok in
-          let from : FromLoad p e lead z0 = record { commits = refl; devices = []; input = input; bytes = bytes; first = loaded_core e; starts = loaded_first e; loads = refl } in
+          let from : FromLoad p e lead z0 = record { commits = refl; setting = setting; bytes = bytes; first = loaded_core e; starts = loaded_first e; loads = refl } in
           let runs = cells_last lie ranges within law.lead_cuts_apart law.lead_commits_apart lead (shared_at plan) [] z0 comes.after entries_ok (All-nil (IsWrite p)) (Starts lead z0 from) refl comes.runs in
           ⊎_elim
           (λ so. Between (record {
             z = all_written cs comes.after;
             runs = runs;
             sound = subst (λ ds. Sound p Named e (all_poked ds first).core (all_written cs comes.after)) (sym (from_start plan lead)) (written_sound lie cs first comes.after are so);
-            events = written_events cs comes.after ∙ comes.events ∙ sym (poked_events (cells_from ranges plan 0 lead) first);
+            events =
+                events_kept e.address first.events (all_poked (cells_from ranges plan 0 lead) first).events (all_written cs comes.after).events (written_events cs comes.after ∙ comes.events)
+                (poked_events (cells_from ranges plan 0 lead) first);
             none = written_devices cs comes.after ∙ zc_turns_devices (λ k. cuts_in (shared_at plan k)) lead z0 comes.after comes.runs;
             bare = poked_devices (cells_from ranges plan 0 lead) first;
           }) refl (omega (arith, short)))
@@ -301,7 +307,9 @@ module _ (p : Program) (Named : Place → Type 0) (e : Image) (pace : Pace) (law
             state = wi.pair.z;
             runs = wi.pair.runs;
             follows = record {
-              events = wi.pair.events ∙ sym (poked_events (cells_from ranges plan s.commits (pace.weight r.core)) r) ∙ sym way.events;
+              events =
+                  events_kept e.address r.events s.plain.events wi.pair.z.events wi.pair.events
+                  (way.events ∙ poked_events (cells_from ranges plan s.commits (pace.weight r.core)) r);
               stands = λ claim. absurd (⊎_elim (λ listed. false≢true (rw way.unlisted at listed)) (λ exited. false≢true (rw way.running at exited)) claim);
             };
             few = omega (arith, few);

@@ -135,9 +135,6 @@ module _ {p : Program} {e : Image} (lie : CellsLie p e) where
         text = λ x t. elsewhere a b z.memory 0 x (λ is. no_text x t is) ∙ al.text x t;
         table = al.table;
       };
-      sp = al.sp;
-      low = al.low;
-      high = al.high;
       below = λ x low lt. elsewhere a (Num b) s.memory Undef x (λ is. let high = cell.high in let under = lie.under in omega (arith, low, is, high, under)) ∙ al.below x low lt;
     }
       where

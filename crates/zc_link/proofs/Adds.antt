@@ -2,8 +2,8 @@
 use Rattle.std.proofs.Common.{◌≡◌, ℕ, zero, suc, ◌+◌, ◌*◌, ◌/◌, ◌%◌, ◌^◌, ◌<◌, ◌≤◌, List, [], ◌∷◌, ◌++◌, length, Bool, true, false, cond, eqb, refl, sym, ap, ◌∙◌, subst, arith, get_or, length-append, take, drop}
 use Rattle.std.specs.Prelude.{replicate}
 use Rattle.std.proofs.lemmas.Bool.{eqb-false, eqb-true}
-use Rattle.std.proofs.lemmas.List.{drop-append-le, length-drop, length-take-le, take-append-le}
-use Rattle.zc_base.specs.Fields.{half_bytes, half_in, word_bytes}
+use Rattle.std.proofs.lemmas.List.{drop-append-le, get_or-drop, get_or-take, length-drop, length-take-le, take-append-le}
+use Rattle.zc_base.specs.Fields.{half_bytes, half_in, word_bytes, word_in}
 use Rattle.zc_link.specs.Copied.{bytes_from}
 use Rattle.zc_link.specs.Written.{copies, nop, padding, short_nop}
 
@@ -78,7 +78,7 @@ pub first_bytes : (text more : List ℕ) (at n : ℕ) → at + n ≤ length text
 first_bytes text more at n within =
     ap (take n) (drop-append-le at text more (omega arith)) ∙ take-append-le n (drop at text) more (omega (arith, length-drop at text))
 
--- ---- the halfword at an offset
+-- ---- the halfword or word at an offset
 
 pub half_small : (code : List ℕ) (n : ℕ) → AreBytes code → half_in code n < 2 ^ 16
 unfolding half_in
@@ -106,6 +106,40 @@ two_bytes (x ∷ code) (suc n) two are long octets =
     let rest = two_bytes code n two are long octets in
     let same : half_in code n ≡ half_in (x ∷ code) (suc n) = ap (λ m. get_or (x ∷ code) (suc n) 0 + 256 * get_or (x ∷ code) m 0) next in
     (subst (λ h. h < 2 ^ 16) same rest.0, rest.1 ∙ ap half_bytes same)
+
+-- so are four
+pub four_bytes :
+    (code : List ℕ) (n : ℕ) (four : List ℕ) → take 4 (drop n code) ≡ four → length four ≡ 4 → ((k : ℕ) → get_or four k 0 < 256)
+    → (word_in code n < 2 ^ 32) × (four ≡ word_bytes (word_in code n))
+unfolding word_in
+four_bytes code n [] are long octets = absurd (omega (arith, long))
+four_bytes code n (a ∷ []) are long octets = absurd (omega (arith, long))
+four_bytes code n (a ∷ b ∷ []) are long octets = absurd (omega (arith, long))
+four_bytes code n (a ∷ b ∷ c ∷ []) are long octets = absurd (omega (arith, long))
+four_bytes code n (a ∷ b ∷ c ∷ d ∷ []) are long octets =
+    let at = λ (k : ℕ) (lt : k < 4). ap (λ l. get_or l k 0) (sym are) ∙ get_or-take 4 (drop n code) k 0 lt ∙ get_or-drop n code k 0 in
+    let first : n + 0 ≡ n = omega arith in
+    let is_a : a ≡ get_or code n 0 = at 0 (omega arith) ∙ ap (λ m. get_or code m 0) first in
+    let is_b : b ≡ get_or code (n + 1) 0 = at 1 (omega arith) in
+    let is_c : c ≡ get_or code (n + 2) 0 = at 2 (omega arith) in
+    let is_d : d ≡ get_or code (n + 3) 0 = at 3 (omega arith) in
+    let small_a : a < 256 = octets 0 in
+    let small_b : b < 256 = octets 1 in
+    let small_c : c < 256 = octets 2 in
+    let small_d : d < 256 = octets 3 in
+    let sum : word_in code n ≡ a + 256 * b + 65536 * c + 16777216 * d = omega (arith, is_a, is_b, is_c, is_d) in
+    (omega (arith, sum, small_a, small_b, small_c, small_d), four_are (word_in code n) a b c d sum small_a small_b small_c small_d)
+  where
+    four_are :
+        (w a b c d : ℕ) → w ≡ a + 256 * b + 65536 * c + 16777216 * d → a < 256 → b < 256 → c < 256 → d < 256
+        → a ∷ b ∷ c ∷ d ∷ [] ≡ word_bytes w
+    four_are w a b c d sum small_a small_b small_c small_d =
+        let b0 : a ≡ w % 256 = omega (arith, sum, small_a) in
+        let b1 : b ≡ w / 256 % 256 = omega (arith, sum, small_a, small_b) in
+        let b2 : c ≡ w / 65536 % 256 = omega (arith, sum, small_a, small_b, small_c) in
+        let b3 : d ≡ w / 16777216 % 256 = omega (arith, sum, small_a, small_b, small_c, small_d) in
+        λ i. b0 i ∷ b1 i ∷ b2 i ∷ b3 i ∷ []
+four_bytes code n (a ∷ b ∷ c ∷ d ∷ more ∷ rest) are long octets = absurd (omega (arith, long))
 
 -- two bytes of a list of bytes are those of the halfword there
 pub own_half : (code : List ℕ) (n : ℕ) → n + 2 ≤ length code → AreBytes code → bytes_from code n 2 ≡ half_bytes (half_in code n)

@@ -30,12 +30,12 @@ module _ {p : Program} {e : Image} (room : Room p e) where
 
   -- ---- words that are known
 
-  abbrev Knows : Known → ℕ → Type 0
+  abbrev pub Knows : Known → ℕ → Type 0
   Knows (Number m) n = m ≡ n
   Knows (Code q) n = e.address q ≡ Some n
   Knows Unknown n = Unit {0}
 
-  knows : (w : SymWord) (n : ℕ) → n < 2 ^ 32 → WordStands V w n → Knows (known_of w) n
+  pub knows : (w : SymWord) (n : ℕ) → n < 2 ^ 32 → WordStands V w n → Knows (known_of w) n
   knows w n small h = by (number_of w) (code_of w) refl refl
     where
       by : (o : Option ℕ) (u : Option Place) → number_of w ≡ o → code_of w ≡ u → Knows (option_map_or Number o (option_map_or Code u Unknown)) n

@@ -1,8 +1,9 @@
--- Calls. The program forgets a register, and goes to the place with the next one's address in another. An image does so by one `jal`,
--- or by an `auipc` and a `jalr`; between these two the first register holds what the program doesn't know. It isn't sp, or the
--- program would be stuck.
-use Rattle.std.proofs.Common.{ℤ, ◌≡◌, ◌≢◌, ℕ, ◌+◌, ◌*◌, ◌/◌, ◌%◌, ◌^◌, List, [], ◌∷◌, length, Some, None, Ok, Bool, true, false, cond, refl, sym, ap, ◌∙◌, subst, arith, eqb, ⊎_elim}
-use Rattle.std.proofs.lemmas.Bool.{cases_eq, eqb-false}
+-- Calls. The program forgets a register, and goes to the place with the next one's address in another. An image does so
+-- by one `jal`, or by an `auipc` and a `jalr`; between these two the first register holds what the program doesn't know.
+-- It isn't sp, if that is set, or the program would be stuck.
+use Rattle.std.proofs.Common.{ℤ, ◌≡◌, ◌≢◌, ℕ, ◌+◌, ◌*◌, ◌/◌, ◌%◌, ◌^◌, List, [], ◌∷◌, length, Some, None, Ok, Bool, true, false, cond, refl, sym, ap, ◌∙◌, subst, arith, eqb, ⊎_elim, inl, inr}
+use Rattle.std.specs.Prelude.{◌⊎◌}
+use Rattle.std.proofs.lemmas.Bool.{cases_Bool, cases_eq, eqb-false}
 use Rattle.zc_base.specs.declared.place.Place.{Place}
 use Rattle.interrupt_plan.specs.Plan.{Interrupt}
 use Rattle.rv_decode.specs.declared.instr.Instr.TheVariants.{Jal, Jalr, Upper}
@@ -17,9 +18,9 @@ use Rattle.sym_machine.specs.declared.word.SymWord.{SymWord}
 use Rattle.sym_machine.specs.Change.{Change, Goes, Stops, call_to, continues, item_does}
 use Rattle.sym_machine.specs.Program.{Program}
 use Rattle.sym_machine.specs.State.{PlainCore, PlainState}
-use Rattle.sym_machine.specs.Step.{after_change}
+use Rattle.sym_machine.specs.Step.{after_change, is_set}
 use Rattle.sym_machine.specs.Words.{code_word, number_of, number_word, undef_word}
-use Rattle.sym_machine.proofs.StepLaws.{Ended}
+use Rattle.sym_machine.proofs.StepLaws.{Ended, set_some}
 use Rattle.zc_decode.specs.declared.short.Short.TheVariants.{Base}
 use Rattle.zc_machine.specs.Fetch.{fetched_at}
 use Rattle.zc_machine.specs.Run.{zc_turns}
@@ -83,7 +84,7 @@ module _ {p : Program} {Named : Place → Type 0} {e : Image} {r r' : PlainState
 
   -- ---- by two
 
-  -- sp isn't the register that is forgotten
+  -- sp isn't the register that is forgotten, if it is a number afterwards
   no_sp : (regs : List SymWord) (rd temp : ℕ) (q : Place) (sp : ℕ) → length regs ≡ 32 → number_of (sp_word (set_reg (set_reg regs temp undef_word) rd (code_word q))) ≡ Some sp → temp ≢ 2
   no_sp regs rd temp q sp long is temp_sp = ⊎_elim
       (λ rd_sp.
@@ -118,10 +119,14 @@ module _ {p : Program} {Named : Place → Type 0} {e : Image} {r r' : PlainState
     abbrev forgotten : PlainCore
     forgotten = record r.core { regs = set_reg r.core.regs laid.temp undef_word; exit = None }
 
-    not_sp : laid.temp ≢ 2
+    not_sp : (laid.temp ≢ 2) ⊎ (is_set p.map r.core ≡ false)
     not_sp =
-        let end = subst (λ c. Ended p.map (after_change c r.core) r'.core) (sym is.change) from.step.end in
-        no_sp r.core.regs laid.rd laid.temp (p.next r.core.place) end.sp from.sound.alike.plain.count end.is
+        let end = subst (λ c. Ended p.map (is_set p.map r.core) (after_change c r.core) r'.core) (sym is.change) from.step.end in
+        let known = λ (set : is_set p.map r.core ≡ true). set_some p.map (after_change (call_change laid.rd laid.temp laid.to (p.next r.core.place)) r.core) (end.kept set) in
+        ⊎_elim
+        (λ set. let at = known set in inl (no_sp r.core.regs laid.rd laid.temp (p.next r.core.place) at.sp from.sound.alike.plain.count at.is))
+        (λ unset. inr unset)
+        (cases_Bool (is_set p.map r.core))
 
     between_alike : Alike p Named e forgotten between
     between_alike = alike_forgets laid.temp way_part between.pc between.commits not_sp (omega arith) first.alike

@@ -1,6 +1,7 @@
 -- What interrupts may leave, said of the machine alone: bytes of the stack below sp may hold anything, and all else is as
--- before (Spoiled). If the program doesn't know these bytes, states that are alike stay so (spoiled_alike).
-use Rattle.std.proofs.Common.{◌≡◌, ℕ, ◌+◌, ◌-◌, ◌<◌, ◌≤◌, List, [], ◌∷◌, length, true, refl, sym, ap, ◌∙◌, arith, ltb, leb, ⊎_elim, inl, inr}
+-- before (Spoiled). The program doesn't know these bytes, whether its sp is set or not, so states that are alike stay so
+-- (spoiled_below).
+use Rattle.std.proofs.Common.{◌≡◌, ℕ, ◌+◌, ◌-◌, ◌<◌, ◌≤◌, min, List, [], ◌∷◌, length, true, refl, sym, ap, ◌∙◌, arith, ltb, leb, ⊎_elim, inl, inr}
 use Rattle.std.specs.Prelude.{◌⊎◌, ◌&&◌, All}
 use Rattle.std.proofs.lemmas.Bool.{and_parts, cases_Bool, cases_lt, cond_both, ltb-true}
 use Rattle.std.proofs.lemmas.List.Elements.{All-head, All-tail}
@@ -14,13 +15,14 @@ use Rattle.sym_machine.specs.Program.{Program}
 use Rattle.sym_machine.specs.State.{PlainCore, cell_of}
 use Rattle.zc_decode.specs.Accesses.{accesses_of}
 use Rattle.zc_decode.specs.declared.short.Short.{Short}
-use Rattle.zc_machine.specs.Fetch.{Found, fetched_at}
+use Rattle.zc_machine.specs.Fetch.{Fetched, Found, fetched_at}
 use Rattle.zc_machine.specs.Interrupt.{all_dirtied, all_interrupted, dirtied, done_all, done_of, interrupted}
 use Rattle.zc_machine.specs.Load.{first_core}
 use Rattle.zc_machine.proofs.LoadLaws.{stack_bounds}
 use Rattle.zc_link.specs.Image.{Image, loaded_core}
 use Rattle.zc_link.specs.Invariants.Room.{Room}
 use Rattle.zc_link.specs.Sound.{Alike}
+use Rattle.zc_link.proofs.OnStack.{below_mark, free_end}
 
 -- an instruction without accesses has none that an interrupt could do
 pub done-none :
@@ -32,12 +34,11 @@ done-none s size none done z = ap (λ xs. done_all s xs done z) (none (reg_in z 
     stays [] = refl
     stays (j ∷ js) = stays js
 
--- where one stands at pc, an interrupt only writes its bytes
-pub cut-none :
-    (c : Interrupt) (z : ZcCore) (s : Short) (size : ℕ) → ((sp : ℕ) → accesses_of s sp ≡ []) → fetched_at z z.pc ≡ Found s size
+-- where what is fetched at pc has none, an interrupt only writes its bytes
+pub cut-quiet :
+    (c : Interrupt) (z : ZcCore) (f : Fetched) → ((done : List ℕ) (y : ZcCore) → done_of f done y ≡ y) → fetched_at z z.pc ≡ f
     → interrupted c z ≡ all_dirtied c.dirt z
-cut-none c z s size none here =
-    ap (λ f. all_dirtied c.dirt (done_of f c.done z)) here ∙ ap (all_dirtied c.dirt) (done-none s size none c.done z)
+cut-quiet c z f quiet here = ap (λ g. all_dirtied c.dirt (done_of g c.done z)) here ∙ ap (all_dirtied c.dirt) (quiet c.done z)
 
 -- z is y, but for bytes from low to below n
 pub record Spoiled (low n : ℕ) (y z : ZcCore) : Type 0 where
@@ -80,27 +81,28 @@ others_kept low n at m given z lower upper a out = ⊎_elim
 
 -- ---- the machine alone
 
--- at a state y whose stack begins at low or above it, interrupts write from low to below sp
-module _ (low : ℕ) (y : ZcCore) (stack : (a : ℕ) → lies_in is_stack (extents_of y.memory) a 1 ≡ true → low ≤ a) where
+-- at a state y whose stack lies from low to below high, interrupts write from low to below sp and high
+module _ (low high : ℕ) (y : ZcCore) (stack : (a : ℕ) → lies_in is_stack (extents_of y.memory) a 1 ≡ true → (low ≤ a) × (a < high)) where
   abbrev IsSpoiled : ZcCore → Type 0
-  IsSpoiled z = Spoiled low (reg_in y 2) y z
+  IsSpoiled z = Spoiled low (min (reg_in y 2) high) y z
 
   written_spoiled :
-      (at m : ℕ) (given : ℕ → ℕ) (z : ZcCore) → ((i : ℕ) → given i < 256) → low ≤ at → at + m ≤ reg_in y 2 → IsSpoiled z
+      (at m : ℕ) (given : ℕ → ℕ) (z : ZcCore) → ((i : ℕ) → given i < 256) → low ≤ at → at + m ≤ min (reg_in y 2) high → IsSpoiled z
       → IsSpoiled (record z { memory = changed (written at m given) z.memory })
   written_spoiled at m given z are lower upper k = record {
     rest = ap {A = ZcCore} {B = ZcCore} (λ x. record x { memory = changed (written at m given) z.memory }) k.rest;
     extents = extents-changed (written at m given) z.memory ∙ k.extents;
-    bytes = λ a out. others_kept low (reg_in y 2) at m given z lower upper a out ∙ k.bytes a out;
+    bytes = λ a out. others_kept low (min (reg_in y 2) high) at m given z lower upper a out ∙ k.bytes a out;
     are_bytes = written_are at m given z are k.are_bytes;
   }
 
-  free_below : (a : ℕ) (z : ZcCore) → IsSpoiled z → (lies_in is_stack (extents_of z.memory) a 1 && ltb a (reg_in z 2)) ≡ true → (low ≤ a) × (a + 1 ≤ reg_in y 2)
+  free_below : (a : ℕ) (z : ZcCore) → IsSpoiled z → (lies_in is_stack (extents_of z.memory) a 1 && ltb a (reg_in z 2)) ≡ true → (low ≤ a) × (a + 1 ≤ min (reg_in y 2) high)
   free_below a z k free =
       let q = and_parts (lies_in is_stack (extents_of z.memory) a 1) (ltb a (reg_in z 2)) free in
       let under = ltb-true a (reg_in z 2) q.1 in
       let sp : reg_in z 2 ≡ reg_in y 2 = ap (λ x. reg_in x 2) k.rest in
-      (stack a (ap (λ es. lies_in is_stack es a 1) (sym k.extents) ∙ q.0), omega (arith, under, sp))
+      let within = stack a (ap (λ es. lies_in is_stack es a 1) (sym k.extents) ∙ q.0) in
+      (within.0, omega (arith, under, sp, within.1))
 
   dirtied_spoiled : (d : ℕ × ℕ) (z : ZcCore) → d.1 < 256 → IsSpoiled z → IsSpoiled (dirtied d z)
   dirtied_spoiled d z is_byte k = cond_both (lies_in is_stack (extents_of z.memory) d.0 1 && ltb d.0 (reg_in z 2)) (record z { memory = changed (written d.0 1 (λ i. d.1)) z.memory }) z IsSpoiled
@@ -152,10 +154,7 @@ module _ {p : Program} {e : Image} (room : Room p e) where
           (where_is a);
       table = λ elsewhere. ap (λ x. x.jvt) sp.rest ∙ al.table elsewhere;
     };
-    sp = rw (same 2) al.sp;
-    low = rw (same 2) al.low;
-    high = rw (same 2) al.high;
-    below = λ a l lt. al.below a l (rw (same 2) at lt);
+    below = al.below;
   }
     where
       same : (r : ℕ) → reg_in z r ≡ reg_in y r
@@ -167,6 +166,8 @@ module _ {p : Program} {e : Image} (room : Room p e) where
           (λ above. inr (λ _. above))
           (cases_lt a n)
 
-  -- bytes below sp are not known
-  pub spoiled_below : {Named : Place → Type 0} {s : PlainCore} {y z : ZcCore} → Spoiled p.map.stack_low (reg_in y 2) y z → Alike p Named e s y → Alike p Named e s z
-  spoiled_below {s} {y} {z} sp al = spoiled_alike (reg_in y 2) al.high al.below sp al
+  -- what interrupts may write isn't known
+  pub spoiled_below :
+      {Named : Place → Type 0} {s : PlainCore} {y z : ZcCore} → Spoiled p.map.stack_low (free_end p.map y) y z → Alike p Named e s y → Alike p Named e s z
+  spoiled_below {y = y} sp al =
+      spoiled_alike (free_end p.map y) (omega arith) (λ a low free. al.below a low (below_mark al a free)) sp al

@@ -1,15 +1,16 @@
 -- Accesses to devices. The program is stuck there by itself, since its load or store reaches no memory, and a device answers. The
 -- image's memory lies within the map, and devices outside it: so the machine reaches no memory either, and asks the same device for the
--- same bytes at the same address.
-use Rattle.std.specs.Option.{option_and_then, option_map}
-use Rattle.std.proofs.Common.{◌≡◌, ℕ, ◌+◌, ◌%◌, ◌^◌, ◌<◌, ◌≤◌, List, [], ◌∷◌, ◌++◌, length, min, take, drop, Option, Some, None, Ok, Err, Bool, true, false, cond, refl, sym, ap, ap₂, ◌∙◌, subst, inl, inr, ⊎_elim, arith, eqb, leb, ℤ}
+-- same bytes at the same address. A store may send the address of a place, which is the word that the machine stores.
+use Rattle.std.specs.Option.{option_and_then, option_map, option_map_or, option_or}
+use Rattle.std.proofs.Common.{◌≡◌, ℕ, ◌+◌, ◌%◌, ◌^◌, ◌<◌, ◌≤◌, List, [], ◌∷◌, ◌++◌, length, map, min, take, drop, Option, Some, None, Ok, Err, Bool, true, false, cond, refl, sym, ap, ap₂, ◌∙◌, subst, inl, inr, ⊎_elim, arith, eqb, leb, ℤ}
 use Rattle.std.specs.Prelude.{◌&&◌, ◌⊎◌, All}
 use Rattle.std.proofs.lemmas.Bool.{and_parts, cases_Bool, cond-false, cond-true, eq-eqb, eqb-true, leb-true, or_cases}
 use Rattle.std.proofs.lemmas.List.Elements.{All-head, All-tail}
 use Rattle.std.proofs.lemmas.Option.{same_Some}
+use Rattle.zc_base.specs.Fields.{word_bytes}
 use Rattle.zc_base.specs.declared.mem_map.MemMap.{MemMap}
 use Rattle.zc_base.specs.declared.place.Place.{Place}
-use Rattle.interrupt_plan.specs.Plan.{AreInterrupts, Interrupt}
+use Rattle.interrupt_plan.specs.Plan.{Interrupt}
 use Rattle.psabi_reloc.specs.Parts.{lo12_of}
 use Rattle.psabi_sym.specs.declared.target.Target.{Target}
 use Rattle.psabi_reloc.specs.Patched.{with_imm}
@@ -22,45 +23,58 @@ use Rattle.rv_decode.specs.declared.instr.StoreOp.TheVariants.{Sb, Sh, Sw}
 use Rattle.rv_decode.specs.Bits.{add32}
 use Rattle.rv_decode.specs.declared.device_access.DeviceAccess.{DeviceAccess}
 use Rattle.rv_decode.specs.declared.device_access.DeviceAccess.TheVariants as access
-use Rattle.rv_decode.specs.Devices.{AreOutside, Device, in_devices, number_from, sent_bytes, widened}
+use Rattle.rv_decode.specs.Devices.{AreOutside, Device, IsOutside, Range, Registers, in_devices, number_from, sent_bytes, widened}
 use Rattle.rv_decode.specs.Effect.{Commits, Effect, Outside, attempting, effect, gives, load_result, load_width, onward, store_width, stored}
 use Rattle.rv_decode.specs.Memory.{byte_of, extents_of, is_data, lies_in}
-use Rattle.rv_decode.specs.State.{Event, Load, Store, ZcCore, ZcState, reg_in, set_reg}
+use Rattle.rv_decode.specs.State.{Load, Store, ZcCore, ZcState, reg_in, set_reg}
 use Rattle.block_cut.specs.declared.item.Item.{Item}
 use Rattle.block_cut.specs.declared.item.Item.TheVariants.{Op, Hi, Lo, PcHi, PcLo, Branch, Jump, Call, Align, Word, Raw, RawShort, RawPair}
 use Rattle.sym_machine.specs.declared.word.SymByte.{SymByte}
 use Rattle.sym_machine.specs.declared.word.SymByte.TheVariants.{Num, Part, Undef}
 use Rattle.sym_machine.specs.declared.word.SymWord.{SymWord}
 use Rattle.sym_machine.specs.AddressParts.{low_sum, pc_low_sum, pc_target}
-use Rattle.sym_machine.specs.Change.{Change, base_register, continues, stored_bytes, then_number}
-use Rattle.sym_machine.specs.Devices.{device_address, device_by_sum, device_does, device_load, device_store, byte_numbers}
+use Rattle.sym_machine.specs.Change.{Change, Goes, base_register, continues, stored_bytes, then_number}
+use Rattle.sym_machine.specs.Devices.{byte_numbers, device_address, device_by_sum, device_does, device_load, device_store, store_event, stored_code}
+use Rattle.sym_machine.specs.Events.{SymEvent, Numeric, StoresCode, event_in}
 use Rattle.sym_machine.specs.Program.{Program}
 use Rattle.sym_machine.specs.State.{PlainState, reg_of}
-use Rattle.sym_machine.specs.Step.{after_change}
-use Rattle.sym_machine.specs.Words.{number_of, number_word, sum_word}
+use Rattle.sym_machine.specs.Words.{code_of, number_of, number_word, sum_word}
 use Rattle.sym_machine.specs.declared.word.Value.{Value}
-use Rattle.sym_machine.proofs.RunLaws.{Answered}
-use Rattle.sym_machine.proofs.StepLaws.{Ended}
-use Rattle.zc_machine.specs.declared.reason.Reason.TheVariants.{BadAccess}
-use Rattle.zc_machine.specs.Run.{committed, device_answers, is_answered, zc_turn}
+use Rattle.zc_machine.specs.Run.{committed, device_answers, is_answered, unanswered, zc_turn}
 use Rattle.zc_machine.specs.Step.{effect_step}
 use Rattle.zc_link.specs.Image.{Image, loaded_core}
 use Rattle.zc_link.specs.IsSimulation.{Comes}
 use Rattle.zc_link.specs.Invariants.Room.{Room}
-use Rattle.zc_link.specs.Sound.{Ready, Sound}
+use Rattle.zc_link.specs.Sound.{Ready}
 use Rattle.zc_link.specs.Stands.{ByteStands, WordStands}
 use Rattle.zc_link.specs.Invariants.Stretches.{AloneLaid, ItemLaid, OneLaid}
 use Rattle.zc_link.specs.Meant.{way_on}
 use Rattle.zc_link.specs.Values.{target_value, value_in, way}
-use Rattle.zc_link.proofs.Addresses.{low_stands, pc_low_stands}
+use Rattle.zc_link.proofs.Addresses.{code_is, low_stands, pc_low_stands}
 use Rattle.zc_link.proofs.Buffers.{taken_bytes}
-use Rattle.zc_link.proofs.Commits.{after_cuts, zc_turns-one}
-use Rattle.zc_link.proofs.Ends.{ends_alike}
+use Rattle.zc_link.proofs.Commits.{after_cuts}
+use Rattle.zc_link.proofs.DeviceSteps.{FromAnswered, answer_comes, goes_same, number_below}
 use Rattle.zc_link.proofs.Ready.{ready_fed, ready_moved, ready_set}
 use Rattle.zc_link.proofs.MeantLaws.{laid_by, way_found}
 use Rattle.zc_link.proofs.Relocated.{base_low}
 use Rattle.zc_link.proofs.Singles.{below_top}
+use Rattle.zc_link.proofs.SystemSteps.{named_system, system_comes}
 use Rattle.zc_link.proofs.Words.{number_is, number_names, number_stands, sum_stands}
+
+-- ---- options
+
+mapped : {A B : Type 0} (f : A → B) (o : Option A) (y : B) → option_map f o ≡ Some y → (x : A) × (o ≡ Some x) × (f x ≡ y)
+mapped f None y h = absurd cc
+mapped f (Some x) y h = (x, refl, cc)
+
+then_some : {A B : Type 0} (f : A → Option B) (o : Option A) (y : B) → option_and_then f o ≡ Some y → (x : A) × (o ≡ Some x) × (f x ≡ Some y)
+then_some f None y h = absurd cc
+then_some f (Some x) y h = (x, refl, h)
+
+-- a change that goes on
+goes_of : (o : Option Change) (c : Change) → option_map Goes o ≡ Some (Goes c) → o ≡ Some c
+goes_of None c h = absurd cc
+goes_of (Some d) c h = ap Some (goes_same d c (same_Some (Goes d) (Goes c) h))
 
 -- ---- where a device lies
 
@@ -68,13 +82,14 @@ use Rattle.zc_link.proofs.Words.{number_is, number_names, number_stands, sum_sta
 outside_map :
     (map : MemMap) (ds : List Device) (a n : ℕ) → AreOutside map ds → in_devices ds a n ≡ true → (a + n ≤ map.text) ⊎ (map.stack_high ≤ a)
 outside_map map [] a n outside h = absurd cc
-outside_map map (d ∷ ds) a n outside h = ⊎_elim
+outside_map map (Registers ∷ ds) a n outside h = outside_map map ds a n (All-tail (IsOutside map) Registers ds outside) h
+outside_map map (Range d ∷ ds) a n outside h = ⊎_elim
     (λ here.
     let q = and_parts (leb d.at a) (leb (a + n) (d.at + d.size)) here in
     let low = leb-true d.at a q.0 in
     let high = leb-true (a + n) (d.at + d.size) q.1 in
-    ⊎_elim (λ below. inl (omega (arith, high, below))) (λ above. inr (omega (arith, low, above))) (All-head (λ x. (x.at + x.size ≤ map.text) ⊎ (map.stack_high ≤ x.at)) d ds outside))
-    (λ later. outside_map map ds a n (All-tail (λ x. (x.at + x.size ≤ map.text) ⊎ (map.stack_high ≤ x.at)) d ds outside) later)
+    ⊎_elim (λ below. inl (omega (arith, high, below))) (λ above. inr (omega (arith, low, above))) (All-head (IsOutside map) (Range d) ds outside))
+    (λ later. outside_map map ds a n (All-tail (IsOutside map) (Range d) ds outside) later)
     (or_cases (leb d.at a && leb (a + n) (d.at + d.size)) (in_devices ds a n) h)
 
 -- so they are no memory of the image
@@ -113,32 +128,6 @@ reached ds base n (Some m) a h = by (eqb base 2) (eqb (m % n) 0) (in_devices ds 
         }
 
 -- ---- numbers that are loaded
-
-abbrev IsByte : ℕ → Type 0
-IsByte b = b < 256
-
-number_below : (bytes : List ℕ) → All (λ b. b < 256) bytes → (length bytes ≤ 1 → number_from bytes < 256) × (length bytes ≤ 2 → number_from bytes < 65536) × (length bytes ≤ 4 → number_from bytes < 2 ^ 32)
-number_below [] are = (λ _. omega arith, λ _. omega arith, λ _. omega arith)
-number_below (a ∷ []) are = let x = All-head IsByte a [] are in (λ _. omega (arith, x), λ _. omega (arith, x), λ _. omega (arith, x))
-number_below (a ∷ b ∷ []) are =
-    let x = All-head IsByte a (b ∷ []) are in
-    let y = All-head IsByte b [] (All-tail IsByte a (b ∷ []) are) in
-    (λ few. absurd (omega (arith, few)), λ _. omega (arith, x, y), λ _. omega (arith, x, y))
-number_below (a ∷ b ∷ c ∷ []) are =
-    let x = All-head IsByte a (b ∷ c ∷ []) are in
-    let rest = All-tail IsByte a (b ∷ c ∷ []) are in
-    let y = All-head IsByte b (c ∷ []) rest in
-    let z = All-head IsByte c [] (All-tail IsByte b (c ∷ []) rest) in
-    (λ few. absurd (omega (arith, few)), λ few. absurd (omega (arith, few)), λ _. omega (arith, x, y, z))
-number_below (a ∷ b ∷ c ∷ d ∷ []) are =
-    let x = All-head IsByte a (b ∷ c ∷ d ∷ []) are in
-    let rest = All-tail IsByte a (b ∷ c ∷ d ∷ []) are in
-    let y = All-head IsByte b (c ∷ d ∷ []) rest in
-    let last = All-tail IsByte b (c ∷ d ∷ []) rest in
-    let z = All-head IsByte c (d ∷ []) last in
-    let w = All-head IsByte d [] (All-tail IsByte c (d ∷ []) last) in
-    (λ few. absurd (omega (arith, few)), λ few. absurd (omega (arith, few)), λ _. omega (arith, x, y, z, w))
-number_below (a ∷ b ∷ c ∷ d ∷ x ∷ rest) are = (λ few. absurd (omega (arith, few)), λ few. absurd (omega (arith, few)), λ few. absurd (omega (arith, few)))
 
 -- what a load makes of them is a word
 widened_below : (op : LoadOp) (bytes : List ℕ) → All (λ b. b < 256) bytes → length bytes ≤ load_width op → widened op (number_from bytes) < 2 ^ 32
@@ -185,6 +174,36 @@ sends V Sw w n all st h =
     let four = first_is V w.b3 (byte_of n 3) (Some []) three.numbers st.b3 three.later in
     one.is ∙ ap₂ (λ b l. b ∷ l) (lowest n) (two.is ∙ ap (λ l. byte_of n 1 ∷ l) (three.is ∙ ap (λ l. byte_of n 2 ∷ l) (four.is ∙ ap (λ l. byte_of n 3 ∷ l) (none_left four.numbers four.later))))
 
+-- the event of a store that sends numbers
+numbers_told :
+    (V : Value → Option ℕ) (A : Place → Option ℕ) (op : StoreOp) (w : SymWord) (n a : ℕ) (numbers : List ℕ) (event : SymEvent) → WordStands V w n
+    → byte_numbers (stored_bytes op w) ≡ Some numbers → Some (Numeric (Store a numbers)) ≡ Some event → event_in A event ≡ Store a (sent_bytes op n)
+numbers_told V A op w n a numbers event st are is =
+    ap (event_in A) (sym (same_Some (Numeric (Store a numbers)) event is)) ∙ ap (Store a) (sends V op w n numbers st are)
+
+-- of one that sends a place's address
+code_told :
+    {p : Program} {e : Image} → Room p e → (op : StoreOp) (w : SymWord) (n a : ℕ) (event : SymEvent) → n < 2 ^ 32 → WordStands (value_in p e.address) w n
+    → option_map (StoresCode a) (stored_code op w) ≡ Some event → event_in e.address event ≡ Store a (sent_bytes op n)
+code_told room Sb w n a event small st is = absurd cc
+code_told room Sh w n a event small st is = absurd cc
+code_told {p} {e} room Sw w n a event small st is =
+    let code = mapped (StoresCode a) (code_of w) event is in
+    ap (event_in e.address) (sym code.2)
+    ∙ ap (λ o. Store a (word_bytes (option_map_or (λ x. x) o 0))) (code_is room w n code.0 small st code.1)
+
+-- of any
+store_told :
+    {p : Program} {e : Image} → Room p e → (op : StoreOp) (w : SymWord) (n a : ℕ) (event : SymEvent) → n < 2 ^ 32 → WordStands (value_in p e.address) w n
+    → store_event op w a ≡ Some event → event_in e.address event ≡ Store a (sent_bytes op n)
+store_told {p} {e} room op w n a event small st h = by (byte_numbers (stored_bytes op w)) refl h
+  where
+    by : (o : Option (List ℕ)) → byte_numbers (stored_bytes op w) ≡ o
+        → option_or (option_map (λ numbers. Numeric (Store a numbers)) o) (option_map (StoresCode a) (stored_code op w)) ≡ Some event
+        → event_in e.address event ≡ Store a (sent_bytes op n)
+    by (Some numbers) are is = numbers_told (value_in p e.address) e.address op w n a numbers event st are is
+    by None none is = code_told room op w n a event small st is
+
 some_load : (op : LoadOp) → 0 < load_width op
 some_load Lb = omega arith
 some_load Lh = omega arith
@@ -197,26 +216,7 @@ some_store Sb = omega arith
 some_store Sh = omega arith
 some_store Sw = omega arith
 
--- ---- options
-
-mapped : {A B : Type 0} (f : A → B) (o : Option A) (y : B) → option_map f o ≡ Some y → (x : A) × (o ≡ Some x) × (f x ≡ y)
-mapped f None y h = absurd cc
-mapped f (Some x) y h = (x, refl, cc)
-
-then_some : {A B : Type 0} (f : A → Option B) (o : Option A) (y : B) → option_and_then f o ≡ Some y → (x : A) × (o ≡ Some x) × (f x ≡ Some y)
-then_some f None y h = absurd cc
-then_some f (Some x) y h = (x, refl, h)
-
 -- ---- the step of both
-
--- a sound pair, a step from it that a device answers, and interrupts before each commit
-pub record FromAnswered (p : Program) (Named : Place → Type 0) (e : Image) (r r' : PlainState) (cuts : ℕ → List Interrupt) (z : ZcState) : Type 0 where
-  pub sound : Sound p Named e r.core z
-  pub same : z.events ≡ r.events
-  pub devices : z.devices ≡ r.devices
-  pub outside : AreOutside p.map r.devices
-  pub are : AreInterrupts cuts
-  pub step : Answered p r r'
 
 module _ {p : Program} {Named : Place → Type 0} {e : Image} {r r' : PlainState} {cuts : ℕ → List Interrupt} {z : ZcState} (room : Room p e) (from : FromAnswered p Named e r r' cuts z) where
   -- an access outside memory is a device's
@@ -231,26 +231,7 @@ module _ {p : Program} {Named : Place → Type 0} {e : Image} {r r' : PlainState
       let yes : is_answered z.devices x ≡ true = answers ∙ ap (λ ds. in_devices ds a n) from.devices ∙ device in
       turn
       ∙ ap (λ f. committed (effect_step f now) (record z { core = now })) (laid.same laid.at.size now ∙ does ∙ out)
-      ∙ cond-true (is_answered z.devices x) (Ok (device_answers x (record z { core = now }))) (Err BadAccess) yes
-
-  -- the answer leaves states that are ready, with an event
-  answer_comes :
-      (c : Change) (event : Event) (core : ZcCore) (left : List ℕ) → c ≡ from.step.change → c.place ≡ p.next r.core.place → c.events ≡ event ∷ []
-      → zc_turn (cuts 0) z ≡ Ok (record z { core = core; input = left; events = z.events ++ event ∷ [] })
-      → e.address (p.next r.core.place) ≡ Some core.pc → drop c.taken r.core.input ≡ left → Ready p Named e (after_change c r.core) core → Comes p Named e cuts 1 z r'
-  answer_comes c event core left made place events turn listed input ready =
-      let end = subst (λ x. Ended p.map (after_change x r.core) r'.core) (sym made) from.step.end in
-      let z1 : ZcState = record z { core = core; input = left; events = z.events ++ event ∷ [] } in
-      record {
-        after = z1;
-        runs = zc_turns-one cuts z z1 turn;
-        together = inl record {
-          alike = ends_alike end ready;
-          input = ap (λ s. s.input) end.state ∙ input;
-          place = ap (λ s. e.address s.place) end.state ∙ ap e.address place ∙ listed;
-        };
-        events = ap (λ l. l ++ event ∷ []) from.same ∙ sym (from.step.events ∙ ap (λ (x : Change). r.events ++ x.events) (sym made) ∙ ap (λ l. r.events ++ l) events);
-      }
+      ∙ cond-true (is_answered z.devices x) (Ok (device_answers x (record z { core = now }))) (Err (unanswered x)) yes
 
   -- a load
   load_comes :
@@ -278,7 +259,7 @@ module _ {p : Program} {Named : Place → Type 0} {e : Image} {r r' : PlainState
       let turn : zc_turn (cuts 0) z ≡ Ok (device_answers (access.Load op a rd size) (record z { core = now })) =
       asks laid now n a (access.Load op a rd size) _ y.alike.extents y.turn
       (ap (λ b. effect_at op rd size now b) (sym same)) (some_load op) at.aligned at.device refl in
-      answer_comes (device_load op rd s next a) (Load a n bytes) core (drop n z.input) found.2 refl refl
+      answer_comes from (device_load op rd s next a) (Numeric (Load a n bytes)) core (drop n z.input) found.2 refl refl
       (turn ∙ ap (λ l. Ok (record z { core = onward now size (set_reg now.regs rd (widened op (number_from l))); input = drop n z.input; events = z.events ++ Load a n l ∷ [] })) (sym t.same))
       (laid.next ∙ ap Some (below_top z.core.pc now.pc size y.pc laid.at.small)) t.rest
       (ready_moved (ready_fed (ready_set y.alike.ready rd v (number_word v) small (number_stands V v) (number_names Named v)) count) next _ _)
@@ -299,19 +280,21 @@ module _ {p : Program} {Named : Place → Type 0} {e : Image} {r r' : PlainState
       let n = store_width op in
       let y = after_cuts room (cuts 0) (from.are 0) laid.at from.sound.alike in
       let now = y.now in
-      let found = then_some (device_store (stored_bytes op (reg_of s source)) next) (device_address r.devices base n (number_of w)) from.step.change h in
+      let found = then_some (device_store op (reg_of s source) next) (device_address r.devices base n (number_of w)) from.step.change h in
       let a : ℕ = found.0 in
       let at = reached r.devices base n (number_of w) a found.1 in
       let same : a ≡ add32 (reg_in now base) k = number_is V w (add32 (reg_in now base) k) a (omega arith) (stands now y.alike.ready) at.is in
-      let store = mapped (λ numbers. record (continues next) { events = Store a numbers ∷ [] }) (byte_numbers (stored_bytes op (reg_of s source))) from.step.change found.2 in
+      let store = mapped (λ event. record (continues next) { events = event ∷ [] }) (store_event op (reg_of s source) a) from.step.change found.2 in
+      let event : SymEvent = store.0 in
       let word : ℕ = reg_in now source in
-      let told : store.0 ≡ sent_bytes op word = sends V op (reg_of s source) word store.0 (y.alike.registers source low) store.1 in
+      let told : event_in e.address event ≡ Store a (sent_bytes op word) =
+      store_told room op (reg_of s source) word a event (y.alike.core.words source) (y.alike.registers source low) store.1 in
       let core : ZcCore = onward now size now.regs in
       let turn : zc_turn (cuts 0) z ≡ Ok (device_answers (access.Store op a word size) (record z { core = now })) =
       asks laid now n a (access.Store op a word size) _ y.alike.extents y.turn
       (ap (λ b. effect_at op word size now b) (sym same)) (some_store op) at.aligned at.device refl in
-      answer_comes (record (continues next) { events = Store a store.0 ∷ [] }) (Store a store.0) core z.input store.2 refl refl
-      (turn ∙ ap (λ l. Ok (record z { core = core; input = z.input; events = z.events ++ Store a l ∷ [] })) (sym told))
+      answer_comes from (record (continues next) { events = event ∷ [] }) event core z.input store.2 refl refl
+      (turn ∙ ap (λ x. Ok (record z { core = core; input = z.input; events = z.events ++ x ∷ [] })) (sym told))
       (laid.next ∙ ap Some (below_top z.core.pc now.pc size y.pc laid.at.small)) from.sound.input
       (ready_moved y.alike.ready next _ _)
     where
@@ -324,13 +307,13 @@ module _ {p : Program} {Named : Place → Type 0} {e : Image} {r r' : PlainState
   sum_comes :
       (i : Instr) (k : ℤ) (w : SymWord) (laid : AloneLaid p e r.core.place z.core.pc (with_imm i k))
       → ((y : ZcCore) → Ready p Named e r.core y → WordStands (value_in p e.address) w (add32 (reg_in y (base_register i)) k))
-      → device_by_sum r.devices i w r.core (p.next r.core.place) ≡ Some from.step.change → Comes p Named e cuts 1 z r'
+      → option_map Goes (device_by_sum r.devices i w r.core (p.next r.core.place)) ≡ Some (Goes from.step.change) → Comes p Named e cuts 1 z r'
   sum_comes (instr.Upper op rd imm) k w laid stands h = absurd cc
   sum_comes (instr.Jal rd distance) k w laid stands h = absurd cc
   sum_comes (instr.Jalr rd base imm) k w laid stands h = absurd cc
   sum_comes (instr.Branch op first second distance) k w laid stands h = absurd cc
-  sum_comes (instr.Load op rd base imm) k w laid stands h = load_comes op rd base k w laid stands h
-  sum_comes (instr.Store op source base imm) k w laid stands h = store_comes op source base k w laid.registers.0 laid stands h
+  sum_comes (instr.Load op rd base imm) k w laid stands h = load_comes op rd base k w laid stands (goes_of _ from.step.change h)
+  sum_comes (instr.Store op source base imm) k w laid stands h = store_comes op source base k w laid.registers.0 laid stands (goes_of _ from.step.change h)
   sum_comes (instr.WithImm op rd first imm) k w laid stands h = absurd cc
   sum_comes (instr.WithReg op rd first second) k w laid stands h = absurd cc
   sum_comes (instr.Fence rest) k w laid stands h = absurd cc
@@ -340,7 +323,7 @@ module _ {p : Program} {Named : Place → Type 0} {e : Image} {r r' : PlainState
 
   -- an instruction without relocation
   op_comes :
-      (i : Instr) → AloneLaid p e r.core.place z.core.pc i → device_does r.devices p (Some (Op i)) r.core (p.next r.core.place) ≡ Some from.step.change
+      (i : Instr) → AloneLaid p e r.core.place z.core.pc i → device_does r.devices p (Some (Op i)) r.core (p.next r.core.place) ≡ Some (Goes from.step.change)
       → Comes p Named e cuts 1 z r'
   op_comes (instr.Upper op rd imm) laid h = absurd cc
   op_comes (instr.Jal rd distance) laid h = absurd cc
@@ -348,10 +331,10 @@ module _ {p : Program} {Named : Place → Type 0} {e : Image} {r r' : PlainState
   op_comes (instr.Branch op first second distance) laid h = absurd cc
   op_comes (instr.Load op rd base imm) laid h =
       load_comes op rd base imm (sum_word (reg_of r.core base) imm) laid
-      (λ y ready. sum_stands (value_in p e.address) (reg_of r.core base) imm (reg_in y base) (ready.core.words base) (ready.registers base laid.registers.1)) h
+      (λ y ready. sum_stands (value_in p e.address) (reg_of r.core base) imm (reg_in y base) (ready.core.words base) (ready.registers base laid.registers.1)) (goes_of _ from.step.change h)
   op_comes (instr.Store op source base imm) laid h =
       store_comes op source base imm (sum_word (reg_of r.core base) imm) laid.registers.0 laid
-      (λ y ready. sum_stands (value_in p e.address) (reg_of r.core base) imm (reg_in y base) (ready.core.words base) (ready.registers base laid.registers.1)) h
+      (λ y ready. sum_stands (value_in p e.address) (reg_of r.core base) imm (reg_in y base) (ready.core.words base) (ready.registers base laid.registers.1)) (goes_of _ from.step.change h)
   op_comes (instr.WithImm op rd first imm) laid h = absurd cc
   op_comes (instr.WithReg op rd first second) laid h = absurd cc
   op_comes (instr.Fence rest) laid h = absurd cc
@@ -361,7 +344,7 @@ module _ {p : Program} {Named : Place → Type 0} {e : Image} {r r' : PlainState
 
   -- one with the lower part of an address
   lo_comes :
-      (i : Instr) (t : Target) → OneLaid p e r.core.place z.core.pc (Lo i t) → device_does r.devices p (Some (Lo i t)) r.core (p.next r.core.place) ≡ Some from.step.change
+      (i : Instr) (t : Target) → OneLaid p e r.core.place z.core.pc (Lo i t) → device_does r.devices p (Some (Lo i t)) r.core (p.next r.core.place) ≡ Some (Goes from.step.change)
       → Comes p Named e cuts 1 z r'
   lo_comes i t l h =
       let m = laid_by l (λ x. with_imm i (lo12_of x)) (target_value e.address t) l.is in
@@ -371,7 +354,7 @@ module _ {p : Program} {Named : Place → Type 0} {e : Image} {r r' : PlainState
 
   -- one with the lower part of the distance from another place
   pc_lo_comes :
-      (i : Instr) (q : Place) → OneLaid p e r.core.place z.core.pc (PcLo i q) → device_does r.devices p (Some (PcLo i q)) r.core (p.next r.core.place) ≡ Some from.step.change
+      (i : Instr) (q : Place) → OneLaid p e r.core.place z.core.pc (PcLo i q) → device_does r.devices p (Some (PcLo i q)) r.core (p.next r.core.place) ≡ Some (Goes from.step.change)
       → Comes p Named e cuts 1 z r'
   pc_lo_comes i q l h =
       let m = laid_by l (λ w. with_imm i (lo12_of w)) (way_on e.address p.item q) l.is in
@@ -383,7 +366,7 @@ module _ {p : Program} {Named : Place → Type 0} {e : Image} {r r' : PlainState
       (λ y ready. pc_low_stands room q f.to f.address f.value (reg_of r.core base) (reg_in y base) (ready.core.words base) f.leads f.listed f.has (ready.registers base (base_low i k laid.registers))) h
 
   pub device_comes :
-      (o : Option Item) → ItemLaid p e r.core.place z.core.pc o → device_does r.devices p o r.core (p.next r.core.place) ≡ Some from.step.change
+      (o : Option Item) → ItemLaid p e r.core.place z.core.pc o → device_does r.devices p o r.core (p.next r.core.place) ≡ Some (Goes from.step.change)
       → Comes p Named e cuts 1 z r'
   device_comes None laid h = absurd cc
   device_comes (Some (Op i)) l h = op_comes i (subst (AloneLaid p e r.core.place z.core.pc) (sym (same_Some i l.instr l.is)) l.laid) h
@@ -396,6 +379,8 @@ module _ {p : Program} {Named : Place → Type 0} {e : Image} {r r' : PlainState
   device_comes (Some (Call rd temp to)) laid h = absurd cc
   device_comes (Some (Align bytes)) laid h = absurd cc
   device_comes (Some (Word t)) laid h = absurd cc
-  device_comes (Some (Raw word)) laid h = absurd cc
+  device_comes (Some (Raw word)) laid h =
+      let known = named_system r.devices p word r.core (p.next r.core.place) (Goes from.step.change) h in
+      system_comes room from word (laid known.system) known.system known.registers known.does
   device_comes (Some (RawShort half)) laid h = absurd cc
   device_comes (Some (RawPair first second)) laid h = absurd cc

@@ -15,9 +15,10 @@ use Rattle.sym_machine.specs.declared.why.Why.{Why}
 use Rattle.sym_machine.specs.declared.why.Why.TheVariants.{ArgumentUnknown, BadAddress, UnknownCall}
 use Rattle.sym_machine.specs.declared.word.SymByte.TheVariants.{Num}
 use Rattle.sym_machine.specs.Change.{Change, Does, Goes, Stops, arguments_of, call_does, exit_does, sets, is_buffer, is_output, numbers_at, continues, read_does, with_buffer, write_does}
+use Rattle.sym_machine.specs.Events.{Numeric}
 use Rattle.sym_machine.specs.Program.{Program}
 use Rattle.sym_machine.specs.State.{PlainState, reg_of}
-use Rattle.sym_machine.specs.Step.{after_change}
+use Rattle.sym_machine.specs.Step.{after_change, is_set}
 use Rattle.sym_machine.specs.Words.{number_of, number_word}
 use Rattle.zc_machine.specs.declared.answer.EnvCall.{EnvCall}
 use Rattle.zc_machine.specs.declared.answer.EnvCall.TheVariants as call
@@ -36,6 +37,7 @@ use Rattle.zc_link.proofs.Buffers.{IsBuffer, buffer_lies, numbers_are, read_agre
 use Rattle.zc_link.proofs.Commits.{AfterCuts, after_cuts, zc_turns-one}
 use Rattle.sym_machine.proofs.StepLaws.{Ended}
 use Rattle.zc_link.proofs.Ends.{ends_alike, ends_stands}
+use Rattle.zc_link.proofs.EventLaws.{events_added}
 use Rattle.zc_link.proofs.Ready.{ready_fed, ready_moved, ready_set}
 use Rattle.zc_link.proofs.Singles.{FromSound, below_top}
 use Rattle.zc_link.proofs.Words.{number_is, number_names, number_stands}
@@ -72,12 +74,12 @@ module _
   -- ---- the exit
 
   abbrev exit_change : ℕ → Change
-  exit_change status = record (continues r.core.place) { exit = Some status; events = Exit status ∷ [] }
+  exit_change status = record (continues r.core.place) { exit = Some status; events = Numeric (Exit status) ∷ [] }
 
   -- the answer to it ends both
   exit_over :
-      (status : ℕ) → called w.now ≡ Wants (call.Exit status) → Ended p.map (after_change (exit_change status) r.core) r'.core
-      → r'.events ≡ r.events ++ Exit status ∷ [] → Comes p Named e cuts 1 z r'
+      (status : ℕ) → called w.now ≡ Wants (call.Exit status) → Ended p.map (is_set p.map r.core) (after_change (exit_change status) r.core) r'.core
+      → r'.events ≡ r.events ++ Numeric (Exit status) ∷ [] → Comes p Named e cuts 1 z r'
   exit_over status wants end events =
       let z1 : ZcState = record z { core = record w.now { exit = Some status; commits = w.now.commits + 1 }; events = z.events ++ Exit status ∷ [] } in
       record {
@@ -89,7 +91,7 @@ module _
           ended = refl;
           stands = ends_stands end (record { registers = w.alike.registers; memory = w.alike.memory; input = from.sound.input; place = λ running. absurd cc });
         };
-        events = ap (λ l. l ++ Exit status ∷ []) from.same ∙ sym events;
+        events = events_added e.address r.events r'.events z.events from.same (Numeric (Exit status) ∷ []) events;
       }
 
   -- with 93 in a7 the machine asks for an exit, with the low byte of a0
@@ -101,7 +103,7 @@ module _
   exit_comes (Some a0) is a7 h =
       let made = goes_same (exit_change (a0 % 256)) from.step.change h in
       exit_over (a0 % 256) (wants_exit a0 a7 (holds 10 a0 (omega arith) is))
-      (subst (λ c. Ended p.map (after_change c r.core) r'.core) (sym made) from.step.end)
+      (subst (λ c. Ended p.map (is_set p.map r.core) (after_change c r.core) r'.core) (sym made) from.step.end)
       (from.step.events ∙ ap (λ (c : Change). r.events ++ c.events) (sym made))
 
   -- ---- calls that go on
@@ -114,11 +116,11 @@ module _
 
   -- the environment's answer to a call leaves states that are ready, with an event
   answer_comes :
-      (c : Change) (event : Event) (core : ZcCore) (input : List ℕ) → c ≡ from.step.change → c.place ≡ p.next r.core.place → c.events ≡ event ∷ []
+      (c : Change) (event : Event) (core : ZcCore) (input : List ℕ) → c ≡ from.step.change → c.place ≡ p.next r.core.place → c.events ≡ Numeric event ∷ []
       → zc_turn (cuts 0) z ≡ Ok (record z { core = core; input = input; events = z.events ++ event ∷ [] })
       → core.pc ≡ (w.now.pc + 4) % 2 ^ 32 → drop c.taken r.core.input ≡ input → Ready p Named e (after_change c r.core) core → Comes p Named e cuts 1 z r'
   answer_comes c event core input made place events turn pc left ready =
-      let end : Ended p.map (after_change c r.core) r'.core = subst (λ x. Ended p.map (after_change x r.core) r'.core) (sym made) from.step.end in
+      let end : Ended p.map (is_set p.map r.core) (after_change c r.core) r'.core = subst (λ x. Ended p.map (is_set p.map r.core) (after_change x r.core) r'.core) (sym made) from.step.end in
       let z1 : ZcState = record z { core = core; input = input; events = z.events ++ event ∷ [] } in
       record {
         after = z1;
@@ -128,7 +130,9 @@ module _
           input = ap (λ s. s.input) end.state ∙ left;
           place = ap (λ s. e.address s.place) end.state ∙ ap e.address place ∙ next_listed ∙ ap Some (sym pc);
         };
-        events = ap (λ l. l ++ event ∷ []) from.same ∙ sym (from.step.events ∙ ap (λ (x : Change). r.events ++ x.events) (sym made) ∙ ap (λ l. r.events ++ l) events);
+        events =
+            events_added e.address r.events r'.events z.events from.same (Numeric event ∷ [])
+            (from.step.events ∙ ap (λ (x : Change). r.events ++ x.events) (sym made) ∙ ap (λ l. r.events ++ l) events);
       }
 
   -- ---- buffers
@@ -216,7 +220,7 @@ module _
       let n = min a.len (length s.input) in
       let bytes = take n s.input in
       let t = taken_bytes a.len s.input z.input from.sound.input in
-      let c : Change = record (continues (p.next s.place)) { writes = (10, number_word n) ∷ []; stores = (a.at, map Num bytes) ∷ []; taken = n; events = Read bytes ∷ [] } in
+      let c : Change = record (continues (p.next s.place)) { writes = (10, number_word n) ∷ []; stores = (a.at, map Num bytes) ∷ []; taken = n; events = Numeric (Read bytes) ∷ [] } in
       let made = goes_same c from.step.change b.does in
       let core = has_read bytes w.now in
       let low : n < 2 ^ 32 = omega (arith, w.alike.core.words 12, b.held.len) in
@@ -240,11 +244,11 @@ module _
       by b.arguments b.held b.is_known b.buffer (numbers_at r.core.memory b.arguments.at b.arguments.len) refl b.does
     where
       by : (a : Arguments) → AreHeld a → is_output a.a0 ≡ true → IsBuffer p a.at (reg_in w.now 11) a.len → (o : Option (List ℕ)) → numbers_at r.core.memory a.at a.len ≡ o
-          → option_map_or (λ bytes. Goes (record (sets 10 (number_word a.len) (p.next r.core.place)) { events = Write a.a0 bytes ∷ [] })) o (Stops ArgumentUnknown) ≡ Goes from.step.change → Comes p Named e cuts 1 z r'
+          → option_map_or (λ bytes. Goes (record (sets 10 (number_word a.len) (p.next r.core.place)) { events = Numeric (Write a.a0 bytes) ∷ [] })) o (Stops ArgumentUnknown) ≡ Goes from.step.change → Comes p Named e cuts 1 z r'
       by a held known buffer None is g = absurd (stops_not g)
       by a held known buffer (Some bytes) is g =
           let V = value_in p e.address in
-          let c : Change = record (sets 10 (number_word a.len) (p.next r.core.place)) { events = Write a.a0 bytes ∷ [] } in
+          let c : Change = record (sets 10 (number_word a.len) (p.next r.core.place)) { events = Numeric (Write a.a0 bytes) ∷ [] } in
           let made = goes_same c from.step.change g in
           let same : bytes ≡ bytes_at w.now (reg_in w.now 11) a.len = numbers_are room w.alike.ready a.at (reg_in w.now 11) a.len bytes buffer is in
           let number : WordStands V (number_word a.len) (reg_in w.now 12) = subst (λ n. WordStands V (number_word n) (reg_in w.now 12)) (sym held.len) (number_stands V (reg_in w.now 12)) in

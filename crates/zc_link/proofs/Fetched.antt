@@ -1,19 +1,21 @@
 -- What is fetched from the text of an image: the instruction of a word, or one with the same effect whose short form a halfword
--- is; and padding.
+-- is; padding; and words that are no instruction.
 use Rattle.std.proofs.Common.{◌≡◌, ◌≢◌, ℕ, zero, suc, pos, ◌+◌, ◌-◌, ◌*◌, ◌/◌, ◌%◌, ◌^◌, ◌<◌, ◌≤◌, inl, inr, List, [], ◌++◌, length, drop, Option, Some, None, Bool, true, false, cond, eqb, refl, sym, ap, ◌∙◌, subst, arith, get_or, length-append}
 use Rattle.std.specs.Option.{option_flatten, option_map}
-use Rattle.std.proofs.lemmas.Bool.{eqb-false, eqb-true}
+use Rattle.std.proofs.lemmas.Bool.{cond-true, eq-eqb, eqb-false, eqb-true}
 use Rattle.std.proofs.lemmas.List.{get_or-append-add, get_or_append_left, get_or-drop, get_or-take, length-drop, length-take-le}
 use Rattle.zc_base.specs.Fields.{half_bytes, word_bytes}
 use Rattle.elf32_write.specs.Parts.{Parts}
 use Rattle.rv_decode.specs.Bits.{field}
 use Rattle.rv_decode.specs.Decode.{decoded, row_of}
 use Rattle.rv_decode.specs.Normal.{SameEffect}
-use Rattle.rv_decode.specs.State.{byte_in, half_at, word_at}
+use Rattle.rv_decode.specs.Memory.{extents_of, is_text, lies_in}
+use Rattle.rv_decode.specs.State.{ZcCore, byte_in, half_at, word_at}
 use Rattle.rv_decode.specs.declared.instr.Instr.{Instr}
 use Rattle.rv_decode.specs.declared.instr.Instr.TheVariants as instr
 use Rattle.rv_decode.specs.declared.instr.ImmOp.TheVariants.{Addi}
 use Rattle.rv_decode.proofs.DecodeLaws.{decoded-low_bits}
+use Rattle.rv_decode.proofs.MemoryLaws.{lies_inside}
 use Rattle.rv_decode.proofs.RowLaws.{row_found}
 use Rattle.sym_machine.specs.Program.{Program}
 use Rattle.zc_decode.specs.Fields.{group_of}
@@ -22,11 +24,13 @@ use Rattle.zc_decode.specs.Rows.{form_of, groups}
 use Rattle.zc_decode.specs.declared.form.Form.{Form}
 use Rattle.zc_decode.specs.declared.short.Short.{Short}
 use Rattle.zc_decode.specs.declared.short.Short.TheVariants.{Base}
+use Rattle.zc_machine.specs.declared.reason.Reason.TheVariants.{Illegal}
+use Rattle.zc_machine.specs.Fetch.{Missing, fetched_at, found}
 use Rattle.zc_machine.proofs.FetchLaws.{fetched_long, fetched_short}
 use Rattle.zc_link.specs.Copied.{bytes_from}
 use Rattle.zc_link.specs.Image.{Image, loaded_core}
 use Rattle.zc_link.specs.Pace.{padding_commits}
-use Rattle.zc_link.specs.Invariants.Stretches.{Nops, OneAt}
+use Rattle.zc_link.specs.Invariants.Stretches.{Nops, OneAt, UnreadAt}
 use Rattle.zc_link.specs.Written.{IsSpelled, SpellsWord, copies, nop, padding, short_nop}
 use Rattle.zc_link.proofs.ImageMemory.{AreLaidOut, image_of, text_byte, text_lies}
 
@@ -62,6 +66,18 @@ nop_spells = refl
 short_nop_spells : decoded16 short_nop ≡ Some (Base (instr.WithImm Addi 0 0 (pos 0)))
 unfolding decoded16 form_of
 short_nop_spells = refl
+
+-- ---- words that are no instruction
+
+fetched_unread :
+    (z : ZcCore) (a word : ℕ) → lies_in is_text (extents_of z.memory) a 4 ≡ true → word_at z a ≡ word → field (half_at z a) 0 2 ≡ 3 → decoded word ≡ None
+    → fetched_at z a ≡ Missing Illegal
+fetched_unread z a word here is low d =
+    cond-true (lies_in is_text (extents_of z.memory) a 2) _ _ (lies_inside is_text (extents_of z.memory) a 4 a 2 here (omega arith) (omega arith))
+    ∙ cond-true (eqb (field (half_at z a) 0 2) 3) _ _ (eq-eqb (field (half_at z a) 0 2) 3 low)
+    ∙ cond-true (lies_in is_text (extents_of z.memory) a 4) _ _ here
+    ∙ ap (λ w. found (option_map Base (decoded w)) 4) is
+    ∙ ap (λ o. found (option_map Base o) 4) d
 
 -- ---- bytes in the image
 
@@ -107,26 +123,49 @@ module _ (p : Program) (parts : Parts) (out : AreLaidOut p parts) where
         ap (byte_in (loaded_core e)) sum ∙ st.each (length xs + j) (omega (arith, lt, length-append xs ys)) ∙ get_or-append-add xs ys j 0;
   }
 
+  -- the bytes of a word: it stands there, and so does its low half
+  pub record WordThere (a w : ℕ) : Type 0 where
+    pub lies : lies_in is_text (extents_of (loaded_core e).memory) a 4 ≡ true
+    pub is : word_at (loaded_core e) a ≡ w
+    pub low : field w 0 2 ≡ 3 → field (half_at (loaded_core e) a) 0 2 ≡ 3
+    pub small : a + 4 < 2 ^ 32
+
+  pub word_there : (a w : ℕ) → StandAt a (word_bytes w) → w < 2 ^ 32 → WordThere a w
+  word_there a w st small =
+      let map = out.is_map in
+      let short = out.short in
+      let high = st.high in
+      let b0 : byte_in (loaded_core e) a ≡ w % 256 = (let zero : a ≡ a + 0 = omega arith in ap (byte_in (loaded_core e)) zero ∙ st.each 0 (omega arith)) in
+      let b1 : byte_in (loaded_core e) (a + 1) ≡ w / 256 % 256 = st.each 1 (omega arith) in
+      let b2 : byte_in (loaded_core e) (a + 2) ≡ w / 65536 % 256 = st.each 2 (omega arith) in
+      let b3 : byte_in (loaded_core e) (a + 3) ≡ w / 16777216 % 256 = st.each 3 (omega arith) in
+      record {
+        lies = text_lies p parts out a 4 st.low (omega (arith, high));
+        is = omega (arith, b0, b1, b2, b3, small);
+        low = λ low. omega (arith, b0, b1, low);
+        small = omega (arith, high, short, map.code, map.room);
+      }
+
   -- a word that is an instruction is fetched
   unfoldable pub one_at : (a : ℕ) (bytes : List ℕ) (i : Instr) → StandAt a bytes → SpellsWord bytes i → OneAt e a (Base i)
   one_at a bytes i st sp =
       let w = sp.word in
-      let four : length bytes ≡ 4 = ap length sp.are in
-      let map = out.is_map in
-      let short = out.short in
-      let high = st.high in
-      let small = sp.small in
-      let byte = λ (j : ℕ) (lt : j < 4). st.each j (omega (arith, lt, four)) ∙ ap (λ l. get_or l j 0) sp.are in
-      let b0 : byte_in (loaded_core e) a ≡ w % 256 = (let zero : a ≡ a + 0 = omega arith in ap (byte_in (loaded_core e)) zero ∙ byte 0 (omega arith)) in
-      let b1 : byte_in (loaded_core e) (a + 1) ≡ w / 256 % 256 = byte 1 (omega arith) in
-      let b2 : byte_in (loaded_core e) (a + 2) ≡ w / 65536 % 256 = byte 2 (omega arith) in
-      let b3 : byte_in (loaded_core e) (a + 3) ≡ w / 16777216 % 256 = byte 3 (omega arith) in
-      let word : word_at (loaded_core e) a ≡ w = omega (arith, b0, b1, b2, b3, small) in
-      let low : field (half_at (loaded_core e) a) 0 2 ≡ 3 = omega (arith, b0, b1, decoded-low_bits w i sp.spells) in
+      let there = word_there a w (subst (StandAt a) sp.are st) sp.small in
       record {
         size = 4;
-        here = fetched_long (loaded_core e) a w i (text_lies p parts out a 4 st.low (omega (arith, high, four))) word low sp.spells;
-        small = omega (arith, high, four, short, map.code, map.room);
+        here = fetched_long (loaded_core e) a w i there.lies there.is (there.low (decoded-low_bits w i sp.spells)) sp.spells;
+        small = there.small;
+      }
+
+  -- one that is none isn't
+  pub unread_at : (a w : ℕ) → StandAt a (word_bytes w) → w < 2 ^ 32 → field w 0 2 ≡ 3 → decoded w ≡ None → UnreadAt e a w
+  unread_at a w st small low none =
+      let there = word_there a w st small in
+      record {
+        lies = there.lies;
+        is = there.is;
+        here = fetched_unread (loaded_core e) a w there.lies there.is (there.low low) none;
+        small = there.small;
       }
 
   -- a halfword that is an instruction is fetched

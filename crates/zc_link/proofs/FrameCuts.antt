@@ -3,7 +3,7 @@
 -- its commit follows from the state behind the interrupts (Behind).
 use Rattle.std.specs.Option.{option_map_or}
 use Rattle.std.specs.Prelude.{◌⊎◌, All, slice_get, ◌&&◌}
-use Rattle.std.proofs.Common.{◌≡◌, ◌≢◌, ℕ, zero, suc, ◌+◌, ◌-◌, ◌*◌, ◌/◌, ◌%◌, ◌^◌, ◌<◌, ◌≤◌, List, [], ◌∷◌, length, Option, Some, None, true, refl, sym, ap, ap₂, ◌∙◌, subst, arith, ltb, negsuc, ⊎_elim, inl, inr}
+use Rattle.std.proofs.Common.{◌≡◌, ◌≢◌, ℕ, zero, suc, ◌+◌, ◌-◌, ◌*◌, ◌/◌, ◌%◌, ◌^◌, ◌<◌, ◌≤◌, min, List, [], ◌∷◌, length, Option, Some, None, true, refl, sym, ap, ap₂, ◌∙◌, subst, arith, ltb, negsuc, ⊎_elim, inl, inr}
 use Rattle.std.proofs.lemmas.Bool.{and_parts, cases_lt, cond_both, ltb-true}
 use Rattle.std.proofs.lemmas.List.Elements.{All-head, All-tail}
 use Rattle.zc_base.specs.declared.place.Place.{Place}
@@ -36,6 +36,7 @@ use Rattle.zc_link.specs.Invariants.Room.{Room}
 use Rattle.zc_link.specs.Sound.{Alike}
 use Rattle.zc_link.specs.Invariants.Stretches.{OneAt}
 use Rattle.zc_link.proofs.Cuts.{all_cuts_kept, done-none, others_kept, stack_within, written_are}
+use Rattle.zc_link.proofs.OnStack.{below_mark, free_end}
 use Rattle.zc_link.proofs.Slots.{FrameFacts, IsOneOf}
 
 -- z is y, but for bytes from low to below n, and for the registers of these slots
@@ -111,21 +112,22 @@ all_accesses K s (a ∷ xs) each z k = all_accesses K s xs (λ j x y is. each (s
 
 -- ---- the machine alone
 
--- at a state y whose stack begins at low or above it
-module _ (low : ℕ) (ds : List Slot) (no_sp : AvoidSp ds) (y : ZcCore) (stack : (a : ℕ) → lies_in is_stack (extents_of y.memory) a 1 ≡ true → low ≤ a) where
+-- at a state y whose stack lies from low to below high
+module _
+    (low high : ℕ) (ds : List Slot) (no_sp : AvoidSp ds) (y : ZcCore) (stack : (a : ℕ) → lies_in is_stack (extents_of y.memory) a 1 ≡ true → (low ≤ a) × (a < high)) where
   abbrev K : ZcCore → Type 0
-  K z = SpoiledSlots low (reg_in y 2) ds y z
+  K z = SpoiledSlots low (min (reg_in y 2) high) ds y z
 
-  -- a write below sp
+  -- a write below sp and high
   write_kept :
-      (at m : ℕ) (given : ℕ → ℕ) (z : ZcCore) → ((i : ℕ) → given i < 256) → low ≤ at → at + m ≤ reg_in y 2 → K z
+      (at m : ℕ) (given : ℕ → ℕ) (z : ZcCore) → ((i : ℕ) → given i < 256) → low ≤ at → at + m ≤ min (reg_in y 2) high → K z
       → K (record z { memory = changed (written at m given) z.memory })
   write_kept at m given z are lower upper k = record {
     rest = ap {A = ZcCore} {B = ZcCore} (λ x. record x { regs = z.regs; memory = changed (written at m given) z.memory }) k.rest;
     long = k.long;
     registers = k.registers;
     extents = extents-changed (written at m given) z.memory ∙ k.extents;
-    bytes = λ a out. others_kept low (reg_in y 2) at m given z lower upper a out ∙ k.bytes a out;
+    bytes = λ a out. others_kept low (min (reg_in y 2) high) at m given z lower upper a out ∙ k.bytes a out;
     are_bytes = written_are at m given z are k.are_bytes;
   }
 
@@ -135,7 +137,8 @@ module _ (low : ℕ) (ds : List Slot) (no_sp : AvoidSp ds) (y : ZcCore) (stack :
       let q = and_parts (lies_in is_stack (extents_of z.memory) d.0 1) (ltb d.0 (reg_in z 2)) free in
       let under = ltb-true d.0 (reg_in z 2) q.1 in
       let sp = k.registers 2 no_sp in
-      write_kept d.0 1 (λ i. d.1) z (λ i. is_byte) (stack d.0 (ap (λ es. lies_in is_stack es d.0 1) (sym k.extents) ∙ q.0)) (omega (arith, under, sp)) k)
+      let within = stack d.0 (ap (λ es. lies_in is_stack es d.0 1) (sym k.extents) ∙ q.0) in
+      write_kept d.0 1 (λ i. d.1) z (λ i. is_byte) within.0 (omega (arith, under, sp, within.1)) k)
       (λ _. k)
 
   all_bytes_kept : (bs : List (ℕ × ℕ)) (z : ZcCore) → All (λ d. d.1 < 256) bs → K z → K (all_dirtied bs z)
@@ -143,29 +146,29 @@ module _ (low : ℕ) (ds : List Slot) (no_sp : AvoidSp ds) (y : ZcCore) (stack :
   all_bytes_kept (d ∷ bs) z are k =
       all_bytes_kept bs (dirtied d z) (All-tail (λ (x : ℕ × ℕ). x.1 < 256) d bs are) (byte_kept d z (All-head (λ (x : ℕ × ℕ). x.1 < 256) d bs are) k)
 
-  -- a push's accesses lie below sp
+  -- a push's accesses lie below sp, if that is an address of the stack, or its end
   push_each :
-      {list frame : ℕ} {order : List Slot} → FrameFacts list frame order → low + frame ≤ reg_in y 2 → reg_in y 2 < 2 ^ 32 → (j : ℕ) (a : Access) (x : ZcCore)
+      {list frame : ℕ} {order : List Slot} → FrameFacts list frame order → low + frame ≤ reg_in y 2 → reg_in y 2 ≤ high → reg_in y 2 < 2 ^ 32 → (j : ℕ) (a : Access) (x : ZcCore)
       → slice_get (words_below (reg_in y 2) (registers_of list)) j ≡ Some a → K x → K (saved a x)
-  push_each {list} {frame} facts deep small j a x is k =
+  push_each {list} {frame} facts deep top small j a x is k =
       let base : ℕ = reg_in y 2 - frame in
       let whole : reg_in y 2 ≡ base + frame = omega (arith, deep) in
       let m = slot_at base frame (registers_of list) j a facts.room (omega (arith, whole, small)) (ap (λ t. slice_get (words_below t (registers_of list)) j) (sym whole) ∙ is) in
       let v = facts.under (record { offset = a.at - base; register = a.register }) (facts.same.back (record { offset = a.at - base; register = a.register }) m.1) in
-      write_kept a.at 4 (byte_of (reg_in x a.register)) x (byte_below (reg_in x a.register)) (omega (arith, m.0, deep)) (omega (arith, m.0, v, whole)) k
+      write_kept a.at 4 (byte_of (reg_in x a.register)) x (byte_below (reg_in x a.register)) (omega (arith, m.0, deep)) (omega (arith, m.0, v, whole, top)) k
 
   pub push_kept :
-      {list frame : ℕ} {order : List Slot} → FrameFacts list frame order → (adjust size : ℕ) → low + frame ≤ reg_in y 2 → reg_in y 2 < 2 ^ 32
+      {list frame : ℕ} {order : List Slot} → FrameFacts list frame order → (adjust size : ℕ) → low + frame ≤ reg_in y 2 → reg_in y 2 ≤ high → reg_in y 2 < 2 ^ 32
       → (js : List ℕ) (z : ZcCore) → K z → K (done_of (Found (Push list adjust) size) js z)
-  push_kept {list} facts adjust size deep small js z k =
+  push_kept {list} facts adjust size deep top small js z k =
       subst (λ t. K (done_all (Push list adjust) (words_below t (registers_of list)) js z)) (sym (k.registers 2 no_sp))
-      (all_done K (Push list adjust) (words_below (reg_in y 2) (registers_of list)) (push_each facts deep small) js z k)
+      (all_done K (Push list adjust) (words_below (reg_in y 2) (registers_of list)) (push_each facts deep top small) js z k)
 
   -- after all of the interrupts before a push's commit its slots are as they were
   pub push_all_kept :
-      {list frame : ℕ} {order : List Slot} → FrameFacts list frame order → (adjust : ℕ) → low + frame ≤ reg_in y 2 → reg_in y 2 < 2 ^ 32
+      {list frame : ℕ} {order : List Slot} → FrameFacts list frame order → (adjust : ℕ) → low + frame ≤ reg_in y 2 → reg_in y 2 ≤ high → reg_in y 2 < 2 ^ 32
       → K y → K (all_accessed (Push list adjust) (accesses_of (Push list adjust) (reg_in y 2)) y)
-  push_all_kept {list} facts adjust deep small k = all_accesses K (Push list adjust) (words_below (reg_in y 2) (registers_of list)) (push_each facts deep small) y k
+  push_all_kept {list} facts adjust deep top small k = all_accesses K (Push list adjust) (words_below (reg_in y 2) (registers_of list)) (push_each facts deep top small) y k
 
   -- a pop's load registers of its slots
   pub pop_kept :
@@ -250,10 +253,7 @@ module _ {p : Program} {e : Image} (room : Room p e) where
       text = λ a text. like.bytes a (outside n a high text) ∙ al.text a text;
       table = λ elsewhere. like.jvt ∙ al.table elsewhere;
     };
-    sp = rw (like.registers 2) al.sp;
-    low = rw (like.registers 2) al.low;
-    high = rw (like.registers 2) al.high;
-    below = λ a l lt. al.below a l (rw (like.registers 2) at lt);
+    below = al.below;
   }
     where
       where_is : (a : ℕ) → ((p.map.stack_low ≤ a) × (a < n)) ⊎ (p.map.stack_low ≤ a → n ≤ a)
@@ -262,9 +262,11 @@ module _ {p : Program} {e : Image} (room : Room p e) where
           (λ above. inr (λ _. above))
           (cases_lt a n)
 
-  -- bytes below sp are not known
-  pub spoiled_alike : {Named : Place → Type 0} {s : PlainCore} {y z : ZcCore} → SpoiledSlots p.map.stack_low (reg_in y 2) [] y z → Alike p Named e s y → Alike p Named e s z
-  spoiled_alike {y = y} sp al = looks_alike (reg_in y 2) al.high al.below (spoiled_looks sp) al
+  -- what interrupts may write isn't known
+  pub spoiled_alike :
+      {Named : Place → Type 0} {s : PlainCore} {y z : ZcCore} → SpoiledSlots p.map.stack_low (free_end p.map y) [] y z → Alike p Named e s y → Alike p Named e s z
+  spoiled_alike {y = y} sp al =
+      looks_alike (free_end p.map y) (omega arith) (λ a low free. al.below a low (below_mark al a free)) (spoiled_looks sp) al
 
   -- ---- a commit
 
@@ -273,28 +275,25 @@ module _ {p : Program} {e : Image} (room : Room p e) where
     pub going : z.exit ≡ None
     pub text : SameText (loaded_core e) z
     pub are_bytes : (a : ℕ) → byte_in z a < 256
-    pub high : reg_in z 2 ≤ p.map.stack_high
+    pub word : reg_in z 2 < 2 ^ 32
 
   pub alike_ready : {Named : Place → Type 0} {s : PlainCore} {z : ZcCore} → Alike p Named e s z → IsReady z
-  alike_ready al = record { going = al.going; text = record { extents = al.extents; text = al.text }; are_bytes = al.core.bytes; high = al.high }
+  alike_ready al = record { going = al.going; text = record { extents = al.extents; text = al.text }; are_bytes = al.core.bytes; word = al.core.words 2 }
 
   -- the state behind the interrupts before a commit, and what the turn then is
   pub record Behind (ds : List Slot) (short : Short) (size : ℕ) (cuts : List Interrupt) (z : ZcState) : Type 0 where
     pub now : ZcCore
-    pub spoiled : SpoiledSlots p.map.stack_low (reg_in z.core 2) ds z.core now
+    pub spoiled : SpoiledSlots p.map.stack_low (free_end p.map z.core) ds z.core now
     pub turn : zc_turn cuts z ≡ committed (effect_step (short_effect short size now) now) (record z { core = now })
 
   module _ (ds : List Slot) (no_sp : AvoidSp ds) (y : ZcCore) (is : IsReady y) where
     abbrev IsSpoiled : ZcCore → Type 0
-    IsSpoiled z = SpoiledSlots p.map.stack_low (reg_in y 2) ds y z
-
-    above : (a : ℕ) → lies_in is_stack (extents_of y.memory) a 1 ≡ true → p.map.stack_low ≤ a
-    above a h = (stack_within room y is.text.extents a h).0
+    IsSpoiled z = SpoiledSlots p.map.stack_low (free_end p.map y) ds y z
 
     pub text_kept : (z : ZcCore) → IsSpoiled z → SameText (loaded_core e) z
     text_kept z k = record {
       extents = k.extents ∙ is.text.extents;
-      text = λ a text. k.bytes a (outside (reg_in y 2) a is.high text) ∙ is.text.text a text;
+      text = λ a text. k.bytes a (outside (free_end p.map y) a (omega arith) text) ∙ is.text.text a text;
     }
 
     fetched_kept : (z : ZcCore) → IsSpoiled z → fetched_at z z.pc ≡ fetched_at (loaded_core e) y.pc
@@ -306,19 +305,19 @@ module _ {p : Program} {e : Image} (room : Room p e) where
         → (c : Interrupt) (z : ZcCore) → IsInterrupt c → IsSpoiled z → IsSpoiled (interrupted c z)
     interrupt_kept short at done c z bytes k =
         subst (λ f. IsSpoiled (all_dirtied c.dirt (done_of f c.done z))) (sym (fetched_kept z k ∙ at.here))
-        (all_bytes_kept p.map.stack_low ds no_sp y above c.dirt (done_of (Found short at.size) c.done z) bytes (done c.done z k))
+        (all_bytes_kept p.map.stack_low p.map.stack_high ds no_sp y (stack_within room y is.text.extents) c.dirt (done_of (Found short at.size) c.done z) bytes (done c.done z k))
 
     pub itself : IsSpoiled y
     itself = record { rest = refl; long = refl; registers = λ r _. refl; extents = refl; bytes = λ a _. refl; are_bytes = is.are_bytes }
 
   pub behind :
       (ds : List Slot) → AvoidSp ds → (short : Short) (cuts : List Interrupt) → All IsInterrupt cuts → (z : ZcState) → (is : IsReady z.core) → (at : OneAt e z.core.pc short)
-      → ((js : List ℕ) (x : ZcCore) → SpoiledSlots p.map.stack_low (reg_in z.core 2) ds z.core x → SpoiledSlots p.map.stack_low (reg_in z.core 2) ds z.core (done_of (Found short at.size) js x))
+      → ((js : List ℕ) (x : ZcCore) → SpoiledSlots p.map.stack_low (free_end p.map z.core) ds z.core x → SpoiledSlots p.map.stack_low (free_end p.map z.core) ds z.core (done_of (Found short at.size) js x))
       → Behind ds short at.size cuts z
   unfolding zc_step
   behind ds no_sp short cuts are z is at done =
       let now : ZcCore = all_interrupted cuts z.core in
-      let spoiled = all_cuts_kept (SpoiledSlots p.map.stack_low (reg_in z.core 2) ds z.core) (interrupt_kept ds no_sp z.core is short at done) cuts z.core are (itself ds no_sp z.core is) in
+      let spoiled = all_cuts_kept (SpoiledSlots p.map.stack_low (free_end p.map z.core) ds z.core) (interrupt_kept ds no_sp z.core is short at done) cuts z.core are (itself ds no_sp z.core is) in
       record {
         now = now;
         spoiled = spoiled;

@@ -1,11 +1,12 @@
 -- Where a group's commits end: states that are alike, at the place behind its items, are sound again, with the same events.
-use Rattle.std.proofs.Common.{◌≡◌, ℕ, ◌<◌, List, [], Some, Ok, sym, ap, ◌∙◌, arith, eqb, inl}
+use Rattle.std.proofs.Common.{◌≡◌, ℕ, ◌<◌, List, [], map, Some, Ok, ap, ◌∙◌, arith, eqb, inl}
 use Rattle.std.specs.Prelude.{All}
 use Rattle.std.proofs.lemmas.Bool.{cond-false, cond-true, eq-eqb, ne_eqb}
 use Rattle.zc_base.specs.declared.place.Place.{Place}
 use Rattle.interrupt_plan.specs.Plan.{AreInterrupts, Interrupt, IsInterrupt}
 use Rattle.rv_decode.specs.Effect.{Commits}
-use Rattle.rv_decode.specs.State.{ZcCore, ZcState, reg_in}
+use Rattle.rv_decode.specs.State.{ZcCore, ZcState}
+use Rattle.sym_machine.specs.Events.{event_in}
 use Rattle.sym_machine.specs.Program.{Program}
 use Rattle.sym_machine.specs.State.{PlainState}
 use Rattle.zc_decode.specs.Accesses.{accesses_of}
@@ -19,24 +20,26 @@ use Rattle.zc_link.specs.IsSimulation.{Comes}
 use Rattle.zc_link.specs.Invariants.Room.{Room}
 use Rattle.zc_link.specs.Sound.{Alike, Sound}
 use Rattle.zc_link.specs.Invariants.Stretches.{OneAt}
+use Rattle.zc_link.proofs.EventLaws.{events_kept}
 use Rattle.zc_link.proofs.FrameCuts.{Behind, IsReady, SpoiledSlots, behind, without_accesses}
+use Rattle.zc_link.proofs.OnStack.{free_end}
 use Rattle.zc_link.proofs.Straight.{CameTo}
 
 -- a sound pair with the same events, and interrupts before each commit
 pub record FromPlace (p : Program) (Named : Place → Type 0) (e : Image) (r : PlainState) (cuts : ℕ → List Interrupt) (z : ZcState) : Type 0 where
   pub sound : Sound p Named e r.core z
-  pub same : z.events ≡ r.events
+  pub same : z.events ≡ map (event_in e.address) r.events
   pub are : AreInterrupts cuts
 
 -- the program came to a listed place, and the machine to its address
 pub arrives :
     {p : Program} {Named : Place → Type 0} {e : Image} {r : PlainState} {cuts : ℕ → List Interrupt} {z : ZcState} → FromPlace p Named e r cuts z → (k : ℕ) (q : Place) (r' : PlainState) (y : ZcCore)
     → CameTo q r r' → e.address q ≡ Some y.pc → Alike p Named e r'.core y → zc_turns cuts k z ≡ Ok (record z { core = y }) → Comes p Named e cuts k z r'
-arrives {e = e} {z = z} from k q r' y came at al runs = record {
+arrives {e = e} {r = r} {z = z} from k q r' y came at al runs = record {
   after = record z { core = y };
   runs = runs;
   together = inl record { alike = al; input = came.input ∙ from.sound.input; place = ap e.address came.place ∙ at };
-  events = from.same ∙ sym came.events;
+  events = events_kept e.address r.events r'.events z.events from.same came.events;
 }
 
 -- ---- an instruction that is no push or pop
@@ -47,7 +50,7 @@ module _ {p : Program} {e : Image} (room : Room p e) where
       (short : Short) (cuts : List Interrupt) → ((sp : ℕ) → accesses_of short sp ≡ []) → All IsInterrupt cuts → (z : ZcState) → IsReady room z.core → (at : OneAt e z.core.pc short)
       → Behind room [] short at.size cuts z
   behind_one short cuts none are z is at =
-      behind room [] (λ d m. absurd m) short cuts are z is at (without_accesses (SpoiledSlots p.map.stack_low (reg_in z.core 2) [] z.core) short at.size none)
+      behind room [] (λ d m. absurd m) short cuts are z is at (without_accesses (SpoiledSlots p.map.stack_low (free_end p.map z.core) [] z.core) short at.size none)
 
 -- the turn, if the effect commits
 pub turn_commits :

@@ -18,6 +18,7 @@ use Rattle.sym_machine.specs.declared.word.SymByte.TheVariants.{Num, Undef}
 use Rattle.sym_machine.specs.Program.{Program}
 use Rattle.sym_machine.specs.Run.{plain_turn}
 use Rattle.sym_machine.specs.State.{PlainCore, PlainState, cell_of}
+use Rattle.sym_machine.proofs.RunLaws.{turns_set}
 use Rattle.zc_decode.specs.Accesses.{accesses_of}
 use Rattle.zc_decode.specs.Effect.{all_accessed, framed, short_effect}
 use Rattle.zc_decode.specs.declared.short.Short.{Short}
@@ -34,11 +35,13 @@ use Rattle.zc_link.proofs.Effects.{commits_same}
 use Rattle.zc_link.proofs.FrameCuts.{IsReady, SpoiledSlots, alike_ready, itself, push_all_kept, text_kept}
 use Rattle.zc_link.proofs.GroupEnds.{one_commit, two_commits}
 use Rattle.zc_link.proofs.GroupWay.{AMoveAs, AMoveSa, APop, APush, ASum, Left, OnGroup, StandsBy}
+use Rattle.zc_link.proofs.OnStack.{free_end, on_stack}
 use Rattle.zc_link.proofs.Pops.{pop_top}
 use Rattle.zc_link.proofs.Pushes.{push_deep, push_straight, two_some}
 use Rattle.zc_link.proofs.Returns.{before_straight, steps_apart}
 use Rattle.zc_link.proofs.Singles.{below_top}
 use Rattle.zc_link.proofs.Slots.{FrameFacts, frame_facts}
+use Rattle.zc_link.proofs.StackFound.{finds_set, pop_finds, push_finds}
 use Rattle.zc_link.proofs.Straight.{all_follow, ops_first}
 use Rattle.zc_link.proofs.WithByte.{all_made, with_byte}
 use Rattle.zc_link.proofs.Writes.{ready_changed, written_agrees}
@@ -65,9 +68,6 @@ module _ {p : Program} {Named : Place → Type 0} {e : Image} (room : Room p e) 
   poked_alike c s z cell small al = record {
     ready = ready_changed room (written c.0 1 (λ _. Num c.1)) (written c.0 1 (λ _. c.1))
         (written_agrees room c.0 1 (λ _. Num c.1) (λ _. c.1) (inl (cell.low, (let high = cell.high in omega (arith, high)))) (λ i lt. refl) (λ i lt. tt) (λ i lt. small)) al.ready;
-    sp = al.sp;
-    low = al.low;
-    high = al.high;
     below = λ x low lt.
         let under = room.under in
         let high = cell.high in
@@ -96,13 +96,14 @@ module _ {p : Program} {e : Image} (room : Room p e) where
 
   module _ {list frame : ℕ} {order : List Slot} (facts : FrameFacts list frame order) where
     -- a push, and then the rest of its frame
-    push_left : (sp pc end : ℕ) → sp < 2 ^ 32 → p.map.stack_low + frame ≤ sp → PushAt e pc list frame end → Left room (frame_commits list frame) sp pc
-    push_left sp pc end words deep at = ⊎_elim
-        (λ whole. subst (λ k. Left room k sp pc) (sym (one_commit list frame whole.0)) (one_left push sp pc at.half (APush list frame order facts deep)))
+    push_left :
+        (sp pc end : ℕ) → sp < 2 ^ 32 → p.map.stack_low + frame ≤ sp → sp ≤ p.map.stack_high → PushAt e pc list frame end → Left room (frame_commits list frame) sp pc
+    push_left sp pc end words deep high at = ⊎_elim
+        (λ whole. subst (λ k. Left room k sp pc) (sym (one_commit list frame whole.0)) (one_left push sp pc at.half (APush list frame order facts deep high)))
         (λ split. subst (λ k. Left room k sp pc) (sym (two_commits list frame split.0)) (
           push,
           at.half,
-          APush list frame order facts deep,
+          APush list frame order facts deep high,
           λ more y y' ready long is_sp is_pc does.
               second split.1 y y' ready long is_sp is_pc does,
         ))
@@ -121,21 +122,19 @@ module _ {p : Program} {e : Image} (room : Room p e) where
             let x : ZcCore = all_accessed push xs y in
             let low : ℕ = reg_result Sub (reg_in y 2) adjust in
             let left : y' ≡ onward x size (set_reg x.regs 2 low) = (all_made xs y (framed push size y) y' does).0 in
-            let k : SpoiledSlots p.map.stack_low (reg_in y 2) [] y x =
-            push_all_kept p.map.stack_low [] (λ d m. absurd m) y (λ a h. (stack_within room y ready.text.extents a h).0) facts adjust (omega (arith, deep, is_sp)) (omega (arith, words, is_sp))
+            let k : SpoiledSlots p.map.stack_low (free_end p.map y) [] y x =
+            push_all_kept p.map.stack_low p.map.stack_high [] (λ d m. absurd m) y (stack_within room y ready.text.extents) facts adjust (omega (arith, deep, is_sp)) (omega (arith, high, is_sp))
+            (omega (arith, words, is_sp))
             (itself room [] (λ d m. absurd m) y ready) in
             let text = text_kept room [] (λ d m. absurd m) y ready x k in
             let long_x : length x.regs ≡ 32 = k.long ∙ long in
             let sp1 : reg_in y' 2 ≡ low = ap (λ t. reg_in t 2) left ∙ reads-set_reg_same 0 0 x.regs 2 low two_some (omega (arith, long_x)) in
-            let sum = facts.sum in
-            let high = ready.high in
-            let most = facts.most in
             let pc1 : pc + size ≡ y'.pc = below_top pc x.pc size (ap (λ t. t.pc) k.rest ∙ is_pc) at.half.small ∙ ap (λ t. t.pc) (sym left) in (
               record {
                 going = ap (λ t. t.exit) left ∙ ap (λ t. t.exit) k.rest ∙ ready.going;
                 text = record { extents = ap (λ t. extents_of t.memory) left ∙ text.extents; text = λ a t. ap (λ v. byte_in v a) left ∙ text.text a t };
                 are_bytes = λ a. rw (ap (λ v. byte_in v a) left) (k.are_bytes a);
-                high = omega (arith, sp1, sum, high, deep, is_sp, words, most);
+                word = omega (arith, sp1);
               },
               ap (λ t. length t.regs) left ∙ length-set_reg x.regs 2 low ∙ long_x,
               one_left (Base form.here) (reg_in y' 2) y'.pc (at_same pc1 form.at) (ASum form.here (negsuc (rest_of list frame - 1)) form.same),
@@ -178,7 +177,7 @@ module _ {p : Program} {e : Image} (room : Room p e) where
                 going = ap (λ t. t.exit) left ∙ ready.going;
                 text = record { extents = ap (λ t. extents_of t.memory) left ∙ ready.text.extents; text = λ a t. ap (λ v. byte_in v a) left ∙ ready.text.text a t };
                 are_bytes = λ a. rw (ap (λ v. byte_in v a) left) (ready.are_bytes a);
-                high = omega (arith, sp1, sum, top);
+                word = omega (arith, sp1, sum, small);
               },
               ap (λ t. length t.regs) left ∙ length-set_reg y.regs 2 v ∙ long,
               one_left pop (reg_in y' 2) y'.pc (at_same (middle ∙ pc1) at.half) (APop ending list frame order facts sp low (omega (arith, sp1, sum)) small),
@@ -193,20 +192,27 @@ module _ {p : Program} {e : Image} (room : Room p e) where
     left_by end (PushOf list frame order) is r r' y pc ops at h al =
         let facts = frame_facts list frame order is in
         let f = all_follow room (push_ops frame order) r r' y ops (push_straight facts) h al in
-        let deep = push_deep p.map.stack_low p.map.stack_high frame order y f.after room.deep room.top facts.some facts.most al.core.count al.low al.high f.alike.low f.alike.high f.effects in
-        push_left facts (reg_in y 2) pc end (al.core.words 2) deep at
+        let set = finds_set p (push_ops frame order) r r' (push_finds frame order) ops al.running h in
+        let on = on_stack al set in
+        let after = on_stack f.alike (turns_set p (length (push_ops frame order)) r r' h set) in
+        let deep = push_deep p.map.stack_low p.map.stack_high frame order y f.after room.deep room.top facts.some facts.most al.core.count on.low on.high after.low after.high f.effects in
+        push_left facts (reg_in y 2) pc end (al.core.words 2) deep on.high at
     left_by end (PopOf ending list frame order) is r r' y pc ops at h al =
         let facts = frame_facts list frame order is in
         let before = ops_before_return ending frame order in
         let steps = steps_apart p before (return_ops ending) r r' h in
-        let f = all_follow room before r steps.0 y (ops_first p r.core.place before (return_ops ending) ops) (before_straight ending frame order) steps.1 al in
+        let first = ops_first p r.core.place before (return_ops ending) ops in
+        let f = all_follow room before r steps.0 y first (before_straight ending frame order) steps.1 al in
+        let set = finds_set p before r steps.0 (pop_finds ending frame order) first al.running steps.1 in
+        let on = on_stack al set in
+        let after = on_stack f.alike (turns_set p (length before) r steps.0 steps.1 set) in
         let wz = without_zero frame order (λ d m. facts.no_a0 d m) (λ d m. (facts.register d m).no_sp) y al.core.count ending f.after f.effects in
         let sp : reg_in f.after 2 ≡ reg_in wz.zp 2 = wz.final.registers 2 ∙ final_sp ending wz.zp.regs in
-        let low = f.alike.low in
-        let high = f.alike.high in
-        let top = pop_top room facts r.core y wz.zp al (omega (arith, sp, low)) wz.effects in
+        let low = after.low in
+        let high = after.high in
+        let top = pop_top room facts r.core y wz.zp on (omega (arith, sp, low)) wz.effects in
         let is_top = top.1 in
-        pop_left facts ending (reg_in y 2) pc end al.low (omega (arith, is_top, sp, high)) at
+        pop_left facts ending (reg_in y 2) pc end on.low (omega (arith, is_top, sp, high)) at
     left_by end (MovesToSaved order first second) is r r' y pc ops at h al = one_left (MoveSa first second) (reg_in y 2) pc at.half (AMoveSa first second)
     left_by end (MovesFromSaved order first second) is r r' y pc ops at h al = one_left (MoveAs first second) (reg_in y 2) pc at.half (AMoveAs first second)
 

@@ -1,7 +1,7 @@
 -- On the way of a group, interrupts come and cells of data are written between its commits. As long as commits are left, one of its
 -- instructions stands at pc, and its accesses lie in the stack, by sp (OnGroup). So interrupts and commits do the same whatever data hold.
 use Rattle.std.specs.Option.{option_map_or}
-use Rattle.std.proofs.Common.{◌≡◌, ℕ, zero, suc, ◌+◌, ◌-◌, ◌*◌, ◌%◌, ◌^◌, ◌<◌, ◌≤◌, List, [], ◌∷◌, length, None, Ok, true, refl, sym, ap, ◌∙◌, subst, arith, ℤ, negsuc, eqb}
+use Rattle.std.proofs.Common.{◌≡◌, ℕ, zero, suc, ◌+◌, ◌-◌, ◌*◌, ◌%◌, ◌^◌, ◌<◌, ◌≤◌, List, [], ◌∷◌, length, None, Ok, refl, sym, ap, ◌∙◌, subst, arith, ℤ, negsuc, eqb}
 use Rattle.interrupt_plan.specs.Plan.{Interrupt, IsInterrupt}
 use Rattle.rv_decode.specs.declared.instr.Instr.{Instr}
 use Rattle.rv_decode.specs.declared.instr.Instr.TheVariants.{WithImm}
@@ -9,7 +9,7 @@ use Rattle.rv_decode.specs.declared.instr.ImmOp.TheVariants.{Addi}
 use Rattle.rv_decode.specs.declared.instr.RegOp.TheVariants.{Add}
 use Rattle.rv_decode.specs.Bits.{add32}
 use Rattle.rv_decode.specs.Effect.{BadAccess, Break, Call, Commits, Effect, Misaligned, Outside}
-use Rattle.rv_decode.specs.Memory.{extents_of, is_data, is_stack, lies_in, written}
+use Rattle.rv_decode.specs.Memory.{extents_of, is_data, lies_in, written}
 use Rattle.rv_decode.specs.Normal.{SameEffect}
 use Rattle.rv_decode.specs.Results.{reg_result}
 use Rattle.rv_decode.specs.State.{ZcCore, ZcState, reg_in}
@@ -37,6 +37,7 @@ use Rattle.zc_link.proofs.Cuts.{stack_within}
 use Rattle.zc_link.proofs.Effects.{commits_same}
 use Rattle.zc_link.proofs.FrameCuts.{AvoidSp, IsReady, SpoiledSlots, interrupt_kept, itself, pop_accesses, pop_kept, push_kept, text_kept, without_accesses}
 use Rattle.zc_link.proofs.Frames.{below_is}
+use Rattle.zc_link.proofs.OnStack.{free_end}
 use Rattle.zc_link.proofs.Pops.{no_sp}
 use Rattle.zc_link.proofs.Slots.{FrameFacts}
 use Rattle.zc_link.proofs.WithByte.{AreAbove, IsOfGroup, all_dirtied_with, done_with, effect_with, with_byte}
@@ -45,7 +46,9 @@ use Rattle.zc_link.proofs.WithByte.{AreAbove, IsOfGroup, all_dirtied_with, done_
 
 -- an instruction of a group, by sp: a push or a pop whose frame lies in the stack, a move, or a sum of sp
 pub data StandsBy (p : Program) (sp : ℕ) : Short → Type 0 where
-  APush : (list frame : ℕ) (order : List Slot) → FrameFacts list frame order → p.map.stack_low + frame ≤ sp → StandsBy p sp (Push list (frame_adjust list frame))
+  APush :
+      (list frame : ℕ) (order : List Slot) → FrameFacts list frame order → p.map.stack_low + frame ≤ sp → sp ≤ p.map.stack_high
+      → StandsBy p sp (Push list (frame_adjust list frame))
   APop :
       (ending : Ending) (list frame : ℕ) (order : List Slot) → FrameFacts list frame order → (base : ℕ) → p.map.stack_low ≤ base → sp + frame_adjust list frame ≡ base + frame
       → base + frame < 2 ^ 32 → StandsBy p sp (pop_kind ending list (frame_adjust list frame))
@@ -55,7 +58,7 @@ pub data StandsBy (p : Program) (sp : ℕ) : Short → Type 0 where
 
 -- the slots whose registers an interrupt may load
 loaded_slots : {p : Program} {sp : ℕ} (s : Short) → StandsBy p sp s → List Slot
-loaded_slots _ (APush list frame order facts deep) = []
+loaded_slots _ (APush list frame order facts deep high) = []
 loaded_slots _ (APop ending list frame order facts base low top small) = slots_below frame (registers_of list)
 loaded_slots _ (AMoveSa first second) = []
 loaded_slots _ (AMoveAs first second) = []
@@ -63,7 +66,7 @@ loaded_slots _ (ASum i imm same) = []
 
 avoid_sp : {p : Program} {sp : ℕ} (s : Short) (st : StandsBy p sp s) → AvoidSp (loaded_slots s st)
 unfolding loaded_slots
-avoid_sp _ (APush list frame order facts deep) d m = absurd m
+avoid_sp _ (APush list frame order facts deep high) d m = absurd m
 avoid_sp _ (APop ending list frame order facts base low top small) d m = no_sp facts d m
 avoid_sp _ (AMoveSa first second) d m = absurd m
 avoid_sp _ (AMoveAs first second) d m = absurd m
@@ -79,7 +82,7 @@ words_above a b low base (r ∷ rs) top under over room small =
     )
 
 above_data : {p : Program} {sp : ℕ} (a b : ℕ) (s : Short) → sp < 2 ^ 32 → a < p.map.stack_low → StandsBy p sp s → AreAbove a b (accesses_of s sp)
-above_data {p} {sp} a b _ words under (APush list frame order facts deep) =
+above_data {p} {sp} a b _ words under (APush list frame order facts deep high) =
     let whole : sp - frame + frame ≡ sp = omega (arith, deep) in
     subst (λ t. AreAbove a b (words_below t (registers_of list))) whole
     (words_above a b p.map.stack_low (sp - frame) (registers_of list) frame under (omega (arith, deep)) facts.room (omega (arith, whole, words)))
@@ -107,7 +110,7 @@ stands_with {p} a b s size y y' words under st h = by s st (above_data a b s wor
     pop_of_group ZeroBeforeReturn list adjust = tt
 
     by : (t : Short) → StandsBy p (reg_in y 2) t → AreAbove a b (accesses_of t (reg_in y 2)) → short_effect t size y ≡ Commits y' → short_effect t size (with_byte a b y) ≡ Commits (with_byte a b y')
-    by _ (APush list frame order facts deep) all g = effect_with a b (Push list (frame_adjust list frame)) size y y' tt all g
+    by _ (APush list frame order facts deep high) all g = effect_with a b (Push list (frame_adjust list frame)) size y y' tt all g
     by _ (APop ending list frame order facts base low top small) all g =
         effect_with a b (pop_kind ending list (frame_adjust list frame)) size y y' (pop_of_group ending list (frame_adjust list frame)) all g
     by _ (AMoveSa first second) all g = effect_with a b (MoveSa first second) size y y' tt all g
@@ -131,7 +134,7 @@ reaching_calls (x ∷ xs) y go none =
     (λ _. cond_both (lies_in is_data (extents_of y.memory) x.at 4) (reaching_all xs y go) BadAccess NoCall (λ _. reaching_calls xs y go none) (λ _. tt)) (λ _. tt)
 
 stands_calls : {p : Program} {sp : ℕ} (s : Short) (size : ℕ) (y : ZcCore) → StandsBy p sp s → NoCall (short_effect s size y)
-stands_calls _ size y (APush list frame order facts deep) = reaching_calls (accesses_of (Push list (frame_adjust list frame)) (reg_in y 2)) y _ tt
+stands_calls _ size y (APush list frame order facts deep high) = reaching_calls (accesses_of (Push list (frame_adjust list frame)) (reg_in y 2)) y _ tt
 stands_calls _ size y (APop ending list frame order facts base low top small) = by ending
   where
     by : (k : Ending) → NoCall (short_effect (pop_kind k list (frame_adjust list frame)) size y)
@@ -179,30 +182,20 @@ pub record OnGroup {p : Program} {e : Image} (room : Room p e) (k : ℕ) (y : Zc
   pub left : Left room k (reg_in y 2) y.pc
 
 module _ {p : Program} {e : Image} (room : Room p e) where
-  -- sp is a word
-  sp_small : (y : ZcCore) → IsReady room y → reg_in y 2 < 2 ^ 32
-  sp_small y is = let top = room.top in let high = is.high in omega (arith, top, high)
-
   -- accesses that were done of it
   stands_kept :
-      (s : Short) (size : ℕ) (y : ZcCore) → IsReady room y → (st : StandsBy p (reg_in y 2) s) → (js : List ℕ) (x : ZcCore) → SpoiledSlots p.map.stack_low (reg_in y 2) (loaded_slots s st) y x
-      → SpoiledSlots p.map.stack_low (reg_in y 2) (loaded_slots s st) y (done_of (Found s size) js x)
+      (s : Short) (size : ℕ) (y : ZcCore) → IsReady room y → (st : StandsBy p (reg_in y 2) s) → (js : List ℕ) (x : ZcCore) → SpoiledSlots p.map.stack_low (free_end p.map y) (loaded_slots s st) y x
+      → SpoiledSlots p.map.stack_low (free_end p.map y) (loaded_slots s st) y (done_of (Found s size) js x)
   unfolding loaded_slots
-  stands_kept _ size y is (APush list frame order facts deep) js x k =
-      push_kept p.map.stack_low [] (λ d m. absurd m) y above facts (frame_adjust list frame) size deep (sp_small y is) js x k
-    where
-      above : (a : ℕ) → lies_in is_stack (extents_of y.memory) a 1 ≡ true → p.map.stack_low ≤ a
-      above a h = (stack_within room y is.text.extents a h).0
+  stands_kept _ size y is (APush list frame order facts deep high) js x k =
+      push_kept p.map.stack_low p.map.stack_high [] (λ d m. absurd m) y (stack_within room y is.text.extents) facts (frame_adjust list frame) size deep high is.word js x k
   stands_kept _ size y is (APop ending list frame order facts base low top small) js x k =
-      pop_kept p.map.stack_low (slots_below frame (registers_of list)) (no_sp facts) y above facts ending base size (λ d m. m) top small js x k
-    where
-      above : (a : ℕ) → lies_in is_stack (extents_of y.memory) a 1 ≡ true → p.map.stack_low ≤ a
-      above a h = (stack_within room y is.text.extents a h).0
+      pop_kept p.map.stack_low p.map.stack_high (slots_below frame (registers_of list)) (no_sp facts) y (stack_within room y is.text.extents) facts ending base size (λ d m. m) top small js x k
   stands_kept _ size y is (AMoveSa first second) js x k =
-      without_accesses (SpoiledSlots p.map.stack_low (reg_in y 2) [] y) (MoveSa first second) size (λ sp. refl) js x k
+      without_accesses (SpoiledSlots p.map.stack_low (free_end p.map y) [] y) (MoveSa first second) size (λ sp. refl) js x k
   stands_kept _ size y is (AMoveAs first second) js x k =
-      without_accesses (SpoiledSlots p.map.stack_low (reg_in y 2) [] y) (MoveAs first second) size (λ sp. refl) js x k
-  stands_kept _ size y is (ASum i imm same) js x k = without_accesses (SpoiledSlots p.map.stack_low (reg_in y 2) [] y) (Base i) size (λ sp. refl) js x k
+      without_accesses (SpoiledSlots p.map.stack_low (free_end p.map y) [] y) (MoveAs first second) size (λ sp. refl) js x k
+  stands_kept _ size y is (ASum i imm same) js x k = without_accesses (SpoiledSlots p.map.stack_low (free_end p.map y) [] y) (Base i) size (λ sp. refl) js x k
 
   -- ---- interrupts, cells and commits
 
@@ -221,7 +214,7 @@ module _ {p : Program} {e : Image} (room : Room p e) where
           going = ap (λ x. x.exit) kept.rest ∙ on.ready.going;
           text = text_kept room ds avoid y on.ready (interrupted c y) kept;
           are_bytes = kept.are_bytes;
-          high = (let high = on.ready.high in omega (arith, high, sp));
+          word = (let word = on.ready.word in omega (arith, word, sp));
         };
         long = kept.long ∙ on.long;
         left = subst (λ n. Left room (suc k) n (interrupted c y).pc) (sym sp) (subst (Left room (suc k) (reg_in y 2)) (ap (λ x. x.pc) (sym kept.rest)) on.left);
@@ -234,7 +227,7 @@ module _ {p : Program} {e : Image} (room : Room p e) where
       going = on.ready.going;
       text = (poked_kept room a b z cell on.ready.text).text;
       are_bytes = cell_kept (written a 1 (λ _. b)) z.core.memory 0 (λ c. c < 256) (λ x c lt. cond_both _ b c (λ v. v < 256) (λ _. small) (λ _. lt)) (omega arith) on.ready.are_bytes;
-      high = on.ready.high;
+      word = on.ready.word;
     };
     long = on.long;
     left = on.left;
@@ -289,7 +282,7 @@ module _ {p : Program} {e : Image} (room : Room p e) where
         let avoid = avoid_sp s st in
         let kept = stands_kept s at.size y on.ready st c.done y (itself room ds avoid y on.ready) in
         ap (λ f. all_dirtied c.dirt (done_of f c.done (with_byte a b y))) fetch_with
-        ∙ ap (all_dirtied c.dirt) (done_with a b s at.size c.done y (above_data a b s (sp_small y on.ready) under st))
+        ∙ ap (all_dirtied c.dirt) (done_with a b s at.size c.done y (above_data a b s on.ready.word under st))
         ∙ all_dirtied_with a b c.dirt (done_of (Found s at.size) c.done y) (λ x h same.
         let within = stack_within room (done_of (Found s at.size) c.done y) (kept.extents ∙ on.ready.text.extents) x h in
         omega (arith, within.0, same, under))
@@ -305,7 +298,7 @@ module _ {p : Program} {e : Image} (room : Room p e) where
         let t = commit_on k z z' on turn in
         let other = (poked_kept room a b z cell on.ready.text).text in
         group_turn s (poked a b z) on.ready.going other at
-        ∙ ap (λ f. committed (effect_step f (with_byte a b y)) (poked a b z)) (stands_with a b s at.size y t.left (sp_small y on.ready) (under_stack a cell) on.left.2 t.does)
+        ∙ ap (λ f. committed (effect_step f (with_byte a b y)) (poked a b z)) (stands_with a b s at.size y t.left on.ready.word (under_stack a cell) on.left.2 t.does)
         ∙ ap (λ (x : ZcState). Ok (poked a b x)) (sym t.is)
 
     pub group_commits_apart : CommitsApart p From

@@ -5,11 +5,12 @@ use Rattle.zc_base.specs.declared.mem_map.MemMap.{MemMap}
 use Rattle.zc_base.specs.declared.place.Place.{Place}
 use Rattle.rv_decode.specs.declared.instr.Instr.{Instr}
 use Rattle.rv_decode.specs.Effect.{Commits, effect}
-use Rattle.rv_decode.specs.State.{Event, ZcCore}
+use Rattle.rv_decode.specs.State.{ZcCore}
 use Rattle.sym_machine.specs.Change.{Does, Goes, Stops, op_does}
+use Rattle.sym_machine.specs.Events.{SymEvent}
 use Rattle.sym_machine.specs.Program.{Program}
 use Rattle.sym_machine.specs.State.{PlainCore, PlainState}
-use Rattle.sym_machine.specs.Step.{PlainStep, Stuck, Went, after_change, and_then, applied, in_turn}
+use Rattle.sym_machine.specs.Step.{PlainStep, Stuck, Went, after_change, and_then, applied, in_turn, is_set}
 use Rattle.sym_machine.proofs.StepLaws.{ended}
 use Rattle.zc_link.specs.Image.{Image}
 use Rattle.zc_link.specs.Invariants.Room.{Room}
@@ -20,26 +21,17 @@ use Rattle.zc_link.proofs.Straight.{AreStraight, Follow, IsStraight, straight_go
 -- ---- the program alone
 
 -- a state and what else goes with it
-pub went_same : (s t : PlainCore) (events others : List Event) → Went s events ≡ Went t others → s ≡ t
+pub went_same : (s t : PlainCore) (events others : List SymEvent) → Went s events ≡ Went t others → s ≡ t
 went_same s t events others h = cc
 
--- none has an event
-pub in_turn-silent : (map : MemMap) (is : List Instr) (next : Place) (s s' : PlainCore) (events : List Event) → in_turn map is next s ≡ Went s' events → events ≡ []
-in_turn-silent map [] next s s' events h = cc
-in_turn-silent map (i ∷ is) next s s' events h = by (applied map s (op_does i s next)) h (λ m g. in_turn-silent map is next m s' events g)
-  where
-    by : (t : PlainStep) → and_then t (in_turn map is next) ≡ Went s' events → ((m : PlainCore) → in_turn map is next m ≡ Went s' events → events ≡ []) → events ≡ []
-    by (Went m none) g again = again m g
-    by (Stuck why) g again = absurd cc
-
 -- the first of them, and the others
-pub record OneFirst (map : MemMap) (i : Instr) (is : List Instr) (next : Place) (s s' : PlainCore) (events : List Event) : Type 0 where
+pub record OneFirst (map : MemMap) (i : Instr) (is : List Instr) (next : Place) (s s' : PlainCore) (events : List SymEvent) : Type 0 where
   pub middle : PlainCore
-  pub made : List Event
+  pub made : List SymEvent
   pub first : applied map s (op_does i s next) ≡ Went middle made
   pub rest : in_turn map is next middle ≡ Went s' events
 
-pub one_first : (map : MemMap) (i : Instr) (is : List Instr) (next : Place) (s s' : PlainCore) (events : List Event) → in_turn map (i ∷ is) next s ≡ Went s' events → OneFirst map i is next s s' events
+pub one_first : (map : MemMap) (i : Instr) (is : List Instr) (next : Place) (s s' : PlainCore) (events : List SymEvent) → in_turn map (i ∷ is) next s ≡ Went s' events → OneFirst map i is next s s' events
 one_first map i is next s s' events h = by (applied map s (op_does i s next)) refl h
   where
     by : (t : PlainStep) → applied map s (op_does i s next) ≡ t → and_then t (in_turn map is next) ≡ Went s' events → OneFirst map i is next s s' events
@@ -47,12 +39,12 @@ one_first map i is next s s' events h = by (applied map s (op_does i s next)) re
     by (Stuck why) first g = absurd cc
 
 -- the steps of two lists of instructions, taken apart
-pub record Apart (map : MemMap) (is js : List Instr) (next : Place) (s s' : PlainCore) (events : List Event) : Type 0 where
+pub record Apart (map : MemMap) (is js : List Instr) (next : Place) (s s' : PlainCore) (events : List SymEvent) : Type 0 where
   pub middle : PlainCore
   pub first : in_turn map is next s ≡ Went middle []
   pub rest : in_turn map js next middle ≡ Went s' events
 
-pub in_turn-apart : (map : MemMap) (is js : List Instr) (next : Place) (s s' : PlainCore) (events : List Event) → in_turn map (is ++ js) next s ≡ Went s' events → Apart map is js next s s' events
+pub in_turn-apart : (map : MemMap) (is js : List Instr) (next : Place) (s s' : PlainCore) (events : List SymEvent) → in_turn map (is ++ js) next s ≡ Went s' events → Apart map is js next s s' events
 in_turn-apart map [] js next s s' events h = record { middle = s; first = refl; rest = h }
 in_turn-apart map (i ∷ is) js next s s' events h =
     let one = one_first map i (is ++ js) next s s' events h in
@@ -77,14 +69,14 @@ pub record AllDone (p : Program) (Named : Place → Type 0) (e : Image) (is : Li
 
 module _ {p : Program} {Named : Place → Type 0} {e : Image} (room : Room p e) where
   one_done :
-      (i : Instr) (next : Place) (s m : PlainCore) (events : List Event) (z : ZcCore) → IsStraight i → applied p.map s (op_does i s next) ≡ Went m events → Alike p Named e s z
+      (i : Instr) (next : Place) (s m : PlainCore) (events : List SymEvent) (z : ZcCore) → IsStraight i → applied p.map s (op_does i s next) ≡ Went m events → Alike p Named e s z
       → OneDone p Named e i next s m z
   one_done i next s m events z low h al = by (op_does i s next) refl h
     where
       by : (d : Does) → op_does i s next ≡ d → applied p.map s d ≡ Went m events → OneDone p Named e i next s m z
       by (Stops why) is g = absurd cc
       by (Goes c) is g =
-          let end = (ended p.map (after_change c s) m c.events events g).0 in
+          let end = (ended p.map (is_set p.map s) (after_change c s) m c.events events g).0 in
           let goes = straight_goes room i c next low al.ready is in
           record {
             after = goes.made.after;
@@ -95,7 +87,7 @@ module _ {p : Program} {Named : Place → Type 0} {e : Image} (room : Room p e) 
           }
 
   pub all_done :
-      (is : List Instr) (next : Place) (s : PlainCore) (r' : PlainState) (events : List Event) (z : ZcCore) → AreStraight is → in_turn p.map is next s ≡ Went r'.core events
+      (is : List Instr) (next : Place) (s : PlainCore) (r' : PlainState) (events : List SymEvent) (z : ZcCore) → AreStraight is → in_turn p.map is next s ≡ Went r'.core events
       → Alike p Named e s z → AllDone p Named e is next s r' z
   all_done [] next s r' events z low h al =
       let same : s ≡ r'.core = went_same s r'.core [] events h in

@@ -1,23 +1,24 @@
 -- The induction over the number of steps: what keeps step with the program follows it under every plan. The number of commits is
 -- taken from the program's run alone, before any plan is named. A run that ends inside a stretch has made no commit of that stretch,
 -- so no interrupt of it either, and only the events are claimed.
-use Rattle.std.proofs.Common.{◌≡◌, ℕ, zero, suc, ◌+◌, ◌-◌, ◌*◌, ◌<◌, ◌≤◌, List, [], Bool, true, false, cond, Option, Some, None, Ok, Err, Result, refl, sym, ap, ◌∙◌, subst, inl, inr, ⊎_elim, arith, eqb, ltb}
+use Rattle.std.proofs.Common.{◌≡◌, ℕ, zero, suc, ◌+◌, ◌-◌, ◌*◌, ◌<◌, ◌≤◌, List, [], map, Bool, true, false, cond, Option, Some, None, Ok, Err, Result, refl, sym, ap, ◌∙◌, subst, inl, inr, ⊎_elim, arith, eqb, ltb}
 use Rattle.std.specs.Prelude.{◌⊎◌, IsSome}
 use Rattle.std.proofs.lemmas.List.Elements.{All-nil}
 use Rattle.std.proofs.lemmas.Bool.{false≢true, ltb-false, ltb-true}
 use Rattle.zc_base.specs.declared.place.Place.{Place}
 use Rattle.interrupt_plan.specs.Plan.{AreInterrupts, Interrupt, interrupts_at}
 use Rattle.interrupt_plan.proofs.PlanLaws.{interrupts_at-bytes}
-use Rattle.rv_decode.specs.Devices.{AreOutside}
+use Rattle.rv_decode.specs.Devices.{AreOutside, IsOutside}
 use Rattle.rv_decode.specs.Run.{◌>>=◌, iterate}
 use Rattle.rv_decode.specs.State.{ZcState}
 use Rattle.rv_decode.proofs.RunLaws.{bind_ok, iterate-add}
 use Rattle.psabi_sym.specs.Inputs.{parsed}
 use Rattle.sym_machine.specs.declared.why.Why.{Why}
+use Rattle.sym_machine.specs.Events.{event_in}
 use Rattle.sym_machine.specs.Objects.{program_of}
 use Rattle.sym_machine.specs.Program.{Program}
 use Rattle.sym_machine.specs.Run.{plain_turn, program_after_with}
-use Rattle.sym_machine.specs.State.{PlainCore, PlainState, first_plain}
+use Rattle.sym_machine.specs.State.{PlainCore, PlainState, start_plain}
 use Rattle.sym_machine.proofs.RunLaws.{all_stay, turns_devices}
 use Rattle.zc_machine.specs.Run.{first_state_with, zc_turns, machine_after_with}
 use Rattle.zc_machine.proofs.TurnLaws.{zc_turns-add, zc_turns_devices}
@@ -29,6 +30,7 @@ use Rattle.moved_runs.specs.Leads.{IsNamed}
 use Rattle.zc_link.specs.Sound.{Sound, Together}
 use Rattle.zc_link.specs.Stands.{Stands}
 use Rattle.zc_link.specs.TextLayout.{TextLayout, stretch_in}
+use Rattle.zc_link.proofs.EventLaws.{events_kept}
 use Rattle.zc_link.proofs.Start.{loaded_first}
 
 -- ---- what is known at the ends
@@ -136,7 +138,7 @@ module _ (p : Program) (Named : Place → Type 0) (e : Image) (pace : Pace) (law
   -- too few
   record Runs (m n : ℕ) (r r' : PlainState) : Type 0 where
     ran :
-        (cuts : ℕ → List Interrupt) → AreInterrupts cuts → (z : ZcState) → Together p Named e r.core z → z.events ≡ r.events
+        (cuts : ℕ → List Interrupt) → AreInterrupts cuts → (z : ZcState) → Together p Named e r.core z → z.events ≡ map (event_in e.address) r.events
         → z.devices ≡ r.devices → AreOutside p.map r.devices → Ran cuts m r' z
     goes_on : IsSome r'.core.exit ⊎ (n ≤ (aligns + 16) * m + paced.ahead r.core.place + 15)
 
@@ -146,7 +148,7 @@ module _ (p : Program) (Named : Place → Type 0) (e : Image) (pace : Pace) (law
     ran = λ cuts are z t same devices outside. record {
       after = z;
       runs = refl;
-      follows = record { events = same ∙ sym events; stands = λ _. subst (λ s. Stands p e.address s z) (sym core) (together_stands p Named e r.core z t) };
+      follows = record { events = events_kept e.address r.events r'.events z.events same events; stands = λ _. subst (λ s. Stands p e.address s z) (sym core) (together_stands p Named e r.core z t) };
     };
     goes_on = ⊎_elim (λ exited. inl exited) (λ (small : n ≤ 15). inr (omega (arith, small))) few;
   }
@@ -160,7 +162,7 @@ module _ (p : Program) (Named : Place → Type 0) (e : Image) (pace : Pace) (law
         record {
           after = z;
           runs = refl;
-          follows = record { events = same ∙ sym way.events; stands = λ claim. absurd (no_claim r' way.unlisted way.running claim) };
+          follows = record { events = events_kept e.address r.events r'.events z.events same way.events; stands = λ claim. absurd (no_claim r' way.unlisted way.running claim) };
         })
         (λ over. absurd (let x : None ≡ Some over.status = sym running ∙ over.exited in cc))
         t;
@@ -233,10 +235,10 @@ module _ (p : Program) (Named : Place → Type 0) (e : Image) (pace : Pace) (law
 
   pub follows : FollowsAlways p aligns e
   unfolding program_after_with machine_after_with
-  follows devices outside input bytes =
+  follows w outside bytes =
       let lead = lead_of p e in
       let short : lead ≤ 3 = lead_few (e.address p.entry) e.entry in
-      let start : PlainState = record { core = first_plain p input; events = []; devices = devices } in
+      let start : PlainState = record { core = start_plain w.sp_set p w.input; events = []; devices = w.devices } in
       record {
         commits = λ n. lead + walked p pace n n start;
         follows = λ n s h first is plan is_plan.
@@ -245,15 +247,15 @@ module _ (p : Program) (Named : Place → Type 0) (e : Image) (pace : Pace) (law
             let cuts = interrupts_at plan in
             let are = interrupts_at-bytes plan is_plan in
             let later : ℕ → List Interrupt = λ j. cuts (lead + j) in
-            let a = law.start first is devices input bytes cuts are in
+            let a = law.start w first is bytes cuts are in
             let b = all.ran later (λ j. are (lead + j)) a.after a.together a.events
-            (zc_turns_devices cuts lead (first_state_with first devices input) a.after a.runs) outside in
-            (b.after, zc_turns-add cuts lead m (first_state_with first devices input) ∙ ap (λ x. x >>= zc_turns later m) a.runs ∙ b.runs, b.follows);
+            (zc_turns_devices cuts lead (first_state_with first w.devices w.input) a.after a.runs) outside in
+            (b.after, zc_turns-add cuts lead m (first_state_with first w.devices w.input) ∙ ap (λ x. x >>= zc_turns later m) a.runs ∙ b.runs, b.follows);
         rises = λ n k le. let more = walked_rises p pace n k n k start le le in omega (arith, more);
         goes_on = λ n s h. ⊎_elim
             (λ exited. inl exited)
             (λ few. inr (
-            let ahead = paced.few p.entry in
+            let ahead = paced.few start.core.place in
             let more = times_more (aligns + 16) 1 (lead + walked p pace n n start) (omega arith) in
             let rises = times_rises (aligns + 16) (walked p pace n n start) lead in
             let turned : (aligns + 16) * (lead + walked p pace n n start + 1) ≡ (aligns + 16) * (1 + (lead + walked p pace n n start)) = ap (λ k. (aligns + 16) * k) (omega arith) in
@@ -262,10 +264,10 @@ module _ (p : Program) (Named : Place → Type 0) (e : Image) (pace : Pace) (law
         at_most = λ n. let few = walked_few p pace law.few n n start in omega (arith, few, short);
       }
 
--- without devices, from the state that is loaded
+-- without devices, from the state that is loaded, where sp is set
 pub without_devices : (p : Program) (aligns : ℕ) (e : Image) → FollowsAlways p aligns e → FollowsWithin 64 p e
 without_devices p aligns e always input n s bytes runs =
-    let all = always [] (All-nil (λ d. (d.at + d.size ≤ p.map.text) ⊎ (p.map.stack_high ≤ d.at))) input bytes in
+    let all = always (record { sp_set = true; devices = []; input = input }) (All-nil (IsOutside p.map)) bytes in
     (all.commits n, all.at_most n, λ plan is_plan. all.follows n s runs (loaded_core e) (loaded_first e) plan is_plan)
 
 -- ---- files

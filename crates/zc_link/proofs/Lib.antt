@@ -4,11 +4,13 @@ pub mod Words
 pub mod Addresses
 pub mod Operations
 pub mod Branches
+pub mod OnStack
 pub mod Ready
 pub mod Writes
 pub mod Buffers
 pub mod Accesses
 pub mod Ends
+pub mod EventLaws
 pub mod Cuts
 pub mod Commits
 pub mod Instrs
@@ -21,11 +23,14 @@ pub mod Padding
 pub mod Items
 pub mod Slots
 pub mod SlotWords
+pub mod DeviceSteps
+pub mod SystemSteps
 mod Devices
 pub mod Effects
 pub mod Frames
 pub mod FrameCuts
 pub mod Straight
+pub mod StackFound
 pub mod InTurn
 pub mod Unknown
 pub mod GroupEnds
@@ -89,7 +94,7 @@ pub mod ItemRegisters
 pub mod SizedPieces
 pub mod TablesLaid
 pub mod HalfNormals
-pub mod CopiedHalves
+pub mod CopiedBytes
 pub mod StretchesLaid
 pub mod Within
 pub mod ImageData

@@ -1,6 +1,6 @@
--- Where an instruction without accesses stands at pc, one that is no push or pop, an interrupt only writes bytes of the
--- stack, and the instruction still stands there. So on a way of one commit it stands there until that is made, whatever
--- interrupts come and cells are written.
+-- Where what is fetched at pc has no accesses, since it is no push or pop or no instruction at all, an interrupt only writes
+-- bytes of the stack, and the same is fetched afterwards. So on a way of one commit it stands there until that is made,
+-- whatever interrupts come and cells are written.
 use Rattle.std.proofs.Common.{◌≡◌, ℕ, suc, ◌<◌, ◌≤◌, List, [], ◌∷◌, true, refl, sym, ap, ◌∙◌, subst, inl, arith, ltb, ◌&&◌}
 use Rattle.std.proofs.lemmas.Bool.{and_parts, cond_both}
 use Rattle.interrupt_plan.specs.Plan.{Interrupt}
@@ -12,45 +12,54 @@ use Rattle.sym_machine.specs.Program.{Program}
 use Rattle.zc_decode.specs.Accesses.{accesses_of}
 use Rattle.zc_decode.specs.declared.short.Short.{Short}
 use Rattle.zc_decode.specs.declared.short.Short.TheVariants.{Base}
-use Rattle.zc_machine.specs.Fetch.{Found, fetched_at}
-use Rattle.zc_machine.specs.Interrupt.{all_dirtied, dirtied, interrupted}
+use Rattle.zc_machine.specs.declared.reason.Reason.TheVariants.{Illegal}
+use Rattle.zc_machine.specs.Fetch.{Fetched, Found, Missing, fetched_at}
+use Rattle.zc_machine.specs.Interrupt.{all_dirtied, dirtied, done_of, interrupted}
 use Rattle.zc_machine.proofs.FetchLaws.{SameText, fetched_same}
 use Rattle.zc_link.specs.Image.{Image, loaded_core}
-use Rattle.zc_link.specs.Invariants.Stretches.{OneAt}
+use Rattle.zc_link.specs.Invariants.Stretches.{OneAt, UnreadAt}
 use Rattle.zc_link.specs.Invariants.Room.{Room}
 use Rattle.zc_link.specs.DataApart.{Cuts, IsCell, OnWay, Pokes, Starts, Turns, poked}
-use Rattle.zc_link.proofs.Cuts.{cut-none}
+use Rattle.zc_link.proofs.Cuts.{cut-quiet, done-none}
 
--- an instruction without accesses is at an address
+-- what is fetched at an address has no accesses
 pub record NoAccessAt (e : Image) (a : ℕ) : Type 0 where
-  pub short : Short
-  pub none : (sp : ℕ) → accesses_of short sp ≡ []
-  pub at : OneAt e a short
+  pub fetched : Fetched
+  pub is : fetched_at (loaded_core e) a ≡ fetched
+  pub quiet : (done : List ℕ) (y : ZcCore) → done_of fetched done y ≡ y
 
--- an instruction of 32 bits, or its short form, is one without accesses
+-- an instruction without accesses
+abbrev pub short_at : {e : Image} {a : ℕ} (short : Short) → ((sp : ℕ) → accesses_of short sp ≡ []) → OneAt e a short → NoAccessAt e a
+short_at short none at = record { fetched = Found short at.size; is = at.here; quiet = λ done y. done-none short at.size none done y }
+
+-- one of 32 bits, or its short form, is such an instruction
 abbrev pub base_at : {e : Image} {a : ℕ} {i : Instr} → OneAt e a (Base i) → NoAccessAt e a
-base_at {i = i} at = record { short = Base i; none = λ sp. refl; at = at }
+base_at {i = i} at = short_at (Base i) (λ sp. refl) at
 
--- an instruction without accesses is at pc in the text, which is as it was loaded
+-- a word that is no instruction has none
+abbrev pub unread_no_access : {e : Image} {a word : ℕ} → UnreadAt e a word → NoAccessAt e a
+unread_no_access at = record { fetched = Missing Illegal; is = at.here; quiet = λ done y. refl }
+
+-- what is fetched at pc has none, and the text is as it was loaded
 pub record NoAccess (e : Image) (y : ZcCore) : Type 0 where
   pub text : SameText (loaded_core e) y
   pub here : NoAccessAt e y.pc
   pub open here use *
 
--- the instruction at pc is fetched
-pub here_fetched : {e : Image} {y : ZcCore} (n : NoAccess e y) → fetched_at y y.pc ≡ Found n.short n.at.size
-here_fetched {e} {y} n = fetched_same (loaded_core e) y n.text y.pc ∙ n.at.here
+-- it is fetched at pc
+pub here_fetched : {e : Image} {y : ZcCore} (n : NoAccess e y) → fetched_at y y.pc ≡ n.fetched
+here_fetched {e} {y} n = fetched_same (loaded_core e) y n.text y.pc ∙ n.is
 
--- an interrupt before the instruction only writes its own bytes
+-- an interrupt before it only writes its own bytes
 pub cut_writes : {e : Image} {y : ZcCore} (c : Interrupt) → NoAccess e y → interrupted c y ≡ all_dirtied c.dirt y
-cut_writes {y = y} c n = cut-none c y n.short n.at.size n.none (here_fetched n)
+cut_writes {y = y} c n = cut-quiet c y n.fetched n.quiet (here_fetched n)
 
 -- z is y but for memory, whose text is as it was loaded
 pub record KeepsText (e : Image) (y z : ZcCore) : Type 0 where
   pub rest : z ≡ record y { memory = z.memory }
   pub text : SameText (loaded_core e) z
 
--- with only memory outside the text changed, the instruction is still at pc
+-- with only memory outside the text changed, it is still fetched at pc
 here_kept : {e : Image} {y z : ZcCore} → NoAccess e y → KeepsText e y z → NoAccess e z
 here_kept {e} n kept = record { text = kept.text; here = subst (λ x. NoAccessAt e x.pc) (sym kept.rest) n.here }
 

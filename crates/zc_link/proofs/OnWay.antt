@@ -1,6 +1,6 @@
 -- On the way from a sound pair it is known what stands at pc as long as commits are left: of a group one of its
--- instructions, and else one without accesses, so no push or pop. A stretch of several commits that is no group has none
--- that looks at memory, and one of one commit has one that the program goes on from.
+-- instructions, and else what has no accesses, so no push or pop. A stretch of several commits that is no group has none
+-- that looks at memory, and one of one commit has what the program goes on from.
 use Rattle.std.proofs.Common.{◌≡◌, ℕ, zero, suc, ◌<◌, List, [], ◌∷◌, Option, Some, None, Ok, refl, sym, ap, ◌∙◌, subst, inr, ⊎_elim, arith}
 use Rattle.std.specs.Prelude.{◌⊎◌}
 use Rattle.std.proofs.lemmas.Bool.{cases_lt}
@@ -35,10 +35,11 @@ use Rattle.zc_link.proofs.Bare.{Bares, OnBare, bares_no_access, nops_bare, two_b
 use Rattle.zc_link.proofs.GroupFrom.{group_from}
 use Rattle.zc_link.proofs.GroupWay.{OnGroup}
 use Rattle.zc_link.proofs.Longs.{goes_over, known_taken}
-use Rattle.zc_link.proofs.NoAccess.{NoAccess, NoAccessAt, base_at, one_no_access}
+use Rattle.zc_link.proofs.NoAccess.{NoAccess, NoAccessAt, base_at, one_no_access, short_at, unread_no_access}
 use Rattle.zc_link.proofs.ExpansionsCome.{expansion_laid}
 use Rattle.zc_link.proofs.ExpansionsFrom.{expansion_from}
 use Rattle.zc_link.proofs.Straight.{one_turn}
+use Rattle.zc_link.proofs.SystemSteps.{named_system}
 
 -- ---- what the program goes on from
 
@@ -64,7 +65,7 @@ item_alone p q next s (Some (RawPair first second)) laid goes = absurd cc
 -- or that a device answers
 item_answered :
     (ds : List Device) (p : Program) {e : Image} (q next : Place) {a : ℕ} (s : PlainCore) {c : Change} (o : Option Item) → ItemLaid p e q a o
-    → device_does ds p o s next ≡ Some c → NoAccessAt e a
+    → device_does ds p o s next ≡ Some (Goes c) → NoAccessAt e a
 item_answered ds p q next s None laid does = absurd cc
 item_answered ds p q next s (Some (Op i)) laid does = base_at laid.laid.at
 item_answered ds p q next s (Some (Hi i t)) laid does = base_at laid.laid.at
@@ -76,7 +77,7 @@ item_answered ds p q next s (Some (Jump rd to)) laid does = base_at laid.laid.at
 item_answered ds p q next s (Some (Call rd temp to)) laid does = base_at laid.laid.at
 item_answered ds p q next s (Some (Align bytes)) laid does = absurd cc
 item_answered ds p q next s (Some (Word t)) laid does = absurd cc
-item_answered ds p q next s (Some (Raw word)) laid does = absurd cc
+item_answered ds p q next s (Some (Raw word)) laid does = unread_no_access (laid (named_system ds p word s next _ does).system).at
 item_answered ds p q next s (Some (RawShort half)) laid does = absurd cc
 item_answered ds p q next s (Some (RawPair first second)) laid does = absurd cc
 
@@ -160,7 +161,7 @@ module _ {p : Program} {Named : Place → Type 0} {e : Image} {stretch : Place �
         by CallOf single call steps more = base_at call.at.one
         by (LongOf op first second) single long steps more = base_at long.at.one
         by (GroupOf items commits) single group steps more = absurd single
-        by (TableOf slot) single table steps more = record { short = TableJump slot; none = λ sp. refl; at = table.at }
+        by (TableOf slot) single table steps more = short_at (TableJump slot) (λ sp. refl) table.at
 
     pub pair_no_access : IsNoGroup (stretch r.core.place) → item_expansion (p.item r.core.place) ≡ None → (k : ℕ) (z : ZcState) → OnWay p From (suc k) z → NoAccess e z.core
     pair_no_access other one = ⊎_elim
@@ -191,9 +192,10 @@ module _ {p : Program} {Named : Place → Type 0} {e : Image} {stretch : Place �
             let r1 = all_poked from.cells r in
             let known = expansion_laid p r.core.place (p.item r.core.place) is item are in
             let turn = one_turn p r1 from.after steps in
+            let expands = ap (λ q. item_expansion (p.item q)) (poked_place from.cells r) ∙ are in
             subst (λ n. OnGroup laid.room n z.core) (sym one)
-            (expansion_from laid.room r from.after z from.cells from.sound from.are known.short is known.kind known.laid
-            (stepped_expansion p is r1 from.after (poked_exit from.cells r ∙ from.sound.alike.running) (ap (λ q. item_expansion (p.item q)) (poked_place from.cells r) ∙ are) turn))
+            (expansion_from laid.room r from.after z from.cells from.sound from.are known.short is known.kind expands known.laid
+            (stepped_expansion p is r1 from.after (poked_exit from.cells r ∙ from.sound.alike.running) expands turn))
         by (AlignOf count) single align steps one = no _ align.item refl
         by CallOf single call steps one = no _ call.item refl
         by (LongOf op first second) single long steps one = no _ long.item refl

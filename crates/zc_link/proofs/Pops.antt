@@ -29,6 +29,7 @@ use Rattle.zc_link.proofs.Effects.{Effects, KeepsRest, effects_apart, loads_sp, 
 use Rattle.zc_link.proofs.FrameCuts.{AvoidSp, Behind, IsReady, LooksLike, alike_ready, behind, looks_alike, pop_kept, spoiled_alike}
 use Rattle.zc_link.proofs.Frames.{ended, pop_made}
 use Rattle.zc_link.proofs.GroupEnds.{behind_one, turn_commits}
+use Rattle.zc_link.proofs.OnStack.{OnStack}
 use Rattle.zc_link.proofs.Pushes.{two_some}
 use Rattle.zc_link.proofs.Singles.{below_top}
 use Rattle.zc_link.proofs.Slots.{FrameFacts, IsOneOf}
@@ -64,20 +65,21 @@ pub record Before (p : Program) (Named : Place → Type 0) (e : Image) (ending :
 pub no_sp : {list frame : ℕ} {order : List Slot} → FrameFacts list frame order → AvoidSp (slots_below frame (registers_of list))
 no_sp facts d m = (facts.register d (facts.same.back d m)).no_sp
 
--- the run of a pop's items without interrupts, up to its return: from states that are alike to such, by the state zp with a0 as it was
+-- the run of a pop's items without interrupts, up to its return, where sp is set: from states that are alike to such, by
+-- the state zp with a0 as it was
 pub record PopRun (p : Program) (Named : Place → Type 0) (e : Image) (ending : Ending) (frame : ℕ) (order : List Slot) (s s' : PlainCore) (cuts : ℕ → List Interrupt) (z : ZcState) : Type 0 where
   pub are : AreInterrupts cuts
-  pub before : Alike p Named e s z.core
+  pub before : OnStack p Named e s z.core
   pub zp : ZcCore
   pub zf : ZcCore
-  pub after : Alike p Named e s' zf
+  pub after : OnStack p Named e s' zf
   pub effects : Effects (pop_ops frame order) z.core zp
   pub final : Final ending zp zf
 
 module _ {p : Program} {Named : Place → Type 0} {e : Image} (room : Room p e) {list frame : ℕ} {order : List Slot} (facts : FrameFacts list frame order) where
   -- a frame that is popped ends within the stack
   pub pop_top :
-      (s : PlainCore) (z zp : ZcCore) → Alike p Named e s z → p.map.stack_low ≤ reg_in zp 2 → Effects (pop_ops frame order) z zp
+      (s : PlainCore) (z zp : ZcCore) → OnStack p Named e s z → p.map.stack_low ≤ reg_in zp 2 → Effects (pop_ops frame order) z zp
       → (reg_in z 2 + frame < 2 ^ 32) × (reg_in zp 2 ≡ reg_in z 2 + frame)
   pop_top s z zp al low ef =
       let parts = effects_apart (slot_loads order) (raise_sp frame ∷ []) z zp ef in
@@ -96,7 +98,7 @@ module _ {p : Program} {Named : Place → Type 0} {e : Image} (room : Room p e) 
       (small, omega (arith, sp, is, small))
 
   pop_done :
-      (ending : Ending) (size rest : ℕ) (s s' : PlainCore) (z zp zf y : ZcCore) → rest + frame_adjust list frame ≡ frame → Alike p Named e s z → Alike p Named e s' zf
+      (ending : Ending) (size rest : ℕ) (s s' : PlainCore) (z zp zf y : ZcCore) → rest + frame_adjust list frame ≡ frame → OnStack p Named e s z → OnStack p Named e s' zf
       → Effects (pop_ops frame order) z zp → Final ending zp zf → BeforePop p.map.stack_low list frame rest z y → PopDone p Named e ending list frame size s' y
   pop_done ending size rest s s' z zp zf y sum al alf ef fin rd =
       let n = reg_in z 2 in
@@ -121,7 +123,7 @@ module _ {p : Program} {Named : Place → Type 0} {e : Image} (room : Room p e) 
       record {
         regs = mk.regs;
         does = mk.does;
-        alike = looks_alike room (n + rest) (omega (arith, sum, top_is, sp, high)) (λ a l lt. alf.below a l (omega (arith, lt, top_is, sp, sum))) like alf;
+        alike = looks_alike room (n + rest) (omega (arith, sum, top_is, sp, high)) (λ a l lt. alf.under a l (omega (arith, lt, top_is, sp, sum))) like alf.alike;
       }
     where
       same_word : (d : Slot) → IsOneOf d (slots_below frame (registers_of list)) → word_at y (reg_in z 2 + d.offset) ≡ word_at z (reg_in z 2 + d.offset)
@@ -154,8 +156,8 @@ module _ {p : Program} {Named : Place → Type 0} {e : Image} (room : Room p e) 
     whole_before none half =
         let sum = facts.sum in
         let small = ends_at.0 in
-        let bh = behind room slots (no_sp facts) short (cuts 0) (run.are 0) z (alike_ready room run.before) half
-        (pop_kept p.map.stack_low slots (no_sp facts) z.core (λ a st. (stack_within room z.core run.before.extents a st).0) facts ending (reg_in z.core 2) half.size (λ d m. m) (omega (arith, none, sum)) small) in
+        let bh = behind room slots (no_sp facts) short (cuts 0) (run.are 0) z (alike_ready room run.before.alike) half
+        (pop_kept p.map.stack_low p.map.stack_high slots (no_sp facts) z.core (stack_within room z.core run.before.extents) facts ending (reg_in z.core 2) half.size (λ d m. m) (omega (arith, none, sum)) small) in
         record {
           now = bh.now;
           at = ap (λ x. x.pc) bh.spoiled.rest;
@@ -177,10 +179,10 @@ module _ {p : Program} {Named : Place → Type 0} {e : Image} (room : Room p e) 
       rest = rest_of list frame
 
       abbrev first : Behind room [] (Base form.here) form.at.size (cuts 0) z
-      first = behind_one room (Base form.here) (cuts 0) (λ sp. refl) (run.are 0) z (alike_ready room run.before) form.at
+      first = behind_one room (Base form.here) (cuts 0) (λ sp. refl) (run.are 0) z (alike_ready room run.before.alike) form.at
 
       first_alike : Alike p Named e s first.now
-      first_alike = spoiled_alike room first.spoiled run.before
+      first_alike = spoiled_alike room first.spoiled run.before.alike
 
       abbrev raised : ZcCore
       raised = onward first.now form.at.size (set_reg first.now.regs 2 (reg_in z.core 2 + rest))
@@ -206,14 +208,13 @@ module _ {p : Program} {Named : Place → Type 0} {e : Image} (room : Room p e) 
       raised_ready : IsReady room raised
       raised_ready =
           let f = first_alike in
-          let top = ends_at.1 in
-          let high = run.after.high in
+          let small = ends_at.0 in
           let sum = facts.sum in
           record {
             going = f.going;
             text = record { extents = f.extents; text = f.text };
             are_bytes = f.core.bytes;
-            high = omega (arith, raised_sp, top, sp_f, high, sum);
+            word = omega (arith, raised_sp, small, sum);
           }
 
       pub split_before : (half : OneAt e (z.core.pc + form.at.size) short) → Before p Named e ending list frame half.size 2 (z.core.pc + form.at.size) s' cuts z
@@ -223,7 +224,7 @@ module _ {p : Program} {Named : Place → Type 0} {e : Image} (room : Room p e) 
           let at_half : OneAt e raised.pc short = record { size = half.size; here = ap (fetched_at (loaded_core e)) (sym raised_pc) ∙ half.here; small = (let s = half.small in omega (arith, s, raised_pc)) } in
           let f = first.spoiled in
           let bh = behind room slots (no_sp facts) short (cuts 1) (run.are 1) after_first raised_ready at_half
-          (pop_kept p.map.stack_low slots (no_sp facts) raised (λ a st. (stack_within room raised raised_ready.text.extents a st).0) facts ending (reg_in z.core 2) half.size (λ d m. m) (omega (arith, raised_sp, sum)) small) in
+          (pop_kept p.map.stack_low p.map.stack_high slots (no_sp facts) raised (stack_within room raised raised_ready.text.extents) facts ending (reg_in z.core 2) half.size (λ d m. m) (omega (arith, raised_sp, sum)) small) in
           record {
             now = bh.now;
             at = ap (λ x. x.pc) bh.spoiled.rest ∙ sym raised_pc;

@@ -1,7 +1,7 @@
 -- Pushes, whole and split: from each sound pair the group's steps are its commits, whatever interrupts come before them. The push goes
 -- on from the state behind the interrupts as its items do, one after another; between the two instructions of a split push an
 -- interrupt may write all bytes below the middle sp, which the program doesn't know.
-use Rattle.std.proofs.Common.{◌≡◌, ◌≢◌, ℕ, ◌+◌, ◌-◌, ◌%◌, ◌^◌, ◌<◌, ◌≤◌, List, [], ◌∷◌, length, Some, Ok, refl, sym, ap, ◌∙◌, subst, arith, pos, negsuc, ⊎_elim, inl, inr}
+use Rattle.std.proofs.Common.{◌≡◌, ◌≢◌, ℕ, ◌+◌, ◌-◌, ◌%◌, ◌^◌, ◌<◌, ◌≤◌, List, [], ◌∷◌, length, Some, Ok, true, refl, sym, ap, ◌∙◌, subst, arith, pos, negsuc, ⊎_elim, inl, inr}
 use Rattle.std.specs.Prelude.{All}
 use Rattle.std.proofs.lemmas.Bool.{cases_eq}
 use Rattle.zc_base.specs.declared.place.Place.{Place}
@@ -15,6 +15,8 @@ use Rattle.rv_decode.proofs.RegisterLaws.{length-set_reg, reads, reads-set_reg_o
 use Rattle.sym_machine.specs.Program.{Program}
 use Rattle.sym_machine.specs.Run.{plain_turn}
 use Rattle.sym_machine.specs.State.{PlainState}
+use Rattle.sym_machine.specs.Step.{is_set}
+use Rattle.sym_machine.proofs.RunLaws.{turns_set}
 use Rattle.zc_decode.specs.declared.short.Short.TheVariants.{Base, Push}
 use Rattle.zc_machine.specs.Fetch.{fetched_at}
 use Rattle.zc_machine.specs.Run.{zc_turn}
@@ -31,8 +33,10 @@ use Rattle.zc_link.proofs.FrameCuts.{IsReady, LooksLike, alike_ready, behind, lo
 use Rattle.zc_link.proofs.Cuts.{stack_within}
 use Rattle.zc_link.proofs.Frames.{push_made}
 use Rattle.zc_link.proofs.GroupEnds.{FromPlace, arrives, behind_one, one_commit, turn_commits, two_commits}
+use Rattle.zc_link.proofs.OnStack.{OnStack, on_stack}
 use Rattle.zc_link.proofs.Singles.{below_top}
 use Rattle.zc_link.proofs.Slots.{FrameFacts, IsOneOf}
+use Rattle.zc_link.proofs.StackFound.{finds_set, push_finds}
 use Rattle.zc_link.proofs.Straight.{AreStraight, Follow, all_follow, on_way}
 use Rattle.zc_link.proofs.Unknown.{push_keeps}
 
@@ -89,20 +93,21 @@ pub record Pushed (p : Program) (Named : Place → Type 0) (e : Image) (list fra
 module _ {p : Program} {Named : Place → Type 0} {e : Image} (room : Room p e) {list frame : ℕ} {order : List Slot} (facts : FrameFacts list frame order) where
   pub pushed :
       (r r' : PlainState) (cuts : List Interrupt) → All IsInterrupt cuts → (z : ZcState) → (half : OneAt e z.core.pc (Push list (frame_adjust list frame)))
-      → ((y : ZcCore) → Alike p Named e r.core y → Follow p Named e (push_ops frame order) r' y) → Alike p Named e r.core z.core
+      → ((y : ZcCore) → Alike p Named e r.core y → Follow p Named e (push_ops frame order) r' y) → OnStack p Named e r.core z.core → is_set p.map r'.core ≡ true
       → Pushed p Named e list frame half.size r' cuts z
-  pushed r r' cuts are z half follow al =
+  pushed r r' cuts are z half follow al set =
       let n = reg_in z.core 2 in
       let adjust = frame_adjust list frame in
       let size = half.size in
-      let f0 = follow z.core al in
-      let deep = push_deep p.map.stack_low p.map.stack_high frame order z.core f0.after room.deep room.top facts.some facts.most al.core.count al.low al.high f0.alike.low f0.alike.high f0.effects in
+      let f0 = follow z.core al.alike in
+      let end = on_stack f0.alike set in
+      let deep = push_deep p.map.stack_low p.map.stack_high frame order z.core f0.after room.deep room.top facts.some facts.most al.core.count al.low al.high end.low end.high f0.effects in
       let words = al.core.words 2 in
-      let ready = alike_ready room al in
+      let ready = alike_ready room al.alike in
       let bh = behind room [] (λ d m. absurd m) (Push list adjust) cuts are z ready half
-      (push_kept p.map.stack_low [] (λ d m. absurd m) z.core (λ a st. (stack_within room z.core al.extents a st).0) facts adjust size deep words) in
+      (push_kept p.map.stack_low p.map.stack_high [] (λ d m. absurd m) z.core (stack_within room z.core al.extents) facts adjust size deep al.high words) in
       let y = bh.now in
-      let al1 = spoiled_alike room bh.spoiled al in
+      let al1 = spoiled_alike room bh.spoiled al.alike in
       let f1 = follow y al1 in
       let sp : reg_in y 2 ≡ n = bh.spoiled.registers 2 (λ d m. absurd m) in
       let mk = push_made facts size y f1.after al1.core.count (omega (arith, sp, deep)) (al1.core.words 2) f1.effects in
@@ -150,8 +155,15 @@ module _ {p : Program} {Named : Place → Type 0} {e : Image} (room : Room p e) 
     abbrev behind_ops : Place
     behind_ops = place_items_on p r.core.place (length (push_ops frame order))
 
+    set : is_set p.map r.core ≡ true
+    set = finds_set p (push_ops frame order) r r' (push_finds frame order) ops from.sound.alike.running h
+
+    on : OnStack p Named e r.core z.core
+    on = on_stack from.sound.alike set
+
     abbrev first : Pushed p Named e list frame half.size r' (cuts 0) z
-    first = pushed r r' (cuts 0) (from.are 0) z half (λ y al. all_follow room (push_ops frame order) r r' y ops (push_straight facts) h al) from.sound.alike
+    first = pushed r r' (cuts 0) (from.are 0) z half (λ y al. all_follow room (push_ops frame order) r r' y ops (push_straight facts) h al) on
+        (turns_set p (length (push_ops frame order)) r r' h set)
 
     first_pc : first.after.pc ≡ z.core.pc + half.size
     first_pc = let small = half.small in first.pc ∙ omega (arith, small)
@@ -180,11 +192,12 @@ module _ {p : Program} {Named : Place → Type 0} {e : Image} (room : Room p e) 
     first_ready : IsReady room first.after
     first_ready =
         let ps = first in
+        let words = from.sound.alike.core.words 2 in
         record {
           going = ps.exit ∙ ps.alike.going;
           text = record { extents = ps.extents ∙ ps.alike.extents; text = λ a t. ps.bytes a ∙ ps.alike.text a t };
           are_bytes = λ a. rw (ps.bytes a) (ps.alike.core.bytes a);
-          high = omega (arith, first_sp, from.sound.alike.high);
+          word = omega (arith, first_sp, words);
         }
 
     split_comes :
@@ -233,8 +246,8 @@ module _ {p : Program} {Named : Place → Type 0} {e : Image} (room : Room p e) 
         let unknown = λ (a : ℕ) (l : p.map.stack_low ≤ a) (lt : a < middle_sp).
         push_keeps room frame order r r' z.core a ops (push_straight facts) h from.sound.alike (let big = facts.some in omega (arith, big)) (omega (arith, deep))
         (λ d m. let over = facts.over d m in let under = facts.under d m in (omega (arith, deep, words, under), omega (arith, over, lt, deep)))
-        (from.sound.alike.below a l (omega (arith, lt))) in
-        let alike = looks_alike room middle_sp (let high = from.sound.alike.high in omega (arith, high)) unknown like ps.alike in
+        (on.under a l (omega (arith, lt))) in
+        let alike = looks_alike room middle_sp (let high = on.high in omega (arith, high)) unknown like ps.alike in
         let pc : z.core.pc + half.size + size ≡ y'.pc = below_top (z.core.pc + half.size) y.pc size (ap (λ x. x.pc) bh.spoiled.rest ∙ first_pc) form.at.small in
         arrives from 2 behind_ops r' y' (on_way p (push_ops frame order) (length (push_ops frame order)) r r' (omega arith) ops (push_straight facts) from.sound.alike.running h)
         (next ∙ ap Some pc) alike (zc_turns-more cuts 1 z after_first (record z { core = y' }) (zc_turns-one cuts z after_first ps.turn) turn2)

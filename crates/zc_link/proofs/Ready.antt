@@ -1,14 +1,18 @@
 -- States stay Ready if they move to another place and pc, if input is taken, if a register is set in both, and if the program forgets
--- one: what an instruction changes is a chain of such changes. They stay Alike if these leave sp.
-use Rattle.std.proofs.Common.{◌≡◌, ◌≢◌, ℕ, ◌^◌, ◌<◌, Some, None, drop, refl, ap, ◌∙◌, sym}
+-- one: what an instruction changes is a chain of such changes. They stay Alike if these leave sp, or sp isn't set.
+use Rattle.std.specs.Prelude.{◌⊎◌}
+use Rattle.std.proofs.Common.{◌≡◌, ◌≢◌, ℕ, ◌^◌, ◌<◌, None, false, drop, refl, ap, ◌∙◌, sym, arith, inl, inr, ⊎_elim}
+use Rattle.std.proofs.lemmas.Bool.{cases_eq}
 use Rattle.std.proofs.lemmas.List.Elements.{All-drop}
 use Rattle.zc_base.specs.declared.place.Place.{Place}
 use Rattle.rv_decode.specs.State.{ZcCore, reg_in, set_reg}
-use Rattle.rv_decode.proofs.RegisterLaws.{length-set_reg, reads, reads-set_reg_other, set_reg_both, set_reg_core, set_reg_each}
+use Rattle.rv_decode.proofs.RegisterLaws.{length-set_reg, reads-set_reg_other, set_reg_both, set_reg_core, set_reg_each}
 use Rattle.sym_machine.specs.declared.word.SymWord.{SymWord}
 use Rattle.sym_machine.specs.Program.{Program}
 use Rattle.sym_machine.specs.State.{PlainCore}
+use Rattle.sym_machine.specs.Step.{is_set, mark_for, stack_mark}
 use Rattle.sym_machine.specs.Words.{number_of, number_word, undef_word}
+use Rattle.sym_machine.proofs.StepLaws.{mark_high, mark_unset}
 use Rattle.zc_link.specs.Image.{Image}
 use Rattle.zc_link.specs.Sound.{Alike, NamesWord, Ready}
 use Rattle.zc_link.specs.Stands.{WordStands}
@@ -108,29 +112,33 @@ alike_moved pc commits al = record {
     text = al.text;
     table = al.table;
   };
-  sp = al.sp;
-  low = al.low;
-  high = al.high;
   below = al.below;
 }
 
--- states are still alike if the program forgets a register other than sp, in which the machine gets a word
+-- states are still alike if the program forgets a register in which the machine gets a word: one other than sp, or sp,
+-- if it isn't set
 pub alike_forgets :
-    {p : Program} {Named : Place → Type 0} {e : Image} {s : PlainCore} {z : ZcCore} (rd v pc commits : ℕ) → rd ≢ 2
+    {p : Program} {Named : Place → Type 0} {e : Image} {s : PlainCore} {z : ZcCore} (rd v pc commits : ℕ) → (rd ≢ 2) ⊎ (is_set p.map s ≡ false)
     → v < 2 ^ 32 → Alike p Named e s z
     → Alike p Named e (record s { regs = set_reg s.regs rd undef_word; exit = None })
     (record z { pc = pc; regs = set_reg z.regs rd v; commits = commits })
-alike_forgets {p} {Named} {e} {s} {z} rd v pc commits other small al =
-    let not_sp : 2 ≢ rd = λ is. other (sym is) in
-    let word = reads-set_reg_other (number_word 0) undef_word s.regs rd undef_word 2 not_sp in
-    let same : reads 0 0 (set_reg z.regs rd v) 2 ≡ reg_in z 2 = reads-set_reg_other 0 0 z.regs rd v 2 not_sp in
-    record {
-      ready =
-          ready_moved
-          (ready_set al.ready rd v undef_word small (undef_stands (value_in p e.address) v) (undef_names Named))
-          s.place pc commits;
-      sp = ap number_of word ∙ al.sp ∙ ap Some (sym same);
-      low = rw same al.low;
-      high = rw same al.high;
-      below = λ a low lt. al.below a low (rw same at lt);
-    }
+alike_forgets {p} {Named} {e} {s} {z} rd v pc commits other small al = record {
+  ready =
+      ready_moved
+      (ready_set al.ready rd v undef_word small (undef_stands (value_in p e.address) v) (undef_names Named))
+      s.place pc commits;
+  below = λ a low lt. al.below a low (mark a lt (cases_eq rd 2));
+}
+  where
+    forgotten : PlainCore
+    forgotten = record s { regs = set_reg s.regs rd undef_word; exit = None }
+
+    mark : (a : ℕ) → a < stack_mark p.map forgotten → (rd ≡ 2) ⊎ (rd ≢ 2) → a < stack_mark p.map s
+    mark a lt (inl is) =
+        let high = mark_high p.map forgotten in
+        let all = mark_unset p.map s (⊎_elim (λ apart. absurd (apart is)) (λ unset. unset) other) in
+        omega (arith, lt, high, all)
+    mark a lt (inr apart) =
+        let word = reads-set_reg_other (number_word 0) undef_word s.regs rd undef_word 2 (λ is. apart (sym is)) in
+        let same : stack_mark p.map forgotten ≡ stack_mark p.map s = ap (λ w. mark_for p.map (number_of w)) word in
+        omega (arith, lt, same)

@@ -1,6 +1,6 @@
 -- Pops, whatever their end: from each sound pair the group's steps are its commits, whatever interrupts come before them. Behind a pop
 -- that returns the program goes to the place whose address ra's word is, and the machine to ra's number, which is that address.
-use Rattle.std.proofs.Common.{◌≡◌, ℕ, ◌+◌, ◌*◌, ◌/◌, List, [], ◌∷◌, ◌++◌, length, length-append, Option, Some, None, Ok, drop, refl, sym, ap, ◌∙◌, subst, arith, ⊎_elim}
+use Rattle.std.proofs.Common.{◌≡◌, ℕ, ◌+◌, ◌*◌, ◌/◌, List, [], ◌∷◌, ◌++◌, length, length-append, Option, Some, None, Ok, true, drop, refl, sym, ap, ◌∙◌, subst, arith, ⊎_elim}
 use Rattle.std.proofs.lemmas.List.{append-nil}
 use Rattle.zc_base.specs.declared.place.Place.{Place}
 use Rattle.interrupt_plan.specs.Plan.{Interrupt}
@@ -15,9 +15,9 @@ use Rattle.sym_machine.specs.Program.{Program}
 use Rattle.sym_machine.specs.Run.{plain_turn}
 use Rattle.sym_machine.specs.Expansions.{item_expansion}
 use Rattle.sym_machine.specs.State.{PlainState, reg_of}
-use Rattle.sym_machine.specs.Step.{after_change}
+use Rattle.sym_machine.specs.Step.{after_change, is_set}
 use Rattle.sym_machine.specs.Words.{code_of, code_word}
-use Rattle.sym_machine.proofs.RunLaws.{stepped}
+use Rattle.sym_machine.proofs.RunLaws.{stepped, turns_set}
 use Rattle.sym_machine.proofs.StepLaws.{Ended}
 use Rattle.zc_machine.specs.Fetch.{fetched_at}
 use Rattle.rv_decode.specs.declared.instr.Instr.{Instr}
@@ -31,10 +31,12 @@ use Rattle.zc_link.proofs.Addresses.{code_is}
 use Rattle.zc_link.proofs.Ends.{ends_alike}
 use Rattle.zc_link.proofs.Frames.{ended}
 use Rattle.zc_link.proofs.GroupEnds.{FromPlace, arrives, one_commit, two_commits}
+use Rattle.zc_link.proofs.OnStack.{on_stack}
 use Rattle.zc_link.proofs.Pops.{Before, PopRun, split_before, whole_before}
 use Rattle.zc_link.proofs.Ready.{alike_moved, ready_moved}
 use Rattle.zc_link.proofs.Singles.{below_top}
 use Rattle.zc_link.proofs.Slots.{FrameFacts}
+use Rattle.zc_link.proofs.StackFound.{finds_set, pop_finds}
 use Rattle.zc_link.proofs.Straight.{AreStraight, CameTo, Follow, all_follow, on_way, one_turn, ops_first, ops_last, straight_both}
 use Rattle.zc_link.proofs.Zeroed.{WithoutZero, final_regs, without_zero}
 
@@ -88,7 +90,7 @@ module _ {p : Program} {Named : Place → Type 0} {e : Image} (room : Room p e) 
   -- by the change of its step
   pub jump_lands :
       (m r' : PlainState) (y : ZcCore) (next : Place) (change : Change) → Alike p Named e m.core y → jump_does (code_of (reg_of m.core 1)) 0 next ≡ Goes change
-      → Ended p.map (after_change change m.core) r'.core → r'.events ≡ m.events ++ change.events → Lands p Named e m r' y
+      → Ended p.map (is_set p.map m.core) (after_change change m.core) r'.core → r'.events ≡ m.events ++ change.events → Lands p Named e m r' y
   jump_lands m r' y next change al does end events = known (code_of (reg_of m.core 1)) refl does
     where
       known : (o : Option Place) → code_of (reg_of m.core 1) ≡ o → jump_does o 0 next ≡ Goes change → Lands p Named e m r' y
@@ -208,6 +210,9 @@ module _ {p : Program} {Named : Place → Type 0} {e : Image} (room : Room p e) 
         came : CameTo (place_items_on p r.core.place (length is)) r m
         came = on_way p is (length is) r m (omega arith) own (before_straight ending frame order) from.sound.alike.running steps.1
 
+        set : is_set p.map r.core ≡ true
+        set = finds_set p is r m (pop_finds ending frame order) own from.sound.alike.running steps.1
+
         f : Follow p Named e is m z.core
         f = all_follow room is r m z.core own (before_straight ending frame order) steps.1 from.sound.alike
 
@@ -215,4 +220,12 @@ module _ {p : Program} {Named : Place → Type 0} {e : Image} (room : Room p e) 
         wz = without_zero frame order (λ d among. facts.no_a0 d among) (λ d among. (facts.register d among).no_sp) z.core from.sound.alike.core.count ending f.after f.effects
 
         run : PopRun p Named e ending frame order r.core m.core cuts z
-        run = record { are = from.are; before = from.sound.alike; zp = wz.zp; zf = f.after; after = f.alike; effects = wz.effects; final = wz.final }
+        run = record {
+          are = from.are;
+          before = on_stack from.sound.alike set;
+          zp = wz.zp;
+          zf = f.after;
+          after = on_stack f.alike (turns_set p (length is) r m steps.1 set);
+          effects = wz.effects;
+          final = wz.final;
+        }

@@ -26,9 +26,9 @@ module _ (p : Program) (Named : Place → Type 0) (e : Image) (stretch : Place �
     some = laid.some;
     few = laid.few;
     step = λ r r' h cuts are z so same devices outside.
-        stretch_comes (stretch r.core.place) laid.room laid.leads cuts are so same devices outside (laid.each r.core.place z.core.pc so.place) h;
+        stretch_comes r (stretch r.core.place) laid.room laid.leads cuts are so same devices outside (laid.each r.core.place z.core.pc so.place) h;
     inside = λ k r r' some lt listed running h. inside k r r' some lt running h (e.address r.core.place) refl listed;
-    start = λ first is devices input bytes cuts are. starts laid first is devices input bytes cuts are;
+    start = λ w first is bytes cuts are. starts laid w.sp_set first is w.devices w.input bytes cuts are;
     cells = laid.cells;
     cuts_apart = cuts_apart laid;
     commits_apart = commits_apart laid;

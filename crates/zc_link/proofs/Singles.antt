@@ -1,12 +1,13 @@
 -- An item that is one instruction is one commit, whatever interrupts come before it: the state after them is alike, the law of
 -- the instruction goes on from there, and the step's end makes the states sound again.
-use Rattle.std.proofs.Common.{◌≡◌, ℕ, ◌+◌, ◌%◌, ◌^◌, ◌<◌, List, ◌++◌, Some, Ok, sym, ap, ◌∙◌, inl, arith, drop}
+use Rattle.std.proofs.Common.{◌≡◌, ℕ, ◌+◌, ◌%◌, ◌^◌, ◌<◌, List, ◌++◌, map, Some, Ok, ap, ◌∙◌, inl, arith, drop}
 use Rattle.std.proofs.lemmas.List.{append-nil}
 use Rattle.zc_base.specs.declared.place.Place.{Place}
 use Rattle.interrupt_plan.specs.Plan.{AreInterrupts, Interrupt}
 use Rattle.rv_decode.specs.declared.instr.Instr.{Instr}
 use Rattle.rv_decode.specs.Effect.{Commits, effect}
 use Rattle.rv_decode.specs.State.{ZcCore, ZcState}
+use Rattle.sym_machine.specs.Events.{event_in}
 use Rattle.sym_machine.specs.Program.{Program}
 use Rattle.sym_machine.specs.State.{PlainState}
 use Rattle.sym_machine.specs.Step.{after_change}
@@ -20,12 +21,13 @@ use Rattle.zc_link.specs.Sound.{Alike, Ready, Sound}
 use Rattle.zc_link.proofs.Commits.{after_cuts, zc_turns-one}
 use Rattle.sym_machine.proofs.RunLaws.{Stepped}
 use Rattle.zc_link.proofs.Ends.{ends_alike}
+use Rattle.zc_link.proofs.EventLaws.{events_kept}
 use Rattle.zc_link.proofs.Instrs.{IsQuiet, Moves}
 
 -- a sound pair, a step of the program from it, and interrupts before each commit
 pub record FromSound (p : Program) (Named : Place → Type 0) (e : Image) (r r' : PlainState) (cuts : ℕ → List Interrupt) (z : ZcState) : Type 0 where
   pub sound : Sound p Named e r.core z
-  pub same : z.events ≡ r.events
+  pub same : z.events ≡ map (event_in e.address) r.events
   pub are : AreInterrupts cuts
   pub step : Stepped p r r'
 
@@ -38,7 +40,7 @@ pub comes_after :
     {p : Program} {Named : Place → Type 0} {e : Image} {r r' : PlainState} {cuts : ℕ → List Interrupt} {z : ZcState} (from : FromSound p Named e r r' cuts z) (k : ℕ) (y : ZcCore)
     → zc_turns cuts k z ≡ Ok (record z { core = y }) → Ready p Named e (after_change from.step.change r.core) y → IsQuiet from.step.change
     → e.address from.step.change.place ≡ Some y.pc → Comes p Named e cuts k z r'
-comes_after {e = e} {r = r} {z = z} from k y runs ready quiet place = record {
+comes_after {e = e} {r = r} {r' = r'} {z = z} from k y runs ready quiet place = record {
   after = record z { core = y };
   runs = runs;
   together = inl record {
@@ -46,7 +48,9 @@ comes_after {e = e} {r = r} {z = z} from k y runs ready quiet place = record {
     input = ap (λ s. s.input) from.step.end.state ∙ ap (λ n. drop n r.core.input) quiet.taken ∙ from.sound.input;
     place = ap (λ s. e.address s.place) from.step.end.state ∙ place;
   };
-  events = from.same ∙ sym (from.step.events ∙ ap (λ l. r.events ++ l) quiet.events ∙ append-nil r.events);
+  events =
+      events_kept e.address r.events r'.events z.events from.same
+      (from.step.events ∙ ap (λ l. r.events ++ l) quiet.events ∙ append-nil r.events);
 }
 
 -- an instruction that moves to a listed place, from every state that the interrupts may leave

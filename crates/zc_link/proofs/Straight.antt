@@ -121,9 +121,9 @@ straight_alone ds p (Jal rd distance) s next low = refl
 straight_alone ds p (Jalr rd base imm) s next low = refl
 straight_alone ds p (Branch op first second distance) s next low = refl
 straight_alone ds p (Load op rd base imm) s next low =
-    ap (option_map (device_load op rd s next)) (no_device ds base (load_width op) (number_of (sum_word (reg_of s base) imm)) low)
+    ap (λ o. option_map Goes (option_map (device_load op rd s next) o)) (no_device ds base (load_width op) (number_of (sum_word (reg_of s base) imm)) low)
 straight_alone ds p (Store op source base imm) s next low =
-    ap (λ o. option_and_then (device_store (stored_bytes op (reg_of s source)) next) o) (no_device ds base (store_width op) (number_of (sum_word (reg_of s base) imm)) low.1)
+    ap (λ o. option_map Goes (option_and_then (device_store op (reg_of s source) next) o)) (no_device ds base (store_width op) (number_of (sum_word (reg_of s base) imm)) low.1)
 straight_alone ds p (WithImm op rd first imm) s next low = refl
 straight_alone ds p (WithReg op rd first second) s next low = refl
 straight_alone ds p (Fence rest) s next low = refl

@@ -1,5 +1,5 @@
 -- A stretch's law is its step: from a sound pair the steps of its items are its commits, whatever interrupts come before them.
-use Rattle.std.proofs.Common.{◌≡◌, ℕ, ◌<◌, List, Option, Some, None, Ok, refl, sym, subst, ⊎_elim, arith}
+use Rattle.std.proofs.Common.{◌≡◌, ℕ, ◌<◌, List, map, Option, Some, None, Ok, refl, sym, subst, ⊎_elim, arith}
 use Rattle.zc_base.specs.declared.place.Place.{Place}
 use Rattle.interrupt_plan.specs.Plan.{AreInterrupts, Interrupt}
 use Rattle.rv_decode.specs.declared.instr.Instr.{Instr}
@@ -9,6 +9,7 @@ use Rattle.rv_decode.specs.State.{ZcState}
 use Rattle.block_cut.specs.declared.item.Item.{Item}
 use Rattle.block_cut.specs.declared.item.Item.TheVariants.{Call}
 use Rattle.sym_machine.specs.Devices.{device_does}
+use Rattle.sym_machine.specs.Events.{event_in}
 use Rattle.sym_machine.specs.Program.{Program}
 use Rattle.sym_machine.specs.Run.{plain_turn}
 use Rattle.sym_machine.specs.Expansions.{item_expansion}
@@ -33,10 +34,10 @@ use Rattle.zc_link.proofs.Straight.{one_turn}
 use Rattle.zc_link.proofs.TableJumps.{table_comes}
 
 pub stretch_comes :
-    {p : Program} {Named : Place → Type 0} {e : Image} {r r' : PlainState} {z : ZcState} (x : Stretch) → Room p e → Leads p Named → (cuts : ℕ → List Interrupt) → AreInterrupts cuts → Sound p Named e r.core z
-    → z.events ≡ r.events → z.devices ≡ r.devices → AreOutside p.map r.devices → StretchLaid p e r.core.place z.core.pc x → iterate (plain_turn p) (span_of x) r ≡ Ok r'
+    {p : Program} {Named : Place → Type 0} {e : Image} (r : PlainState) {r' : PlainState} {z : ZcState} (x : Stretch) → Room p e → Leads p Named → (cuts : ℕ → List Interrupt) → AreInterrupts cuts → Sound p Named e r.core z
+    → z.events ≡ map (event_in e.address) r.events → z.devices ≡ r.devices → AreOutside p.map r.devices → StretchLaid p e r.core.place z.core.pc x → iterate (plain_turn p) (span_of x) r ≡ Ok r'
     → Comes p Named e cuts (commits_of p r.core x) z r'
-stretch_comes {p} {Named} {e} {r} {r'} {z} x room leads cuts are so same devices outside laid h = by x laid h
+stretch_comes {p} {Named} {e} r {r'} {z} x room leads cuts are so same devices outside laid h = by x laid h
   where
     -- an item that is one instruction, and that no device answers
     IsOwn : Option Item → Type 0
@@ -58,7 +59,7 @@ stretch_comes {p} {Named} {e} {r} {r'} {z} x room leads cuts are so same devices
         (stepped_either p r r' so.alike.running single (one_turn p r r' g))
     alone (Some is) expands item g =
         let known = expansion_laid p r.core.place (p.item r.core.place) is item expands in
-        expansion_comes room (record { sound = so; same = same; are = are }) known.short is known.kind known.laid
+        expansion_comes room (record { sound = so; same = same; are = are }) known.short is known.kind expands known.laid
         (stepped_expansion p is r r' so.alike.running expands (one_turn p r r' g))
 
     by : (y : Stretch) → StretchLaid p e r.core.place z.core.pc y → iterate (plain_turn p) (span_of y) r ≡ Ok r' → Comes p Named e cuts (commits_of p r.core y) z r'

@@ -1,12 +1,12 @@
 -- The text that was written lies in its image as a layout owes: at each listed place stand the instructions of its item.
-use Rattle.std.proofs.Common.{◌≡◌, ℕ, ℤ, pos, negsuc, ◌+◌, ◌-◌, ◌-ℤ◌, ◌%◌, ◌^◌, ◌<◌, ◌≤◌, ◌⊎◌, inl, inr, zero, suc, List, length, Option, Some, None, Bool, true, false, cond, eqb, refl, sym, ap, ◌∙◌, subst, arith, drop}
+use Rattle.std.proofs.Common.{◌≡◌, ℕ, ℤ, pos, negsuc, ◌+◌, ◌-◌, ◌-ℤ◌, ◌%◌, ◌^◌, ◌<◌, ◌≤◌, ◌⊎◌, inl, inr, zero, suc, List, length, Option, Some, None, Bool, true, false, cond, eqb, refl, sym, ap, ◌∙◌, subst, arith, drop, get_or}
 use Rattle.std.specs.Prelude.{All, ◌&&◌}
 use Rattle.std.specs.Option.{is_some, option_map_or}
 use Rattle.std.proofs.Math.IntN.{+ℤ-neg_ℤ_cancel}
 use Rattle.std.proofs.lemmas.Bool.{cases_lt}
 use Rattle.std.proofs.lemmas.List.{length-drop, length-take-le}
 use Rattle.std.proofs.lemmas.Option.{none-some, same_Some, slice_get_within}
-use Rattle.zc_base.specs.Fields.{half_bytes}
+use Rattle.zc_base.specs.Fields.{half_bytes, word_bytes}
 use Rattle.zc_base.specs.MemMap.{IsMap}
 use Rattle.zc_base.specs.declared.place.Place.{Place}
 use Rattle.elf32_write.specs.Parts.{Parts}
@@ -22,6 +22,7 @@ use Rattle.rv_decode.specs.declared.instr.Instr.{Instr}
 use Rattle.rv_decode.specs.declared.instr.Instr.TheVariants as instr
 use Rattle.rv_decode.specs.declared.instr.UpperOp.TheVariants.{Auipc}
 use Rattle.rv_decode.proofs.DecodeLaws.{decoded-in_range, decoded-registers}
+use Rattle.rv_decode.proofs.SystemLaws.{system-low_bits, system-not_decoded}
 use Rattle.block_cut.specs.Items.{after_items, is_start_at, item_at, next_at, starts_on}
 use Rattle.block_cut.specs.declared.item.Item.{Item}
 use Rattle.block_cut.specs.declared.item.Item.TheVariants.{Op, Hi, Lo, PcHi, PcLo, Branch, Jump, Call, Align, Word, Raw, RawShort, RawPair}
@@ -43,9 +44,9 @@ use Rattle.zc_link.specs.TextLayout.{TextLayout, behind, size_in, stretch_in}
 use Rattle.zc_link.specs.Written.{HoldsFront, HoldsPlace, HoldsUnit, IsLongBranch, IsLongCall, IsOpWritten, IsSpelled, IsWritten, SpellsMeant, WithWay}
 use Rattle.zc_link.specs.Meant.{meant}
 use Rattle.zc_link.specs.Values.{way}
-use Rattle.zc_link.proofs.Adds.{drop_are, take_are, two_bytes}
+use Rattle.zc_link.proofs.Adds.{drop_are, four_bytes, take_are, two_bytes}
 use Rattle.zc_link.proofs.WayLaws.{way_leads}
-use Rattle.zc_link.proofs.Fetched.{StandAt, half_at_address, nops_at, one_at, spelled_at, stand_at, stand_first, stand_next}
+use Rattle.zc_link.proofs.Fetched.{StandAt, half_at_address, nops_at, one_at, spelled_at, stand_at, stand_first, stand_next, unread_at}
 use Rattle.zc_link.proofs.FrontLaws.{stub_elsewhere}
 use Rattle.zc_link.proofs.GroupItems.{group_known}
 use Rattle.zc_link.proofs.GroupsLaid.{commits_are, group_at}
@@ -55,7 +56,7 @@ use Rattle.zc_link.proofs.LaidLaws.{address_small}
 use Rattle.zc_link.proofs.Lookup.{found_holds}
 use Rattle.zca_zcb_pass.proofs.HalfNormals.{IsHalfNormal, half_normal}
 use Rattle.zc_link.proofs.PartLaws.{call_reaches}
-use Rattle.zc_link.proofs.CopiedHalves.{copied_half}
+use Rattle.zc_link.proofs.CopiedBytes.{copied_half, copied_word}
 use Rattle.zc_link.proofs.SizedPieces.{behind_item, size_is}
 use Rattle.zc_link.proofs.TablesLaid.{slot_holds}
 
@@ -211,6 +212,7 @@ module _ (L : TextLayout) (is_map : IsMap L.inputs.map) (laid : IsLaidOut L) (pr
     pub stands : StandAt program parts out a bytes
     pub written : IsWritten L q own a n item bytes
     pub short : (half : ℕ) → item ≡ RawShort half → (n ≡ 2) × (half < 2 ^ 16) × (bytes ≡ half_bytes half)
+    pub long : (word : ℕ) → item ≡ Raw word → (n ≡ 4) × (word < 2 ^ 32) × (bytes ≡ word_bytes word)
 
   -- the program has the objects' items
   same_item : (q : Place) (item : Item) → item_at p q ≡ Some item → program.item q ≡ Some item
@@ -307,7 +309,12 @@ module _ (L : TextLayout) (is_map : IsMap L.inputs.map) (laid : IsLaidOut L) (pr
         next = next_listed q (a + n) w.next;
       }
   stretch_laid q a n (Word t) bytes w = item_laid q a (Word t) w.is tt
-  stretch_laid q a n (Raw word) bytes w = item_laid q a (Raw word) w.is tt
+  stretch_laid q a n (Raw word) bytes w =
+      let four = w.long word refl in
+      item_laid q a (Raw word) w.is (λ system. record {
+        at = unread_at program parts out a word (subst (StandAt program parts out a) four.2 w.stands) four.1 (system-low_bits word system) (system-not_decoded word system);
+        next = next_listed q (a + n) w.next ∙ ap (λ m. Some (a + m)) four.0;
+      })
   stretch_laid q a n (RawShort half) bytes w =
       let two = w.short half refl in
       item_laid q a (RawShort half) w.is (λ short spells. record {
@@ -335,6 +342,16 @@ module _ (L : TextLayout) (is_map : IsMap L.inputs.map) (laid : IsLaidOut L) (pr
       let st = stand_at program parts out a h.size (omega (arith, h.low, start)) (omega (arith, h.within, start)) in
       subst (λ x. StandAt program parts out a (bytes_from parts.text (a - x) h.size)) start st
 
+  -- the bytes of what is written there are as many as its size, and each is one
+  bytes_there :
+      (q : Place) (a n : ℕ) (u : CodeUnit) (h : HoldsUnit L parts.text (q, a) u) → h.size ≡ n
+      → (length (bytes_from parts.text (a - L.inputs.map.text) h.size) ≡ n) × ((k : ℕ) → get_or (bytes_from parts.text (a - L.inputs.map.text) h.size) k 0 < 256)
+  bytes_there q a n u h size =
+      let from = a - L.inputs.map.text in (
+        length-take-le h.size (drop from parts.text) (omega (arith, length-drop from parts.text, h.low, h.within)) ∙ size,
+        take_are h.size (drop from parts.text) (drop_are from parts.text out.text_are),
+      )
+
   -- two bytes that are copied stand as their number there
   short_there :
       (q : Place) (a half : ℕ) → A q ≡ Some a → L.unit q ≡ Some (OneItem (RawShort half)) → (h : HoldsUnit L parts.text (q, a) (OneItem (RawShort half)))
@@ -342,13 +359,22 @@ module _ (L : TextLayout) (is_map : IsMap L.inputs.map) (laid : IsLaidOut L) (pr
   short_there q a half at unit h =
       let lies = laid.each q a (OneItem (RawShort half)) unit at in
       let size : h.size ≡ 2 = sym (size_is L q a h.size at h.next) ∙ size_is L q a lies.size at lies.next ∙ lies.form in
-      let from = a - L.inputs.map.text in
-      let bytes : List ℕ = bytes_from parts.text from h.size in
-      let long : length bytes ≡ 2 =
-      length-take-le h.size (drop from parts.text) (omega (arith, length-drop from parts.text, h.low, h.within)) ∙ size in
+      let bytes = bytes_there q a 2 (OneItem (RawShort half)) h size in
       let number = copied_half p q h.section half lies.is h.here in
-      let two = two_bytes h.section.bytes q.offset bytes (sym h.written) long (take_are h.size (drop from parts.text) (drop_are from parts.text out.text_are)) in
+      let two = two_bytes h.section.bytes q.offset (bytes_from parts.text (a - L.inputs.map.text) h.size) (sym h.written) bytes.0 bytes.1 in
       (size, subst (λ n. n < 2 ^ 16) (sym number) two.0, two.1 ∙ ap half_bytes (sym number))
+
+  -- and so do four
+  long_there :
+      (q : Place) (a word : ℕ) → A q ≡ Some a → L.unit q ≡ Some (OneItem (Raw word)) → (h : HoldsUnit L parts.text (q, a) (OneItem (Raw word)))
+      → (h.size ≡ 4) × (word < 2 ^ 32) × (bytes_from parts.text (a - L.inputs.map.text) h.size ≡ word_bytes word)
+  long_there q a word at unit h =
+      let lies = laid.each q a (OneItem (Raw word)) unit at in
+      let size : h.size ≡ 4 = sym (size_is L q a h.size at h.next) ∙ size_is L q a lies.size at lies.next ∙ lies.form in
+      let bytes = bytes_there q a 4 (OneItem (Raw word)) h size in
+      let number = copied_word p q h.section word lies.is h.here in
+      let four = four_bytes h.section.bytes q.offset (bytes_from parts.text (a - L.inputs.map.text) h.size) (sym h.written) bytes.0 bytes.1 in
+      (size, subst (λ n. n < 2 ^ 32) (sym number) four.0, four.1 ∙ ap word_bytes (sym number))
 
   -- an item by itself
   unit_laid :
@@ -366,6 +392,8 @@ module _ (L : TextLayout) (is_map : IsMap L.inputs.map) (laid : IsLaidOut L) (pr
         written = h.written;
         short = λ half is.
             short_there q a half at (unit ∙ ap (λ i. Some (OneItem i)) is) (subst (λ i. HoldsUnit L parts.text (q, a) (OneItem i)) is h);
+        long = λ word is.
+            long_there q a word at (unit ∙ ap (λ i. Some (OneItem i)) is) (subst (λ i. HoldsUnit L parts.text (q, a) (OneItem i)) is h);
       }))
 
   -- the places after a place

@@ -1,7 +1,7 @@
 -- The stub. Its three commits set t0 and jvt alone and go to the program's start, whatever interrupts come before each of
 -- them. Until jvt is set, the states are alike as if the image started at the program's start, for then nothing is asked of
 -- jvt.
-use Rattle.std.proofs.Common.{◌≡◌, ℕ, ◌+◌, ◌*◌, ◌/◌, ◌^◌, List, Some, None, Ok, refl, sym, ap, ◌∙◌, subst, arith, eqb}
+use Rattle.std.proofs.Common.{◌≡◌, ℕ, ◌+◌, ◌*◌, ◌/◌, ◌^◌, List, Some, None, Ok, refl, sym, ap, ◌∙◌, subst, arith, eqb, inl}
 use Rattle.std.proofs.lemmas.Bool.{cond-false, cond-true, eq-eqb, ne_eqb}
 use Rattle.zc_base.specs.declared.place.Place.{Place}
 use Rattle.interrupt_plan.specs.Plan.{AreInterrupts, Interrupt}
@@ -107,9 +107,6 @@ started_alike start pc jvt commits table al = record {
     text = al.text;
     table = table;
   };
-  sp = al.sp;
-  low = al.low;
-  high = al.high;
   below = al.below;
 }
 
@@ -160,7 +157,7 @@ module _
 
   with_base_alike : Alike p Named elsewhere (without_t0 s) with_base
   with_base_alike =
-      alike_forgets 5 base with_base.pc with_base.commits (λ (is : 5 ≡ 2). omega (arith, is)) (omega arith) first.alike
+      alike_forgets 5 base with_base.pc with_base.commits (inl (λ (is : 5 ≡ 2). omega (arith, is))) (omega arith) first.alike
 
   with_base_pc : with_base.pc ≡ z.core.pc + stub.upper.size
   with_base_pc = sym (below_top z.core.pc first.now.pc stub.upper.size first.pc stub.upper.small)

@@ -1,6 +1,6 @@
 -- Bytes that no store of a push touches stay undefined to the program: those below its slots, which an interrupt between the two
 -- instructions of a split push may write.
-use Rattle.std.proofs.Common.{◌≡◌, ℕ, ◌+◌, ◌-◌, ◌^◌, ◌<◌, ◌≤◌, List, [], ◌∷◌, length, Ok, refl, sym, ap, ◌∙◌, subst, arith, pos, negsuc, leb, ltb, slice_index_or, inl, inr}
+use Rattle.std.proofs.Common.{◌≡◌, ℕ, ◌+◌, ◌-◌, ◌^◌, ◌<◌, ◌≤◌, List, [], ◌∷◌, length, Ok, Bool, refl, sym, ap, ◌∙◌, subst, arith, pos, negsuc, leb, ltb, slice_index_or, inl, inr}
 use Rattle.std.specs.Prelude.{◌&&◌}
 use Rattle.std.proofs.lemmas.Bool.{cond_both}
 use Rattle.zc_base.specs.declared.mem_map.MemMap.{MemMap}
@@ -21,7 +21,7 @@ use Rattle.sym_machine.specs.Change.{Change, Goes, op_does, puts, sets, stored_b
 use Rattle.sym_machine.specs.Program.{Program}
 use Rattle.sym_machine.specs.Run.{plain_turn}
 use Rattle.sym_machine.specs.State.{PlainCore, PlainState, cell_of, reg_of}
-use Rattle.sym_machine.specs.Step.{after_change, undefined_below}
+use Rattle.sym_machine.specs.Step.{after_change, is_set, stack_mark, undefined_below}
 use Rattle.sym_machine.specs.Words.{sum_word}
 use Rattle.sym_machine.proofs.StepLaws.{Ended}
 use Rattle.zc_link.specs.Invariants.Groups.{Slot, lower_sp, push_ops, stores_of}
@@ -37,14 +37,14 @@ use Rattle.zc_link.proofs.Straight.{AreStraight, base_sum, both_step}
 -- ---- one step
 
 -- the end of a step
-end_keeps : (map : MemMap) (s s' : PlainCore) (x : ℕ) → Ended map s s' → cell_of s x ≡ Undef → cell_of s' x ≡ Undef
-end_keeps map s s' x end undefined =
+end_keeps : (map : MemMap) (was_set : Bool) (s s' : PlainCore) (x : ℕ) → Ended map was_set s s' → cell_of s x ≡ Undef → cell_of s' x ≡ Undef
+end_keeps map was_set s s' x end undefined =
     ap (λ t. cell_of t x) end.state
-    ∙ cell-changed_default (undefined_below map end.sp) s.memory x Undef (below Undef refl)
+    ∙ cell-changed_default (undefined_below map (stack_mark map s)) s.memory x Undef (below Undef refl)
     ∙ below (cell_of s x) undefined
   where
-    below : (c : SymByte) → c ≡ Undef → undefined_below map end.sp x c ≡ Undef
-    below c is = cond_both (leb map.stack_low x && ltb x end.sp) Undef c (λ k. k ≡ Undef) (λ _. refl) (λ _. is)
+    below : (c : SymByte) → c ≡ Undef → undefined_below map (stack_mark map s) x c ≡ Undef
+    below c is = cond_both (leb map.stack_low x && ltb x (stack_mark map s)) Undef c (λ k. k ≡ Undef) (λ _. refl) (λ _. is)
 
 -- a store above
 puts_keep : (s : PlainCore) (a : ℕ) (bytes : List SymByte) (next : Place) (x : ℕ) → x < a → cell_of s x ≡ Undef → cell_of (after_change (puts a bytes next) s) x ≡ Undef
@@ -56,14 +56,14 @@ puts_keep s a bytes next x under undefined =
 module _ {p : Program} {Named : Place → Type 0} {e : Image} (room : Room p e) where
   store_keeps :
       (d : Slot) (base : ℕ) (s s' : PlainCore) (z : ZcCore) (c : Change) (next : Place) (x : ℕ) → Alike p Named e s z → reg_in z 2 ≡ base → base + d.offset < 2 ^ 32
-      → x < base + d.offset → op_does (Store Sw d.register 2 (pos d.offset)) s next ≡ Goes c → Ended p.map (after_change c s) s' → cell_of s x ≡ Undef → cell_of s' x ≡ Undef
+      → x < base + d.offset → op_does (Store Sw d.register 2 (pos d.offset)) s next ≡ Goes c → Ended p.map (is_set p.map s) (after_change c s) s' → cell_of s x ≡ Undef → cell_of s' x ≡ Undef
   store_keeps d base s s' z c next x al at small under does end undefined =
       let a : ℕ = add32 (reg_in z 2) (pos d.offset) in
       let is : a ≡ base + d.offset = omega (arith, at, small) in
       let bytes = stored_bytes Sw (reg_of s d.register) in
       let ok = reached room al.ready 4 (sum_word (reg_of s 2) (pos d.offset)) a (λ k. Goes (puts k bytes next)) c (omega arith) (base_sum room 2 (pos d.offset) al.ready (omega arith)) does in
       let same : puts a bytes next ≡ c = (let g = ok.goes in cc) in
-      end_keeps p.map (after_change c s) s' x end
+      end_keeps p.map (is_set p.map s) (after_change c s) s' x end
       (subst (λ t. cell_of (after_change t s) x ≡ Undef) same (puts_keep s a bytes next x (omega (arith, is, under)) undefined))
 
   stores_keep :
@@ -103,4 +103,4 @@ module _ {p : Program} {Named : Place → Type 0} {e : Image} (room : Room p e) 
       let same : sets 2 (sum_word (reg_of r.core 2) (negsuc (frame - 1))) (p.next r.core.place) ≡ c = (let g = one.of.does in cc) in
       let still : cell_of (after_change c r.core) x ≡ Undef = subst (λ t. cell_of (after_change t r.core) x ≡ Undef) same undefined in
       stores_keep order (reg_in z 2 - frame) first.0 r' one.goes.made.after x (subst (λ q. AreOps p q (stores_of order)) (sym one.of.came.place) ops.1) low.1 first.2 one.alike at above
-      (end_keeps p.map (after_change c r.core) first.0.core x one.of.step.end still)
+      (end_keeps p.map (is_set p.map r.core) (after_change c r.core) first.0.core x one.of.step.end still)

@@ -3,7 +3,6 @@
 use Rattle.std.specs.Prelude.{◌≡◌, ℕ, suc, ◌<◌, ◌≤◌, true, List, [], ◌∷◌, All, None, Ok}
 use Rattle.zc_base.specs.declared.place.Place.{Place}
 use Rattle.interrupt_plan.specs.Plan.{Interrupt, IsInterrupt}
-use Rattle.rv_decode.specs.Devices.{Device}
 use Rattle.rv_decode.specs.Memory.{changed, extents_of, lies_in, written}
 use Rattle.rv_decode.specs.Run.{iterate}
 use Rattle.rv_decode.specs.State.{ZcCore, ZcState}
@@ -17,6 +16,7 @@ use Rattle.zc_machine.specs.Poked.{is_segment}
 use Rattle.zc_machine.specs.Run.{first_state_with, zc_turn}
 use Rattle.zc_link.specs.Image.{Image, IsFirstState, loaded_core}
 use Rattle.zc_link.specs.Pace.{Pace, lead_of}
+use Rattle.zc_link.specs.Setting.{Setting}
 use Rattle.zc_link.specs.Sound.{Sound}
 
 -- a is an address of data
@@ -54,12 +54,11 @@ pub record FromPair (p : Program) (Named : Place → Type 0) (e : Image) (pace :
 -- a first state of the machine, with all commits before the program's start left
 pub record FromLoad (p : Program) (e : Image) (k : ℕ) (z : ZcState) : Type 0 where
   pub commits : k ≡ lead_of p e
-  pub devices : List Device
-  pub input : List ℕ
-  pub bytes : All (λ b. b < 256) input
+  pub setting : Setting
+  pub bytes : All (λ b. b < 256) setting.input
   pub first : ZcCore
-  pub starts : IsFirstState e first
-  pub loads : z ≡ first_state_with first devices input
+  pub starts : IsFirstState setting.sp_set e first
+  pub loads : z ≡ first_state_with first setting.devices setting.input
 
 -- a state between such a first state and the end of its commits, with this number of commits left: it comes by interrupts, by
 -- writes to cells of data, and by commits

@@ -1,5 +1,5 @@
 -- What an image holds, by its bytes (System V gABI, "ELF Header" and "Program Header"), and what is loaded of it.
-use Rattle.std.specs.Prelude.{◌≡◌, ◌≢◌, ℕ, ◌^◌, ◌<◌, ◌⊎◌, List, length, Option, Some, None, if◌then◌else◌, true}
+use Rattle.std.specs.Prelude.{◌≡◌, ◌≢◌, ℕ, ◌^◌, ◌<◌, ◌⊎◌, List, length, Option, Some, None, Bool, if◌then◌else◌, true, false}
 use Rattle.zc_base.specs.declared.mem_map.MemMap.{MemMap}
 use Rattle.zc_base.specs.declared.place.Place.{Place}
 use Rattle.elf32_read.specs.Header.{entry_address}
@@ -33,13 +33,13 @@ image_in bytes map = if is_some (image_fault bytes map) then None else Some (rec
 abbrev pub loaded_core : Image → ZcCore
 loaded_core e = first_core e.entry e.segments e.map
 
--- a state that a chip may start in: pc, text and data are as loaded, and sp is the stack's end; the other registers, jvt and the
--- bytes of the stack hold anything
-pub record IsFirstState (e : Image) (z : ZcCore) : Type 0 where
+-- a state that a chip may start in: pc, text and data are as loaded, and sp is the stack's end if it is set; the other registers, jvt
+-- and the bytes of the stack hold anything
+pub record IsFirstState (sp_set : Bool) (e : Image) (z : ZcCore) : Type 0 where
   pub pc : z.pc ≡ e.entry
   pub count : length z.regs ≡ 32
-  pub sp : reg_in z 2 ≡ e.map.stack_high
-  pub words : (r : ℕ) → r ≢ 2 → reg_in z r < 2 ^ 32
+  pub sp : sp_set ≡ true → reg_in z 2 ≡ e.map.stack_high
+  pub words : (r : ℕ) → (r ≢ 2) ⊎ (sp_set ≡ false) → reg_in z r < 2 ^ 32
   pub extents : extents_of z.memory ≡ extents_of (loaded_core e).memory
   pub bytes :
       (a : ℕ)

@@ -8,6 +8,7 @@ pub mod Sound
 pub mod Pace
 pub mod TextLayout
 pub mod Front
+pub mod Setting
 pub mod DataApart
 pub mod IsSimulation
 pub mod Preserves

@@ -10,7 +10,7 @@ use Rattle.sym_machine.specs.declared.word.SymWord.{SymWord}
 use Rattle.sym_machine.specs.declared.word.Value.TheVariants.{Code, AbsHi, PcHi}
 use Rattle.sym_machine.specs.Program.{Program, start_memory}
 use Rattle.sym_machine.specs.State.{IsPlainState, PlainCore, cell_of, reg_of}
-use Rattle.sym_machine.specs.Words.{number_of}
+use Rattle.sym_machine.specs.Step.{stack_mark}
 use Rattle.zc_link.specs.Image.{Image, loaded_core}
 use Rattle.zc_link.specs.Stands.{ByteStands, IsMemory, Stands, WordStands}
 use Rattle.zc_link.specs.Values.{value_in}
@@ -52,15 +52,11 @@ pub record Ready (p : Program) (Named : Place → Type 0) (e : Image) (s : Plain
   pub text : (a : ℕ) → lies_in is_text (extents_of (loaded_core e).memory) a 1 ≡ true → byte_in z a ≡ byte_in (loaded_core e) a
   pub table : (e.address p.entry ≡ Some e.entry → ⊥) → z.jvt ≡ e.map.text
 
--- `Ready`; also, the program's sp is a number, the machine's, within the stack; and the bytes of the stack below it are undefined
--- to the program
+-- `Ready`; also, the bytes of the stack below sp, or all of them if sp isn't set, are undefined to the program
 pub record Alike (p : Program) (Named : Place → Type 0) (e : Image) (s : PlainCore) (z : ZcCore) : Type 0 where
   pub ready : Ready p Named e s z
   pub open ready use *
-  pub sp : number_of (reg_of s 2) ≡ Some (reg_in z 2)
-  pub low : p.map.stack_low ≤ reg_in z 2
-  pub high : reg_in z 2 ≤ p.map.stack_high
-  pub below : (a : ℕ) → p.map.stack_low ≤ a → a < reg_in z 2 → cell_of s a ≡ Undef
+  pub below : (a : ℕ) → p.map.stack_low ≤ a → a < stack_mark p.map s → cell_of s a ≡ Undef
 
 -- `Alike`; also, pc is the address of the program's place, and the inputs that are left are equal
 pub record Sound (p : Program) (Named : Place → Type 0) (e : Image) (s : PlainCore) (z : ZcState) : Type 0 where

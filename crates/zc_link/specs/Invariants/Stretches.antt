@@ -12,6 +12,7 @@ use Rattle.rv_decode.specs.Memory.{extents_of, is_text, lies_in}
 use Rattle.rv_decode.specs.Normal.{SameEffect}
 use Rattle.rv_decode.specs.Registers.{HasRegisters}
 use Rattle.rv_decode.specs.State.{word_at}
+use Rattle.rv_decode.specs.System.{is_system}
 use Rattle.block_cut.specs.declared.item.Item.{Item}
 use Rattle.block_cut.specs.declared.item.Item.TheVariants.{Op, Branch, Jump, Call, Align, Word, Raw, RawShort, RawPair}
 use Rattle.sym_machine.specs.Program.{Program}
@@ -19,7 +20,8 @@ use Rattle.zca_zcb_pass.specs.Forms.{IsOpposite}
 use Rattle.zc_decode.specs.Halfwords.{decoded16}
 use Rattle.zc_decode.specs.declared.short.Short.{Short}
 use Rattle.zc_decode.specs.declared.short.Short.TheVariants.{Base, MoveAs, MoveSa, Push, TableJump}
-use Rattle.zc_machine.specs.Fetch.{Found, fetched_at}
+use Rattle.zc_machine.specs.declared.reason.Reason.TheVariants.{Illegal}
+use Rattle.zc_machine.specs.Fetch.{Found, Missing, fetched_at}
 use Rattle.zc_link.specs.Invariants.Groups.{Ending, GroupKind, IsGroup, MovesFromSaved, MovesToSaved, PopOf, PushOf, frame_adjust, group_commits, group_ops, lower_sp, pop_kind, raise_sp, rest_of}
 use Rattle.zc_link.specs.Image.{Image, loaded_core}
 use Rattle.zc_link.specs.LaidOut.{linked_by}
@@ -61,12 +63,24 @@ pub record ShortLaid (p : Program) (e : Image) (q : Place) (a : ℕ) (short : Sh
   pub at : OneAt e a short
   pub next : e.address (p.next q) ≡ Some (a + at.size)
 
+-- a word is at an address, where no instruction is fetched
+pub record UnreadAt (e : Image) (a word : ℕ) : Type 0 where
+  pub lies : lies_in is_text (extents_of (loaded_core e).memory) a 4 ≡ true
+  pub is : word_at (loaded_core e) a ≡ word
+  pub here : fetched_at (loaded_core e) a ≡ Missing Illegal
+  pub small : a + 4 < 2 ^ 32
+
+-- an instruction of the system is at an address, and the next place comes after it
+pub record SystemLaid (p : Program) (e : Image) (q : Place) (a word : ℕ) : Type 0 where
+  pub at : UnreadAt e a word
+  pub next : e.address (p.next q) ≡ Some (a + 4)
+
 -- an item that is one instruction; where the symbolic machine is stuck or a section ends, nothing is owed, and padding isn't one
 -- instruction
 abbrev pub ItemLaid : Program → Image → Place → ℕ → Option Item → Type 0
 ItemLaid p e q a None = Unit {0}
 ItemLaid p e q a (Some (Word t)) = Unit {0}
-ItemLaid p e q a (Some (Raw word)) = Unit {0}
+ItemLaid p e q a (Some (Raw word)) = is_system word ≡ true → SystemLaid p e q a word
 ItemLaid p e q a (Some (RawShort half)) = (short : Short) → decoded16 half ≡ Some short → ShortLaid p e q a short
 ItemLaid p e q a (Some (RawPair first second)) = Unit {0}
 ItemLaid p e q a (Some item) = OneLaid p e q a item

@@ -1,5 +1,5 @@
--- Two bytes of the objects that are copied: the item there holds the number of these bytes.
-use Rattle.std.proofs.Common.{◌≡◌, ℕ, ℤ, ◌+◌, List, Option, Some, None, Bool, true, false, cond, refl, sym, ap, ◌∙◌, subst, eqb}
+-- Two or four bytes of the objects that are copied: the item there holds their number.
+use Rattle.std.proofs.Common.{◌≡◌, ℕ, ℤ, ◌+◌, List, Option, Some, None, Bool, true, false, cond, refl, sym, ◌∙◌, subst, eqb}
 use Rattle.std.specs.Option.{option_map_or}
 use Rattle.std.proofs.lemmas.Option.{same_Some}
 use Rattle.zc_base.specs.Fields.{half_in, word_in}
@@ -21,8 +21,9 @@ use Rattle.block_cut.specs.declared.item.Item.TheVariants.{PcLo, Branch, Jump, R
 use Rattle.block_cut.proofs.ItemLaws.{item_found}
 
 module _ (bytes : List ℕ) (n : ℕ) where
-  -- what is said of an item at an offset of these bytes: if it is two bytes that are copied, it holds their number
+  -- what is said of an item at an offset of these bytes: if it is two or four bytes that are copied, it holds their number
   abbrev Holds : Item → Type 0
+  Holds (Raw word) = word ≡ word_in bytes n
   Holds (RawShort half) = half ≡ half_in bytes n
   Holds other = Unit {0}
 
@@ -31,7 +32,7 @@ module _ (bytes : List ℕ) (n : ℕ) where
     where
       by : (b : Bool) → Holds (cond b (RawShort (half_in bytes n)) (Raw (word_in bytes n)))
       by true = refl
-      by false = tt
+      by false = refl
 
   away_holds : (o : Option Place) (item : Place → Item) (raw : Item) → ((q : Place) → Holds (item q)) → Holds raw → Holds (option_map_or item o raw)
   away_holds None item raw each other = other
@@ -112,18 +113,18 @@ module _ (bytes : List ℕ) (n : ℕ) where
   call_holds (Some (instr.Csrrw rd source)) p to = tt
 
   known_holds : (k : Option RelocKind) (addend : ℤ) (t : Target) → Holds (known_item k addend t bytes n)
-  known_holds None addend t = tt
-  known_holds (Some kind.Ignored) addend t = tt
+  known_holds None addend t = refl
+  known_holds (Some kind.Ignored) addend t = refl
   known_holds (Some kind.Word) addend t = tt
   known_holds (Some kind.Branch) addend t = under_holds 4 t
   known_holds (Some kind.Jal) addend t = under_holds 4 t
   known_holds (Some kind.Call) addend t = place_holds t _ (raw_pair bytes n) (λ to. call_holds (instr_in 4 bytes n) (instr_in 4 bytes (n + 4)) to) tt
-  known_holds (Some kind.PcrelHi20) addend t = of_holds (instr_in 4 bytes n) (raw_in 4 bytes n) _ (λ i. tt) tt
-  known_holds (Some kind.PcrelLo12I) addend t = of_holds (instr_in 4 bytes n) (raw_in 4 bytes n) _ (λ i. place_holds t (PcLo i) (raw_in 4 bytes n) (λ to. tt) tt) tt
-  known_holds (Some kind.PcrelLo12S) addend t = of_holds (instr_in 4 bytes n) (raw_in 4 bytes n) _ (λ i. place_holds t (PcLo i) (raw_in 4 bytes n) (λ to. tt) tt) tt
-  known_holds (Some kind.Hi20) addend t = of_holds (instr_in 4 bytes n) (raw_in 4 bytes n) _ (λ i. tt) tt
-  known_holds (Some kind.Lo12I) addend t = of_holds (instr_in 4 bytes n) (raw_in 4 bytes n) _ (λ i. tt) tt
-  known_holds (Some kind.Lo12S) addend t = of_holds (instr_in 4 bytes n) (raw_in 4 bytes n) _ (λ i. tt) tt
+  known_holds (Some kind.PcrelHi20) addend t = of_holds (instr_in 4 bytes n) (raw_in 4 bytes n) _ (λ i. tt) refl
+  known_holds (Some kind.PcrelLo12I) addend t = of_holds (instr_in 4 bytes n) (raw_in 4 bytes n) _ (λ i. place_holds t (PcLo i) (raw_in 4 bytes n) (λ to. tt) refl) refl
+  known_holds (Some kind.PcrelLo12S) addend t = of_holds (instr_in 4 bytes n) (raw_in 4 bytes n) _ (λ i. place_holds t (PcLo i) (raw_in 4 bytes n) (λ to. tt) refl) refl
+  known_holds (Some kind.Hi20) addend t = of_holds (instr_in 4 bytes n) (raw_in 4 bytes n) _ (λ i. tt) refl
+  known_holds (Some kind.Lo12I) addend t = of_holds (instr_in 4 bytes n) (raw_in 4 bytes n) _ (λ i. tt) refl
+  known_holds (Some kind.Lo12S) addend t = of_holds (instr_in 4 bytes n) (raw_in 4 bytes n) _ (λ i. tt) refl
   known_holds (Some kind.RvcBranch) addend t = under_holds 2 t
   known_holds (Some kind.RvcJump) addend t = under_holds 2 t
   known_holds (Some kind.Align) addend t = tt
@@ -134,10 +135,18 @@ item_holds inputs q None size bytes =
 item_holds inputs q (Some r) size bytes = known_holds bytes q.offset (kind_of r.kind) r.addend (target_of inputs q.object r)
 
 -- by a place's item and its section
-pub copied_half :
-    (inputs : ParsedInputs) (q : Place) (s : SectionParts) (half : ℕ) → item_at inputs q ≡ Some (RawShort half) → code_at inputs.objects q ≡ Some s → half ≡ half_in s.bytes q.offset
-copied_half inputs q s half is code =
-    let found = item_found inputs q (RawShort half) is in
+item_here :
+    (inputs : ParsedInputs) (q : Place) (s : SectionParts) (item : Item) → item_at inputs q ≡ Some item → code_at inputs.objects q ≡ Some s → Holds s.bytes q.offset item
+item_here inputs q s item is code =
+    let found = item_found inputs q item is in
     let same : found.section ≡ s = same_Some found.section s (sym found.code ∙ code) in
     let here = subst (Holds found.section.bytes q.offset) found.item (item_holds inputs q (reloc_on found.section q.offset) (size_on found.section q.offset) found.section.bytes) in
-    here ∙ ap (λ (t : SectionParts). half_in t.bytes q.offset) same
+    subst (λ (t : SectionParts). Holds t.bytes q.offset item) same here
+
+pub copied_half :
+    (inputs : ParsedInputs) (q : Place) (s : SectionParts) (half : ℕ) → item_at inputs q ≡ Some (RawShort half) → code_at inputs.objects q ≡ Some s → half ≡ half_in s.bytes q.offset
+copied_half inputs q s half is code = item_here inputs q s (RawShort half) is code
+
+pub copied_word :
+    (inputs : ParsedInputs) (q : Place) (s : SectionParts) (word : ℕ) → item_at inputs q ≡ Some (Raw word) → code_at inputs.objects q ≡ Some s → word ≡ word_in s.bytes q.offset
+copied_word inputs q s word is code = item_here inputs q s (Raw word) is code
