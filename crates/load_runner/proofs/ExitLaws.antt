@@ -1,7 +1,8 @@
 -- An image that does what the objects' program does exits under every plan if the program does: the environment calls up to there
 -- are the same, and the exit is one of them.
-use Rattle.std.proofs.Common.{◌≡◌, ◌<◌, ℕ, List, [], ◌∷◌, ◌++◌, Bool, true, false, cond, Option, Some, None, Ok, refl, sym, ap, subst, ◌∙◌}
+use Rattle.std.proofs.Common.{◌≡◌, ◌<◌, ℕ, List, [], ◌∷◌, ◌++◌, map, Bool, true, false, cond, Option, Some, None, Ok, refl, sym, ap, subst, ◌∙◌}
 use Rattle.std.specs.Option.{is_some, option_or}
+use Rattle.std.proofs.lemmas.List.{map-append}
 use Rattle.std.proofs.lemmas.List.Elements.{All-nil}
 use Rattle.std.proofs.lemmas.Option.{none-some, same_Some}
 use Rattle.zc_base.specs.MemMap.{standard_map}
@@ -11,7 +12,7 @@ use Rattle.elf32_read.specs.Image.{image_fault}
 use Rattle.elf32_read.specs.Places.{place_list}
 use Rattle.elf32_read.specs.Segments.{segments_of}
 use Rattle.elf32_read.specs.declared.image_fault.ImageFault.{ImageFault}
-use Rattle.devices.specs.Environment.{only_input}
+use Rattle.devices.specs.Environment.{no_devices}
 use Rattle.interrupt_plan.specs.Plan.{Entry, IsPlan}
 use Rattle.psabi_sym.specs.Faults.{first_some, gather_fault}
 use Rattle.psabi_sym.specs.Inputs.{Inputs, parsed}
@@ -19,6 +20,7 @@ use Rattle.psabi_sym.specs.LinkFault.{IsRefusal}
 use Rattle.psabi_sym.specs.declared.link_fault.LinkFault.{LinkFault}
 use Rattle.psabi_sym.specs.declared.link_fault.LinkFault.TheVariants.{Object, OutOfMemory}
 use Rattle.block_cut.specs.Faults.{entry_fault, first_fault, range_fault, relocs_fault}
+use Rattle.rv_decode.specs.State as event
 use Rattle.rv_decode.specs.State.{ZcCore}
 use Rattle.zc_machine.specs.Load.{first_core, first_core_of}
 use Rattle.zc_machine.specs.Run.{interrupts_by, machine_after}
@@ -26,6 +28,7 @@ use Rattle.zc_machine.specs.RunEnd.{Ran, zc_course}
 use Rattle.zc_machine.specs.declared.reason.Reason.{Reason}
 use Rattle.zc_machine.specs.declared.run.RunEnd.TheVariants as end
 use Rattle.zc_machine.proofs.CountLaws.{exit_counted, exit_told, never_stops, plan_keeps}
+use Rattle.sym_machine.specs.Events.{Numeric, event_in}
 use Rattle.sym_machine.specs.Objects.{program_of}
 use Rattle.sym_machine.specs.RunEnd.{CountsSteps, IsCounted, plain_course}
 use Rattle.sym_machine.specs.State.{PlainCore, first_plain}
@@ -121,9 +124,10 @@ eventually_exits files elf preserves count exit traced plan is_plan =
     let core = image_core elf standard_map preserves.image preserves.read in
     let after : machine_after (first_core_of elf standard_map) [] (interrupts_by plan) follows.0 ≡ Ok under.0 =
     ap (λ z. machine_after z [] (interrupts_by plan) follows.0) (sym core) ∙ under.1 in
+    let address = preserves.image.address in
     let told =
-    exit_told (first_core_of elf standard_map) [] (interrupts_by plan) (plan_keeps plan) follows.0 under.0 traced.events exit.status after
-    (under.2.events ∙ traced.event) in
+    exit_told (first_core_of elf standard_map) [] (interrupts_by plan) (plan_keeps plan) follows.0 under.0 (map (event_in address) traced.events) exit.status after
+    (under.2.events ∙ ap (map (event_in address)) traced.event ∙ map-append (event_in address) traced.events (Numeric (event.Exit exit.status) ∷ [])) in
     record { count = follows.0; last = under.0; state = after; status = told.0; exit = told.1 }
 
 -- ---- the program's exit
@@ -132,11 +136,11 @@ eventually_exits files elf preserves count exit traced plan is_plan =
 pub trace_exits :
     (inputs : Inputs) (s : PlainCore) (last : TraceEnd) (status count : ℕ) (before after : ConsoleState)
     → s ≡ first_plain (program_of (parsed inputs)) [] → last ≡ trace.Exited status → before.out ≡ []
-    → CountsSteps (plain_course (program_of (parsed inputs)) (only_input s.input) LOAD_STEPS) last count (desk_of before) (desk_of after)
+    → CountsSteps (plain_course (program_of (parsed inputs)) s no_devices LOAD_STEPS) last count (desk_of before) (desk_of after)
     → IsTraced inputs count (record { bytes = after.out; status = status })
 trace_exits inputs s last status count before after first exited empty counts =
     let p = program_of (parsed inputs) in
-    let here = subst (λ (x : PlainCore). CountsSteps (plain_course p (only_input x.input) LOAD_STEPS) last count (desk_of before) (desk_of after)) first counts in
+    let here = subst (λ (x : PlainCore). CountsSteps (plain_course p x no_devices LOAD_STEPS) last count (desk_of before) (desk_of after)) first counts in
     let counted : IsCounted (trace_run inputs) count status (desk_of before) (desk_of after) =
     subst (λ x. CountsSteps (trace_run inputs) x count (desk_of before) (desk_of after)) exited here in
     let same : after.out ≡ counted.bytes = counted.wrote ∙ ap (λ out. out ++ counted.bytes) empty in

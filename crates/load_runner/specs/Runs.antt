@@ -3,14 +3,16 @@ use Rattle.std.specs.Prelude.{◌≡◌, ℕ, List, [], ◌∷◌, ◌++◌, Som
 use Rattle.zc_base.specs.MemMap.{standard_map}
 use Rattle.zc_base.specs.Options.{options_in}
 use Rattle.zc_base.specs.declared.place.Place.{Place}
-use Rattle.devices.specs.Environment.{only_input}
+use Rattle.devices.specs.Environment.{no_devices}
 use Rattle.interrupt_plan.specs.Plan.{Entry}
 use Rattle.psabi_sym.specs.Inputs.{Inputs, inputs_in, parsed}
 use Rattle.rv_decode.specs.State as event
-use Rattle.rv_decode.specs.State.{Event, ZcCore, ZcState}
+use Rattle.rv_decode.specs.State.{ZcCore, ZcState}
+use Rattle.sym_machine.specs.Events.{SymEvent, Numeric}
 use Rattle.sym_machine.specs.Objects.{program_of}
+use Rattle.sym_machine.specs.Program.{Program}
 use Rattle.sym_machine.specs.RunEnd.{plain_course}
-use Rattle.sym_machine.specs.State.{PlainState}
+use Rattle.sym_machine.specs.State.{PlainState, first_plain}
 use Rattle.sym_machine.specs.declared.why.Why.{Why}
 use Rattle.zc_machine.specs.Load.{first_core_of}
 use Rattle.zc_machine.specs.RunEnd.{zc_course}
@@ -24,7 +26,7 @@ standard_inputs files = inputs_in (options_in standard_map) files
 
 -- the run of the objects' program
 abbrev pub trace_run : Inputs → Course PlainState (Place × Why)
-trace_run inputs = plain_course (program_of (parsed inputs)) (only_input []) LOAD_STEPS
+trace_run inputs = let p : Program = program_of (parsed inputs) in plain_course p (first_plain p []) no_devices LOAD_STEPS
 
 -- the run of an image under a plan
 abbrev pub image_run : List ℕ → List Entry → Course ZcState Reason
@@ -43,8 +45,8 @@ Exits run = (exit : Exit) × ExitsWith run exit
 -- the program's run ends with this exit, which is its last event
 pub record IsTraced (inputs : Inputs) (count : ℕ) (exit : Exit) : Type 0 where
   pub exits : ExitsAt (trace_run inputs) count exit
-  pub events : List Event
-  pub event : exits.last.events ≡ events ++ event.Exit exit.status ∷ []
+  pub events : List SymEvent
+  pub event : exits.last.events ≡ events ++ Numeric (event.Exit exit.status) ∷ []
 
 -- under a plan an image exits at some commit, however many it takes
 pub record EventuallyExits (elf : List ℕ) (plan : List Entry) : Type 0 where

@@ -30,6 +30,7 @@ use Rattle.sym_machine.specs.declared.word.Value.TheVariants as value
 use Rattle.sym_machine.specs.AddressParts.{high_word, low_sum, pc_low_sum, pc_target}
 use Rattle.sym_machine.specs.Change.{Does, Goes, Stops, accessing, arguments_of, base_register, branch_does, by_sum, call_does, call_to, continues, exit_does, in_memory, is_buffer, is_output, item_does, jump_does, load_does, load_word, numbers_at, op_does, puts, read_does, sets, store_does, stored_bytes, then_number, upper_does, with_buffer, write_does}
 use Rattle.sym_machine.specs.Conditions.{condition, equal_words, known_of, numeric_condition}
+use Rattle.sym_machine.specs.Events.{Numeric}
 use Rattle.sym_machine.specs.Program.{Program}
 use Rattle.sym_machine.specs.State.{PlainCore, cell_of, reg_of}
 use Rattle.sym_machine.specs.Words.{code_of, code_word, imm_word, number_of, number_word, reg_word, sign_of, sum_word, undef_word, value_word}
@@ -172,7 +173,7 @@ module _ (K V : Place → Type 0) (M : Place → Place) (p p' : Program) (law : 
   read-moved : (s : PlainCore) (next : Place) (c : Arguments) → read_does (moved_at M from s) (M next) c ≡ moved_does M from (read_does s next c)
   read-moved s next c =
       let bytes = take ((min c.len (length s.input))) s.input in
-      ap (λ cells. Goes (record (continues (M next)) { writes = (10, number_word ((min c.len (length s.input)))) ∷ []; stores = (c.at, cells) ∷ []; taken = min c.len (length s.input); events = Read bytes ∷ [] })) (sym (numbers-stay M bytes))
+      ap (λ cells. Goes (record (continues (M next)) { writes = (10, number_word ((min c.len (length s.input)))) ∷ []; stores = (c.at, cells) ∷ []; taken = min c.len (length s.input); events = Numeric (Read bytes) ∷ [] })) (sym (numbers-stay M bytes))
 
   then-moved : (b : SymByte) (o : Option (List ℕ)) → then_number (moved_byte M b) o ≡ then_number b o
   then-moved (Num n) None = refl
@@ -187,7 +188,7 @@ module _ (K V : Place → Type 0) (M : Place → Place) (p p' : Program) (law : 
       ∙ then-moved (cell_at Undef memory a) (numbers_at memory (suc a) n)
 
   abbrev output_does : Option (List ℕ) → Place → Arguments → Does
-  output_does o next c = option_map_or (λ bytes. Goes (record (sets 10 (number_word c.len) next) { events = Write c.a0 bytes ∷ [] })) o (Stops ArgumentUnknown)
+  output_does o next c = option_map_or (λ bytes. Goes (record (sets 10 (number_word c.len) next) { events = Numeric (Write c.a0 bytes) ∷ [] })) o (Stops ArgumentUnknown)
 
   output-moved : (o : Option (List ℕ)) (next : Place) (c : Arguments) → output_does o (M next) c ≡ moved_does M from (output_does o next c)
   output-moved None next c = refl

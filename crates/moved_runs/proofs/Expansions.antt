@@ -10,7 +10,6 @@ use Rattle.rv_decode.specs.declared.instr.Instr.TheVariants.{Jalr, Load, Store, 
 use Rattle.rv_decode.specs.declared.instr.Instr.TheVariants as instr
 use Rattle.rv_decode.specs.declared.instr.ImmOp.TheVariants.{Addi}
 use Rattle.rv_decode.specs.Effect.{load_width, store_width}
-use Rattle.rv_decode.specs.State.{Event}
 use Rattle.zc_decode.specs.Halfwords.{decoded16}
 use Rattle.zc_decode.specs.Lists.{registers_of}
 use Rattle.zc_decode.specs.declared.short.Short.{Short}
@@ -19,6 +18,7 @@ use Rattle.block_cut.specs.declared.item.Item.{Item}
 use Rattle.block_cut.specs.declared.item.Item.TheVariants as item
 use Rattle.sym_machine.specs.declared.why.Why.TheVariants.{BadAddress, Misaligned}
 use Rattle.sym_machine.specs.Change.{Does, Goes, Stops, accessing, in_memory, item_does, jump_does, load_word, op_does, puts, sets, stored_bytes}
+use Rattle.sym_machine.specs.Events.{SymEvent}
 use Rattle.sym_machine.specs.Expansions.{expansion, item_expansion, restores, saves}
 use Rattle.sym_machine.specs.Program.{Program}
 use Rattle.sym_machine.specs.State.{PlainCore, reg_of}
@@ -152,13 +152,13 @@ op-leads K (instr.Csrrw rd source) next u = tt
 -- ---- one after another
 
 -- with no exit it doesn't matter where a step is said to have begun
-goes-anywhere : (M : Place → Place) (from other : Place) (t : PlainStep) → ((s : PlainCore) (events : List Event) → t ≡ Went s events → s.exit ≡ None) → moved_step M from t ≡ moved_step M other t
+goes-anywhere : (M : Place → Place) (from other : Place) (t : PlainStep) → ((s : PlainCore) (events : List SymEvent) → t ≡ Went s events → s.exit ≡ None) → moved_step M from t ≡ moved_step M other t
 goes-anywhere M from other (Stuck why) h = refl
 goes-anywhere M from other (Went s events) h =
     let on = h s events refl in
     ap (λ o. Went (moved_at M (landing M from o s.place) s) events) on ∙ ap (λ o. Went (moved_at M (landing M other o s.place) s) events) (sym on)
 
-in_turn-on : (m : MemMap) (is : List Instr) (next : Place) (s s' : PlainCore) (events : List Event) → AreUnlinked is → s.exit ≡ None → in_turn m is next s ≡ Went s' events → s'.exit ≡ None
+in_turn-on : (m : MemMap) (is : List Instr) (next : Place) (s s' : PlainCore) (events : List SymEvent) → AreUnlinked is → s.exit ≡ None → in_turn m is next s ≡ Went s' events → s'.exit ≡ None
 in_turn-on m [] next s s' events u running h = let same : s ≡ s' = cc in subst (λ (t : PlainCore). t.exit ≡ None) same running
 in_turn-on m (i ∷ is) next s s' events u running h = by (applied m s (op_does i s next)) refl h (λ t on g. in_turn-on m is next t s' events u.1 on g)
   where
@@ -169,7 +169,7 @@ in_turn-on m (i ∷ is) next s s' events u running h = by (applied m s (op_does 
     by (Stuck why) first g again = absurd cc
 
 module _ (K V : Place → Type 0) (M : Place → Place) (p p' : Program) (law : Moves K V M p p') (m : MemMap) (next : Place) (visited : V next) where
-  one-fit : (i : Instr) (s s' : PlainCore) (events : List Event) → IsUnlinked i → NamedCore K s → applied m s (op_does i s next) ≡ Went s' events → Fit K V s'
+  one-fit : (i : Instr) (s s' : PlainCore) (events : List SymEvent) → IsUnlinked i → NamedCore K s → applied m s (op_does i s next) ≡ Went s' events → Fit K V s'
   one-fit i s s' events u n h = applied-fit K V m s s' events (op_does i s next) h n (op-lead K V law.visits s.place i s next refl n visited (op-leads K i next u))
 
   in_turn-moved :
@@ -193,7 +193,7 @@ module _ (K V : Place → Type 0) (M : Place → Place) (p p' : Program) (law : 
           ∙ again s1 fit.named on
           ∙ goes-anywhere M (M s1.place) (M s.place) (in_turn m is next s1) (λ s' events h. in_turn-on m is next s1 s' events u.1 on h)
 
-  in_turn-fit : (i : Instr) (is : List Instr) (s s' : PlainCore) (events : List Event) → IsUnlinked i → AreUnlinked is → NamedCore K s → in_turn m (i ∷ is) next s ≡ Went s' events → Fit K V s' × Quiet m s'
+  in_turn-fit : (i : Instr) (is : List Instr) (s s' : PlainCore) (events : List SymEvent) → IsUnlinked i → AreUnlinked is → NamedCore K s → in_turn m (i ∷ is) next s ≡ Went s' events → Fit K V s' × Quiet m s'
   in_turn-fit i [] s s' events u us n h = by (applied m s (op_does i s next)) refl h
     where
       by : (t : PlainStep) → applied m s (op_does i s next) ≡ t → and_then t (in_turn m [] next) ≡ Went s' events → Fit K V s' × Quiet m s'
@@ -209,7 +209,7 @@ module _ (K V : Place → Type 0) (M : Place → Place) (p p' : Program) (law : 
       by (Stuck why) first g again = absurd cc
       by (Went s1 made) first g again = let fit = one-fit i s s1 made u n first in again s1 fit.named g
 
-  all-fit : (is : List Instr) (s s' : PlainCore) (events : List Event) → AreUnlinked is → IsSome is → NamedCore K s → in_turn m is next s ≡ Went s' events → Fit K V s' × Quiet m s'
+  all-fit : (is : List Instr) (s s' : PlainCore) (events : List SymEvent) → AreUnlinked is → IsSome is → NamedCore K s → in_turn m is next s ≡ Went s' events → Fit K V s' × Quiet m s'
   all-fit [] s s' events us some n h = absurd some
   all-fit (i ∷ is) s s' events us some n h = in_turn-fit i is s s' events us.0 us.1 n h
 
@@ -237,7 +237,7 @@ module _ (K V : Place → Type 0) (M : Place → Place) (p p' : Program) (law : 
       by (Some is) few = in_turn-moved K V M p p' law m next visited is s few.0 n running
 
   pub step-fit :
-      (i : Item) (s' : PlainCore) (events : List Event) → V (p.next s.place) → ItemLeads K V p s.place i → item_step [] m p (Some i) s (p.next s.place) ≡ Went s' events
+      (i : Item) (s' : PlainCore) (events : List SymEvent) → V (p.next s.place) → ItemLeads K V p s.place i → item_step [] m p (Some i) s (p.next s.place) ≡ Went s' events
       → Fit K V s' × ((s'.exit ≡ None) ⊎ (s'.place ≡ s.place)) × Quiet m s'
   step-fit i s' events visited leads h = by (item_expansion (Some i)) (item-few i) h
     where

@@ -26,6 +26,7 @@ use Rattle.sym_machine.specs.declared.word.Value.TheVariants as value
 use Rattle.sym_machine.specs.AddressParts.{bytes_of, high_word, low_sum, pc_low_sum, pc_target}
 use Rattle.sym_machine.specs.Change.{Change, Does, Goes, Stops, accessing, arguments_of, base_register, branch_does, by_sum, call_does, call_to, continues, exit_does, in_memory, is_buffer, is_output, item_does, jump_does, load_word, numbers_at, op_does, puts, read_does, sets, stored_bytes, upper_does, with_buffer, write_does}
 use Rattle.sym_machine.specs.Conditions.{condition}
+use Rattle.sym_machine.specs.Events.{Numeric}
 use Rattle.sym_machine.specs.Program.{Program}
 use Rattle.sym_machine.specs.State.{PlainCore, cell_of, reg_of}
 use Rattle.sym_machine.specs.Words.{code_of, code_word, imm_word, number_of, number_word, reg_word, sum_word, undef_word, upper_word, value_word}
@@ -131,7 +132,7 @@ module _ (K V : Place → Type 0) (visits : (q : Place) → K q → V q) (from :
     place = λ _. v;
   }
 
-  output-lead : (o : Option (List ℕ)) (next : Place) (c : Arguments) → V next → DoesLead K V from (option_map_or (λ bytes. Goes (record (sets 10 (number_word c.len) next) { events = Write c.a0 bytes ∷ [] })) o (Stops ArgumentUnknown))
+  output-lead : (o : Option (List ℕ)) (next : Place) (c : Arguments) → V next → DoesLead K V from (option_map_or (λ bytes. Goes (record (sets 10 (number_word c.len) next) { events = Numeric (Write c.a0 bytes) ∷ [] })) o (Stops ArgumentUnknown))
   output-lead None next c v = tt
   output-lead (Some bytes) next c v = record { stays = inl refl; writes = (inr (number-named K c.len), tt); stores = tt; place = λ _. v }
 

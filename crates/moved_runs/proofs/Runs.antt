@@ -6,21 +6,21 @@ use Rattle.std.proofs.lemmas.List.{append-nil}
 use Rattle.std.proofs.lemmas.List.Elements.{All-cons, All-nil, All-replicate}
 use Rattle.zc_base.specs.declared.place.Place.{Place}
 use Rattle.block_cut.specs.declared.item.Item.{Item}
-use Rattle.rv_decode.specs.Memory.{Region, Data, Stack, blank}
+use Rattle.rv_decode.specs.Memory.{Region, Data, Stack, blank, changed}
 use Rattle.rv_decode.specs.Run.{◌>>=◌, iterate}
-use Rattle.rv_decode.specs.State.{Event}
 use Rattle.rv_decode.proofs.RunLaws.{bind_ok, iterate-add, iterate-one}
 use Rattle.sym_machine.specs.declared.why.Why.{Why}
 use Rattle.sym_machine.specs.declared.why.Why.TheVariants.{NoInstruction}
 use Rattle.sym_machine.specs.declared.word.SymByte.{SymByte}
 use Rattle.sym_machine.specs.declared.word.SymByte.TheVariants.{Undef}
 use Rattle.sym_machine.specs.Words.{number_word, undef_word}
-use Rattle.sym_machine.specs.Program.{Program}
+use Rattle.sym_machine.specs.Events.{SymEvent}
+use Rattle.sym_machine.specs.Program.{Program, start_memory}
 use Rattle.sym_machine.specs.Run.{plain_turn, program_after, recorded, program_after_with}
 use Rattle.sym_machine.specs.State.{PlainCore, PlainState, first_plain}
-use Rattle.sym_machine.specs.Step.{PlainStep, Went, Stuck, plain_step}
+use Rattle.sym_machine.specs.Step.{PlainStep, Went, Stuck, plain_step, undefined_below}
 use Rattle.sym_machine.proofs.RunLaws.{all_stay, turn_devices, turns_devices}
-use Rattle.sym_machine.proofs.StepLaws.{step_past_exit}
+use Rattle.sym_machine.proofs.StepLaws.{set_to, step_past_exit}
 use Rattle.sym_machine.proofs.WordLaws.{number_back}
 use Rattle.moved_runs.specs.Moved.{landing, moved_at, moved_byte, moved_result, moved_state, moved_step}
 use Rattle.moved_runs.specs.Named.{IsNamedByte, IsNamedWord}
@@ -28,7 +28,7 @@ use Rattle.moved_runs.specs.Moves.{IsDead, IsMovedState, ItemLeads, KeepsItem, K
 use Rattle.moved_runs.proofs.Words.{number-named, undef-named}
 use Rattle.moved_runs.proofs.Ends.{Fit, Quiet}
 use Rattle.moved_runs.proofs.States.{NamedCore}
-use Rattle.moved_runs.proofs.Steps.{dead-stops, keeps-step, leads-on, shares-jump, shares-step, step-at, turn_goes, turn_is, turn_ok}
+use Rattle.moved_runs.proofs.Steps.{at-went, dead-stops, keeps-step, leads-on, shares-jump, shares-step, step-at, turn_goes, turn_is, turn_ok}
 
 -- ---- the start
 
@@ -69,13 +69,10 @@ module _ (K V : Place → Type 0) (M : Place → Place) (p p' : Program) (law : 
   }
 
 pub first-quiet : (p : Program) → StartsQuiet p → (input : List ℕ) → Quiet p.map (first_plain p input)
-first-quiet p starts input = record {
-  sp = p.map.stack_high;
-  is = number_back p.map.stack_high (let small = starts.below in omega (arith, small));
-  low = starts.ordered;
-  high = omega arith;
-  still = starts.quiet;
-}
+first-quiet p starts input =
+    let is = number_back p.map.stack_high (let small = starts.below in omega (arith, small)) in
+    let at = set_to p.map p.map.stack_high (first_plain p input) is starts.ordered (omega arith) in
+    ap (λ mark. changed (undefined_below p.map mark) (start_memory p)) at.mark ∙ starts.quiet
 
 -- ---- step for step
 
@@ -196,7 +193,7 @@ module _ (K V : Place → Type 0) (M : Place → Place) (p p' : Program) (shared
       t0 : PlainState
       t0 = moved_state M r
 
-      turned2 : (events : List Event) × (plain_step p r.core ≡ Went r'.core events) × (r'.events ≡ r.events ++ events) × (r'.devices ≡ r.devices)
+      turned2 : (events : List SymEvent) × (plain_step p r.core ≡ Went r'.core events) × (r'.events ≡ r.events ++ events) × (r'.devices ≡ r.devices)
       turned2 = turn_ok p r r' none h
 
       ends-moved : (q : Place) → IsMovedState M r' (record r { core = moved_at M (landing M q r'.core.exit r'.core.place) r'.core; events = r.events ++ turned2.0 })
@@ -234,7 +231,8 @@ module _ (K V : Place → Type 0) (M : Place → Place) (p p' : Program) (shared
           }
 
       dead : (i : Item) → p.item s.place ≡ Some i → IsDead i → Onward r' t0
-      dead i here d = absurd (dead-stops i p s r'.core (p.next s.place) turned2.0 d (sym (step-at p s (Some i) running here) ∙ turned2.1))
+      dead i here d = absurd
+          (dead-stops i p s r'.core (p.next s.place) turned2.0 d (at-went p (Some i) s r'.core (p.next s.place) turned2.0 (sym (step-at p s (Some i) running here) ∙ turned2.1)))
 
       at-item : (o : Option Item) → p.item s.place ≡ o → Onward r' t0
       at-item None here = absurd (let e : Stuck NoInstruction ≡ Went r'.core turned2.0 = sym (step-at p s None running here) ∙ turned2.1 in cc)

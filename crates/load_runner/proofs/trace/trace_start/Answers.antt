@@ -1,8 +1,16 @@
 use Rattle.std.proofs.Common.{ap, sym, subst}
+use Rattle.rv_decode.specs.Memory.{extents_of}
+use Rattle.sym_machine.specs.State.{PlainCore}
 use Rattle.zc_outside.specs.MemConsole.{ConsoleState}
 use Rattle.load_runner.specs.Runs.{IsTraced}
 use Rattle.load_runner.proofs.ExitLaws.{trace_exits}
 use Rattle.load_runner.proofs.trace.trace_start.Goals as goal
+
+pub run_counted-end-requires-clause-of : goal.run_counted-end-requires-clause-of
+run_counted-end-requires-clause-of c = ap (λ (s : PlainCore). extents_of s.memory) c.requires
+
+pub run_counted-end-requires-clause-running : goal.run_counted-end-requires-clause-running
+run_counted-end-requires-clause-running c = ap (λ (s : PlainCore). s.exit) c.requires
 
 pub returns-in-Exited-clause-ok : goal.returns-in-Exited-clause-ok
 returns-in-Exited-clause-ok c =
