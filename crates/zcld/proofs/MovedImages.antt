@@ -2,7 +2,7 @@
 -- program are those of the state with its places moved, since the places in it are named, and there `auipc` items have the same
 -- targets, moved.
 use Rattle.std.proofs.Common.{◌≡◌, ℕ, List, length, Option, Some, None, refl, sym, ap, ◌∙◌, subst, arith, inl, inr, true≢false}
-use Rattle.std.specs.Prelude.{◌+◌, ◌*◌, ◌%◌, ◌^◌, ◌⊎◌, IsSome}
+use Rattle.std.specs.Prelude.{◌+◌, ◌*◌, ◌%◌, ◌^◌, ◌⊎◌, IsSome, map}
 use Rattle.std.specs.Option.{option_and_then, option_map}
 use Rattle.std.proofs.lemmas.List.{length-map}
 use Rattle.zc_base.specs.declared.mem_map.MemMap.{MemMap}
@@ -14,14 +14,16 @@ use Rattle.psabi_sym.specs.declared.target.Target.{Target}
 use Rattle.psabi_sym.specs.declared.target.Target.TheVariants as target
 use Rattle.rv_decode.specs.State.{ZcState, byte_in, reg_in}
 use Rattle.sym_machine.specs.AddressParts.{pc_target}
+use Rattle.sym_machine.specs.Events.{event_in}
 use Rattle.sym_machine.specs.Objects.{program_of}
 use Rattle.sym_machine.specs.Program.{Program}
-use Rattle.sym_machine.specs.State.{PlainCore, PlainState, cell_of, reg_of}
+use Rattle.sym_machine.specs.State.{PlainCore, PlainState, cell_of, first_plain, reg_of}
 use Rattle.sym_machine.specs.declared.word.SymByte.{SymByte}
 use Rattle.sym_machine.specs.declared.word.SymByte.TheVariants.{Num, Part, Undef}
 use Rattle.sym_machine.specs.declared.word.SymWord.{SymWord}
 use Rattle.sym_machine.specs.declared.word.Value.{Value}
 use Rattle.sym_machine.specs.declared.word.Value.TheVariants.{AbsHi, Code, PcHi}
+use Rattle.sym_machine.proofs.EventLaws.{numeric_same, run_numeric}
 use Rattle.moved_runs.specs.Moved.{moved_at, moved_byte, moved_item, moved_result, moved_state, moved_target, moved_value, moved_word}
 use Rattle.moved_runs.specs.Moves.{IsMovedState, KeepsRuns, Moves, MovesExactly, MovesSharing}
 use Rattle.moved_runs.specs.Named.{IsNamedByte, IsNamedValue, IsNamedWord}
@@ -123,7 +125,7 @@ module _ (K V : Place → Type 0) (M : Place → Place) (p p' : Program) (exact 
               z.0,
               z.1,
               record {
-                events = z.2.events;
+                events = z.2.events ∙ numeric_same e.address (λ q. e.address (M q)) s.events (run_numeric p (first_plain p input) n s runs);
                 stands = λ known. stands K V M p p' exact.moves exact_uppers e.address s.core (M s.core.place) z.0 (after-named K V M p p' exact input n s runs) (λ running. refl) (z.2.stands known);
               },
             ),
@@ -157,7 +159,9 @@ module _ (K V : Place → Type 0) (M : Place → Place) (p p' : Program) (sharin
               z.0,
               z.1,
               record {
-                events = z.2.events ∙ moved.events;
+                events =
+                    z.2.events ∙ ap (map (event_in e.address)) moved.events
+                    ∙ numeric_same e.address (λ q. e.address (M q)) r.events (run_numeric p (first_plain p input) n r runs);
                 stands = λ known. stands K V M p p' sharing.moves uppers e.address r.core t.core.place z.0 (sharing-named K V M p p' sharing input n r runs) moved.place
                     (subst (λ s. Stands p' e.address s z.0) moved.core (z.2.stands (known_there e.address r t moved known)));
               },

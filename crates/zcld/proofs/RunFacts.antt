@@ -25,7 +25,7 @@ use Rattle.zcld.specs.declared.outcome.Outcome.TheVariants.{BadFile, OutOfMemory
 use Rattle.zcld.specs.Call.{task_of}
 use Rattle.zcld.specs.Given.{devices_refusal, lines_given, wants_input}
 use Rattle.zcld.specs.Outcome.{plan_outcome}
-use Rattle.zcld.specs.Run.{EndsRun, RunTexts, RunWork, Runs, end_outcome, plan_given, plan_refusal, run_refusal, run_texts}
+use Rattle.zcld.specs.Run.{EndsRun, RunTexts, RunWork, Runs, end_outcome, plan_given, plan_refusal, run_refusal, run_texts, started_core}
 use Rattle.zcld.specs.Task.{Task}
 use Rattle.zcld.proofs.Answering.{Facts, IsAnswer}
 use Rattle.zcld.proofs.MachineFacts.{IsRefusedWrite, executed_ends, executed_moves, unless_ends, unless_moves}
@@ -68,20 +68,20 @@ module _ (map : MemMap) (devices plan : Option (List ℕ)) (steps : ℕ) (image 
   abbrev texts_of : List (List ℕ) → RunTexts
   texts_of files = run_texts devices plan files
 
-  abbrev first_of : List (List ℕ) → ZcCore
-  first_of files = first_core_of (texts_of files).image map
+  abbrev first_of : List (List ℕ) → List DevicesLine → ZcCore
+  first_of files lines = started_core lines (first_core_of (texts_of files).image map)
 
   pub run_facts : Facts task (λ files. RunWork map steps (texts_of files))
   run_facts = record {
     refuses = λ files. run_refuses map (texts_of files);
     ends = λ files outcome before after work.
-        unless_ends task files (λ input. Runs (first_of files) work.plan steps (environment_of work.lines steps input))
+        unless_ends task files (λ input. Runs (first_of files work.lines) work.plan steps (environment_of work.lines steps input))
         (λ input.
         let environment = environment_of work.lines steps input in
-        executed_ends (EndsRun (first_of files) (interrupts_by work.plan) steps environment) end_outcome task files (end_of_run (first_of files) (interrupts_by work.plan) steps environment))
+        executed_ends (EndsRun (first_of files work.lines) (interrupts_by work.plan) steps environment) end_outcome task files (end_of_run (first_of files work.lines) (interrupts_by work.plan) steps environment))
         (has_answers work.lines) (ap wants_input work.named) outcome before after work.run;
     moves = λ files outcome before after work.
-        unless_moves (λ input. Runs (first_of files) work.plan steps (environment_of work.lines steps input))
-        (λ input. executed_moves (EndsRun (first_of files) (interrupts_by work.plan) steps (environment_of work.lines steps input)) end_outcome)
+        unless_moves (λ input. Runs (first_of files work.lines) work.plan steps (environment_of work.lines steps input))
+        (λ input. executed_moves (EndsRun (first_of files work.lines) (interrupts_by work.plan) steps (environment_of work.lines steps input)) end_outcome)
         (has_answers work.lines) outcome before after work.run;
   }

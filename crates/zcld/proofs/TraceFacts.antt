@@ -2,10 +2,11 @@
 -- files that are refused, and with its run.
 use Rattle.std.proofs.Common.{◌≡◌, ◌++◌, ℕ, List, Option, Some, None, Result, Ok, Err, refl, sym, ap, subst, ◌∙◌, ◌⊎◌, inl, inr}
 use Rattle.std.proofs.lemmas.Option.{same_Some, none-some}
+use Rattle.std.specs.Prelude.{not}
 use Rattle.std.specs.Option.{option_or}
 use Rattle.block_cut.specs.Faults.{first_fault}
-use Rattle.devices.specs.Environment.{Environment, environment_of}
-use Rattle.devices.specs.Lines.{DevicesLine, has_answers}
+use Rattle.devices.specs.Environment.{environment_of}
+use Rattle.devices.specs.Lines.{DevicesLine, has_answers, starts_reset}
 use Rattle.devices.specs.declared.fault.DevicesFault.{DevicesFault}
 use Rattle.elf32_read.specs.declared.fault.Fault.{Fault}
 use Rattle.psabi_sym.specs.Faults.{gather_fault}
@@ -14,8 +15,9 @@ use Rattle.psabi_sym.specs.LinkFault.{IsRefusal}
 use Rattle.psabi_sym.specs.declared.link_fault.LinkFault.{LinkFault}
 use Rattle.psabi_sym.specs.declared.link_fault.LinkFault.TheVariants as link
 use Rattle.sym_machine.specs.Objects.{program_of}
+use Rattle.sym_machine.specs.Program.{Program}
 use Rattle.sym_machine.specs.RunEnd.{Traced, plain_course}
-use Rattle.sym_machine.specs.State.{PlainState}
+use Rattle.sym_machine.specs.State.{PlainState, start_plain}
 use Rattle.sym_machine.specs.declared.run.TraceEnd.{TraceEnd}
 use Rattle.sym_machine.specs.declared.run.TraceEnd.TheVariants as end
 use Rattle.sym_machine.specs.declared.why.Why.{Why}
@@ -70,12 +72,17 @@ module _ (options : Options) (devices : Option (List ℕ)) (steps : ℕ) (names 
   end_of_trace run (end.Console console.OutOfMemory) before after traced = inl tt
   end_of_trace run end.OutOfMemory before after traced = inl tt
 
-  -- the run of a text's objects in an environment
-  abbrev course : TraceTexts → Environment → Course PlainState (Place × Why)
-  course texts environment = plain_course (program_of (parsed (inputs_in options texts.objects))) environment steps
+  abbrev program : TraceTexts → Program
+  program texts = program_of (parsed (inputs_in options texts.objects))
+
+  -- the run of a text's objects with the devices of lines, and over an input
+  abbrev course : TraceTexts → List DevicesLine → List ℕ → Course PlainState (Place × Why)
+  course texts lines input =
+      let environment = environment_of lines steps input in
+      plain_course (program texts) (start_plain (not (starts_reset lines)) (program texts) environment.input) environment.devices steps
 
   abbrev runs : TraceTexts → List DevicesLine → List ℕ → Outcome → World → World → Type 0
-  runs texts lines input = Traces (inputs_in options texts.objects) steps (environment_of lines steps input)
+  runs texts lines input = Traces (not (starts_reset lines)) (program texts) steps (environment_of lines steps input)
 
   pub trace_facts : Facts task (λ files. TraceWork options steps (trace_texts devices files))
   trace_facts = record {
@@ -84,13 +91,13 @@ module _ (options : Options) (devices : Option (List ℕ)) (steps : ℕ) (names 
         let texts = trace_texts devices files in
         unless_ends task files (runs texts work.lines)
         (λ input.
-        let run = course texts (environment_of work.lines steps input) in
+        let run = course texts work.lines input in
         executed_ends (Traced run) trace_outcome task files (end_of_trace run))
         (has_answers work.lines) (ap wants_input work.named) outcome before after work.run;
     moves = λ files outcome before after work.
         let texts = trace_texts devices files in
         unless_moves (runs texts work.lines)
-        (λ input. executed_moves (Traced (course texts (environment_of work.lines steps input))) trace_outcome)
+        (λ input. executed_moves (Traced (course texts work.lines input)) trace_outcome)
         (has_answers work.lines) outcome before after work.run;
   }
 
@@ -143,7 +150,7 @@ module _ (options : Options) (devices : Option (List ℕ)) (steps : ℕ) (names 
     -- the objects ran with the devices
     pub traced_ran :
         (left : List (List ℕ)) (outcome : Outcome) (lines : List DevicesLine) (end : World) → NamesNothing outcome → first_fault (inputs_in options objects) ≡ None → lines_given options.map text ≡ Ok lines
-        → AnswersOrTakes lines steps (Traces (inputs_in options objects) steps) outcome after end → DoesWith (Some (Trace options devices steps names)) left outcome before end
+        → AnswersOrTakes lines steps (Traces (not (starts_reset lines)) (program_of (parsed (inputs_in options objects))) steps) outcome after end → DoesWith (Some (Trace options devices steps names)) left outcome before end
     traced_ran left outcome lines end nothing sound named ran = record {
       files = files;
       line = names_in_none outcome left files nothing;

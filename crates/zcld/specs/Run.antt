@@ -1,10 +1,10 @@
 -- What `run` does: it reads an image, a text of devices and a plan of interrupts, takes the console's whole input, unless the devices
 -- answer without it, and makes commits of the Zc machine with the devices and under the plan.
-use Rattle.std.specs.Prelude.{◌≡◌, ℕ, List, [], ◌∷◌, ◌++◌, slice_get, Option, Some, None, Result, Ok, Err}
+use Rattle.std.specs.Prelude.{◌≡◌, ℕ, if◌then◌else◌, List, [], ◌∷◌, ◌++◌, slice_get, Option, Some, None, Result, Ok, Err}
 use Rattle.std.specs.Option.{option_map, option_map_or, option_or}
 use Rattle.zc_base.specs.declared.mem_map.MemMap.{MemMap}
 use Rattle.devices.specs.Environment.{Environment}
-use Rattle.devices.specs.Lines.{DevicesLine}
+use Rattle.devices.specs.Lines.{DevicesLine, starts_reset}
 use Rattle.elf32_read.specs.Image.{image_fault}
 use Rattle.interrupt_plan.specs.Plan.{Entry}
 use Rattle.interrupt_plan.specs.Text.{plan_in}
@@ -14,7 +14,7 @@ use Rattle.rv_decode.specs.State.{ZcCore}
 use Rattle.zc_outside.specs.Desk.{Desk}
 use Rattle.zc_outside.specs.Wanted.{Wanted}
 use Rattle.zc_outside.specs.World.{World}
-use Rattle.zc_machine.specs.Load.{first_core_of}
+use Rattle.zc_machine.specs.Load.{first_core_of, reset_core}
 use Rattle.zc_machine.specs.Run.{interrupts_by}
 use Rattle.zc_machine.specs.RunEnd.{Ran, course_of}
 use Rattle.zc_machine.specs.declared.run.RunEnd.{RunEnd}
@@ -107,6 +107,10 @@ EndsRun first happens steps environment end = Ran happens (course_of first envir
 abbrev pub end_outcome : RunEnd × ZcCore → Outcome
 end_outcome end = run_outcome end.0 end.1.pc
 
+-- the state that a run starts from: after a reset, if the devices' lines say so
+abbrev pub started_core : List DevicesLine → ZcCore → ZcCore
+started_core lines z = if starts_reset lines then reset_core z else z
+
 -- the run of an image from its first state in an environment, under a plan, of at most `steps` commits
 abbrev pub Runs : ZcCore → List Entry → ℕ → Environment → Outcome → World → World → Type 0
 Runs first plan steps environment = Executes (EndsRun first (interrupts_by plan) steps environment) end_outcome
@@ -118,4 +122,4 @@ pub record RunWork
   pub named : lines_given map texts.devices ≡ Ok lines
   pub plan : List Entry
   pub spelled : plan_given texts.plan ≡ Ok plan
-  pub run : AnswersOrTakes lines steps (Runs (first_core_of texts.image map) plan steps) outcome before after
+  pub run : AnswersOrTakes lines steps (Runs (started_core lines (first_core_of texts.image map)) plan steps) outcome before after

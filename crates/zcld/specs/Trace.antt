@@ -1,12 +1,14 @@
 -- What `trace` does: it reads objects and a text of devices, takes the console's whole input, unless the devices answer without it, and
 -- makes steps of the symbolic machine with the devices.
-use Rattle.std.specs.Prelude.{◌≡◌, ℕ, ◌++◌, List, Option, Some, None, Ok}
+use Rattle.std.specs.Prelude.{◌≡◌, ℕ, Bool, not, ◌++◌, List, Option, Some, None, Ok}
 use Rattle.std.specs.Option.{option_or}
 use Rattle.devices.specs.Environment.{Environment}
-use Rattle.devices.specs.Lines.{DevicesLine}
-use Rattle.psabi_sym.specs.Inputs.{Inputs, inputs_in, parsed}
+use Rattle.devices.specs.Lines.{DevicesLine, starts_reset}
+use Rattle.psabi_sym.specs.Inputs.{inputs_in, parsed}
 use Rattle.sym_machine.specs.Objects.{program_of}
+use Rattle.sym_machine.specs.Program.{Program}
 use Rattle.sym_machine.specs.RunEnd.{Traced, plain_course}
+use Rattle.sym_machine.specs.State.{start_plain}
 use Rattle.sym_machine.specs.declared.run.TraceEnd.{TraceEnd}
 use Rattle.sym_machine.specs.declared.run.TraceEnd.TheVariants as end
 use Rattle.zc_base.specs.Options.{Options}
@@ -51,14 +53,16 @@ trace_outcome (end.Console console.Failed) = WriteFault
 trace_outcome (end.Console console.OutOfMemory) = OutOfMemory
 trace_outcome end.OutOfMemory = OutOfMemory
 
--- the run of the objects' program in an environment, of at most `steps` steps
-abbrev pub Traces : Inputs → ℕ → Environment → Outcome → World → World → Type 0
-Traces inputs steps environment =
-    Executes (Traced (plain_course (program_of (parsed inputs)) environment steps)) trace_outcome
+-- the run of a program in an environment, from a start where sp is set or not, of at most `steps` steps
+abbrev pub Traces : Bool → Program → ℕ → Environment → Outcome → World → World → Type 0
+Traces sp_set p steps environment =
+    Executes (Traced (plain_course p (start_plain sp_set p environment.input) environment.devices steps)) trace_outcome
 
 -- the work of `trace`, under the options and with the devices
 pub record TraceWork
     (options : Options) (steps : ℕ) (texts : TraceTexts) (outcome : Outcome) (before after : World) : Type 0 where
   pub lines : List DevicesLine
   pub named : lines_given options.map texts.devices ≡ Ok lines
-  pub run : AnswersOrTakes lines steps (Traces (inputs_in options texts.objects) steps) outcome before after
+  pub run :
+      AnswersOrTakes lines steps (Traces (not (starts_reset lines)) (program_of (parsed (inputs_in options texts.objects))) steps)
+      outcome before after

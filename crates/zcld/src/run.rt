@@ -14,7 +14,7 @@ ghost use Rattle.zcld.specs.Call.{DoesWith};
 ghost use Rattle.zcld.specs.ErrLine.{NamesNothing};
 ghost use Rattle.zcld.specs.Given.{lines_given, text_held};
 ghost use Rattle.zcld.specs.Machines.{AnswersOrTakes};
-ghost use Rattle.zcld.specs.Run.{EndsRun, Runs, files_in_order, plan_given, run_outcome as outcome_of_end, run_texts, run_wanted, texts_held, texts_refusal};
+ghost use Rattle.zcld.specs.Run.{EndsRun, Runs, files_in_order, plan_given, run_outcome as outcome_of_end, run_texts, run_wanted, started_core, texts_held, texts_refusal};
 ghost use Rattle.zcld.specs.Task.{UnreadCause};
 
 use crate::given::{devices_given, read_given};
@@ -141,7 +141,7 @@ fn execute<C: Console>(
 ) -> Outcome
     requires { IsMap image.now.1 }
     ensures runs { (shelf : Shelf) → AnswersOrTakes setting.now.devices steps
-        (Runs (first_core_of image.now.0 image.now.1) setting.now.plan steps) result
+        (Runs (started_core setting.now.devices (first_core_of image.now.0 image.now.1)) setting.now.plan steps) result
         (world shelf (C.shown console.old)) (world shelf (C.shown console.new)) }
     ensures line { NamesNothing result }
 {
@@ -150,8 +150,18 @@ fn execute<C: Console>(
         Ok(ready) => ready,
         Err(outcome) => return outcome,
     };
+    start(&mut machine, &setting.devices);
     let end = run_machine(&mut machine, setting, input.as_slice(), steps, console);
     run_outcome(end, machine.pc())
+}
+
+// Puts a machine at the start of its image in the state after a reset, if the lines of its devices say so.
+fn start(machine: &mut Machine, devices: &Devices)
+    ensures { machine.new ≡ started_core devices.now machine.old }
+{
+    if devices.starts_reset() {
+        machine.reset();
+    }
 }
 
 // Runs a machine from its start over what its devices answer, or this input, and under its plan.

@@ -1,10 +1,13 @@
 // The command `trace`: objects are read, and the symbolic machine runs them with devices.
 
-ghost use Rattle.std.specs.Prelude.{◌≡◌, ◌⊎◌, ◌++◌, ℕ, IfOk, IfErr, List, None, Ok, Some, option_copied};
+ghost use Rattle.std.specs.Prelude.{◌≡◌, ◌⊎◌, ◌++◌, ℕ, IfOk, IfErr, List, None, Ok, Some, not, option_copied};
 ghost use Rattle.std.specs.Option.{option_or};
 ghost use Rattle.block_cut.specs.Faults.{first_fault};
+ghost use Rattle.devices.specs.Lines.{starts_reset};
 ghost use Rattle.psabi_sym.specs.Faults.{gather_fault};
+ghost use Rattle.psabi_sym.specs.Inputs.{parsed};
 ghost use Rattle.psabi_sym.specs.Objects.{contents_of};
+ghost use Rattle.sym_machine.specs.Objects.{program_of};
 ghost use Rattle.zc_base.specs.MemMap.{IsMap};
 ghost use Rattle.zc_outside.specs.Shelf.{Shelf};
 ghost use Rattle.zc_outside.specs.Wanted.{AreRead, ReadsAll};
@@ -121,7 +124,8 @@ fn make_traceable(
 
 // Runs objects with their devices.
 fn execute<C: Console>(alloc: Global, program: &Traceable, steps: u64, console: &mut C) -> Outcome
-    ensures runs { (shelf : Shelf) → AnswersOrTakes program.now.devices steps (Traces program.now.cut steps) result
+    ensures runs { (shelf : Shelf) → AnswersOrTakes program.now.devices steps
+        (Traces (not (starts_reset program.now.devices)) (program_of (parsed program.now.cut)) steps) result
         (world shelf (C.shown console.old)) (world shelf (C.shown console.new)) }
     ensures line { NamesNothing result }
 {
@@ -130,7 +134,8 @@ fn execute<C: Console>(alloc: Global, program: &Traceable, steps: u64, console: 
         Err(outcome) => return outcome,
     };
     let answers = program.devices.answers(steps, input.as_slice());
-    let Ok(mut machine) = Sym::start_with(alloc, &program.cut, answers) else {
+    let sp_set = !program.devices.starts_reset();
+    let Ok(mut machine) = Sym::start_with(alloc, &program.cut, answers, sp_set) else {
         return Outcome::OutOfMemory;
     };
     let devices = DeviceMap::new(&program.devices);

@@ -13,7 +13,7 @@ use Rattle.zcld.specs.declared.outcome.Outcome.TheVariants.{BadFile}
 use Rattle.zcld.specs.Given.{lines_given}
 use Rattle.zcld.specs.Machines.{AnswersOrTakes}
 use Rattle.zcld.specs.declared.outcome.FileFault.TheVariants.{Image}
-use Rattle.zcld.specs.Run.{RunTexts, RunWork, Runs, files_in_order, plan_given, run_refusal, run_wanted, texts_held, texts_refusal}
+use Rattle.zcld.specs.Run.{RunTexts, RunWork, Runs, files_in_order, plan_given, run_refusal, run_wanted, started_core, texts_held, texts_refusal}
 use Rattle.zcld.specs.Task.{UnreadCause}
 use Rattle.zcld.proofs.Refusals.{names_in_none}
 use Rattle.zcld.proofs.run.run.Goals as goal
@@ -27,9 +27,10 @@ none_refused map texts lines plan sound named spelled = rw (sound, named, spelle
 -- the image that ran is the file that was read, in the map that the words gave
 of_file :
     (a b : List ℕ × MemMap) (lines : List DevicesLine) (plan : List Entry) (steps : ℕ) (outcome : Outcome) (before after : World) → a ≡ b →
-    AnswersOrTakes lines steps (Runs (first_core_of a.0 a.1) plan steps) outcome before after →
-    AnswersOrTakes lines steps (Runs (first_core_of b.0 b.1) plan steps) outcome before after
-of_file a b lines plan steps outcome before after same = subst (λ i. AnswersOrTakes lines steps (Runs (first_core_of i.0 i.1) plan steps) outcome before after) same
+    AnswersOrTakes lines steps (Runs (started_core lines (first_core_of a.0 a.1)) plan steps) outcome before after →
+    AnswersOrTakes lines steps (Runs (started_core lines (first_core_of b.0 b.1)) plan steps) outcome before after
+of_file a b lines plan steps outcome before after same =
+    subst (λ i. AnswersOrTakes lines steps (Runs (started_core lines (first_core_of i.0 i.1)) plan steps) outcome before after) same
 
 pub returns-in-Err : goal.returns-in-Err
 returns-in-Err g c = λ left. record {

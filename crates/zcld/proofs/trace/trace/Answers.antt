@@ -1,10 +1,13 @@
 -- The files can't be had, or the objects or the devices are refused, or the machine runs the objects' program.
 use Rattle.std.proofs.Common.{◌≡◌, ◌∙◌, ◌⊎◌, Ok, Some, refl, sym, ap, subst}
+use Rattle.std.specs.Prelude.{not}
 use Rattle.std.specs.Option.{option_copied, option_or}
 use Rattle.block_cut.specs.Faults.{first_fault}
 use Rattle.command_words.specs.Command.{texts, trace_meant}
-use Rattle.psabi_sym.specs.Inputs.{Inputs}
+use Rattle.devices.specs.Lines.{starts_reset}
+use Rattle.psabi_sym.specs.Inputs.{Inputs, parsed}
 use Rattle.psabi_sym.specs.Objects.{contents_of}
+use Rattle.sym_machine.specs.Objects.{program_of}
 use Rattle.zc_outside.specs.World.{world}
 use Rattle.zcld.specs.Call.{DoesWith}
 use Rattle.zcld.specs.Given.{devices_refusal, lines_given, text_held}
@@ -54,7 +57,8 @@ returns-in-Ok-make_traceable g c =
     (traced_ran args.options (option_copied args.devices) args.steps (texts args.objects.items) read.0 (text_held c.in-Ok.files.devices) c.in-Ok.ensures.given before after
     (record { shelf = c.read_files.ensures.reads; desk = refl }) read.2 left c.execute.result program.devices end c.execute.ensures.line
     (sym (ap first_fault gathered.0) ∙ cut.1) named
-    (subst (λ inputs. AnswersOrTakes program.devices args.steps (Traces inputs args.steps) c.execute.result after end) (cut.0 ∙ gathered.0) (c.execute.ensures.runs after.shelf)))
+    (subst (λ inputs. AnswersOrTakes program.devices args.steps (Traces (not (starts_reset program.devices)) (program_of (parsed inputs)) args.steps) c.execute.result after end)
+    (cut.0 ∙ gathered.0) (c.execute.ensures.runs after.shelf)))
 
 pub returns : goal.returns
 returns g c =
