@@ -26,6 +26,28 @@ run --devices told --plan below load.elf => -- 42 5 "" "exited 42\n""#;
     expect(&rt, lines)
 }
 
+// A start after a reset shows where sp is read or leaves the stack, and the registers where they are named.
+#[test]
+fn a_run_and_a_trace_start_as_after_a_reset(rt: HostRuntime) -> Result<(), Fail> {
+    let lines = r#"run woken.elf => -- 126 0 "" "stopped 1 Illegal 00010004\n"
+trace woken => -- 126 0 "" "stuck 0 1 0 7 StackPointer\n"
+run --devices awake woken.elf => -- 42 5 "" "exited 42\n"
+trace --devices awake woken => -- 42 5 "" "exited 42\n"
+run --devices awake --steps 4 woken.elf => -- 127 5 "" "spent\n"
+trace --devices awake --steps 4 woken => -- 127 5 "" "spent\n"
+run --devices registers woken.elf => -- 105 0 "" "exited 105\n"
+trace --devices registers woken => -- 126 0 "" "stuck 0 1 0 7 StackPointer\n"
+run --devices reset woken.elf => -- 126 0 "" "stopped 1 Illegal 00010004\n"
+trace --devices reset woken => -- 126 0 "" "stuck 0 1 4 8 NoInstruction\n"
+run --devices registers load.elf => -- 0 0 "" "exited 0\n"
+run --devices reset load.elf => -- 126 0 "" "stopped 2 BadAccess 00010004\n"
+run --devices awake --plan below load.elf => -- 126 5 "" "stopped 2 BadAccess 00010004\n"
+trace --devices reset x => -- 3 0 "" "exited 3\n"
+run --devices again woken.elf => -- 125 5 "" "bad devices line 4\n"
+trace --devices again woken => -- 125 5 "" "bad devices line 4\n""#;
+    expect(&rt, lines)
+}
+
 // Without answers the whole input is taken, as without devices.
 #[test]
 fn input_is_taken_if_devices_have_no_answers(rt: HostRuntime) -> Result<(), Fail> {

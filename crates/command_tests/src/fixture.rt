@@ -261,6 +261,23 @@ const POLL_IMAGE: &str = "\
 000000000100000054000000000001000000010014000000140000000500000004000000b70500f003c505002382a500
 9308d00573000000";
 
+// An object and an image likewise, of `lui sp,0x20000`, `csrrsi a0,mstatus,8`, `wfi`, `li a7,93` and `ecall`: what is answered is the
+// status.
+const WOKEN: &str = "\
+7f454c460101010000000000000000000100f30001000000000000000000000094000000000000003400000000002800
+050004003701002073650430730050109308d00573000000000000000000000000000000000000000100000000000000
+0000000010000100005f737461727400002e74657874002e73796d746162002e737472746162002e7368737472746162
+000000000000000000000000000000000000000000000000000000000000000000000000000000000000000001000000
+010000000600000000000000340000001400000000000000000000000400000000000000070000000200000000000000
+000000004800000020000000030000000100000004000000100000000f00000003000000000000000000000068000000
+080000000000000000000000010000000000000017000000030000000000000000000000700000002100000000000000
+000000000100000000000000";
+
+const WOKEN_IMAGE: &str = "\
+7f454c460101010000000000000000000200f30001000000000001003400000000000000010000003400200001002800
+000000000100000054000000000001000000010014000000140000000500000004000000370100207365043073005010
+9308d00573000000";
+
 // The first object with a section `.comment` in front, of one byte that the symbol `c` names, and a second section of code:
 // `li a0,1` and `ret`, under the symbol `f`. And what `gc` leaves of it: the second section is empty, and `c` is the number 0.
 const UNNAMED: &str = "\
@@ -498,8 +515,9 @@ const PLANS: [(&str, &str); 9] = [
 
 // Texts of devices, all but one of a device that `poll` loads from and stores to: one whose answers are the input's bytes; one with
 // answers, of which the second is one again and again; one without its range of 8 bytes; one whose output lies outside it; and one
-// of a device that lies outside the memory map only where text lies higher.
-const DEVICES: [(&str, &str); 5] = [
+// of a device that lies outside the memory map only where text lies higher. And texts without devices: of registers and a reset, with
+// an answer; of each of both; and one that says one of them twice.
+const DEVICES: [(&str, &str); 9] = [
     (
         "open",
         "zcld devices 1\ndevice f0000000 00000008\noutput f0000004\n",
@@ -514,6 +532,13 @@ const DEVICES: [(&str, &str); 5] = [
         "zcld devices 1\ndevice f0000000 00000008\noutput f0000008\n",
     ),
     ("low", "zcld devices 1\ndevice 00100000 00000004\n"),
+    (
+        "awake",
+        "zcld devices 1\nregisters\nreset\nanswer 2a 00 00 00\n",
+    ),
+    ("registers", "zcld devices 1\nregisters\n"),
+    ("reset", "zcld devices 1\nreset\n"),
+    ("again", "zcld devices 1\nreset\nregisters\nreset\n"),
 ];
 
 // Certificates: one target that 50 calls lead to, for which a table would take more than it saves; the same with a
@@ -613,11 +638,11 @@ fn zeros(alloc: Global, special: &str, letter: &str) -> Result<Vec<u8>, Fail> {
 // those with flags, `short.elf` is the image of the first of these, `frames` and `frames.elf` are the object with code of Zcmp
 // and its image, `start` and `main` are the two objects that write, `hello.elf` and `elsewhere.elf` are their images, `echo` and
 // `echo.elf` are the program that reads, `load.elf` is the image that loads, `poll` and `poll.elf` are the program that a device
-// answers, `unnamed` and `named` are the objects with a second
+// answers, `woken` and `woken.elf` are the one that waits for an interrupt, `unnamed` and `named` are the objects with a second
 // section of code, `far` is the object whose branch must stay in reach, `ends` and `inner` are the objects with two equal ends of
 // functions, `wide` is the one with these whose branch must stay in reach, `cell` is the object with shared data, `traps` is the one
 // with a section for traps, and `bad` is no ELF file. `room15`, `room16` and `room17` are added beside them.
-const FILES: [(&str, &str); 27] = [
+const FILES: [(&str, &str); 29] = [
     ("x", OBJECT),
     ("z", OBJECT),
     ("short", SHORT),
@@ -636,6 +661,8 @@ const FILES: [(&str, &str); 27] = [
     ("load.elf", LOAD_IMAGE),
     ("poll", POLL),
     ("poll.elf", POLL_IMAGE),
+    ("woken", WOKEN),
+    ("woken.elf", WOKEN_IMAGE),
     ("unnamed", UNNAMED),
     ("named", NAMED),
     ("far", FAR),

@@ -3,7 +3,10 @@
 ghost use Rattle.std.specs.Prelude.{◌≡◌, IfOk, None};
 
 use crate::row::{bytes_of, column, devices_of, image_end, lines_of, map_of, number_of, shown};
-use crate::rows::{AFTER_LOAD, BEFORE_LOAD, BEFORE_STORE, EXIT, IMAGES, LOADS, PROGRAMS, STORES};
+use crate::rows::{
+    AFTER_LOAD, AFTER_SYSTEM, BEFORE_LOAD, BEFORE_STORE, BEFORE_SYSTEM, EXIT, IMAGES, LOADS,
+    PROGRAMS, STARTS, STORES, SYSTEM,
+};
 use devices::environment::Environment;
 use elf32_read::image::Image;
 use interrupt_plan::read_plan::read_plan;
@@ -21,9 +24,9 @@ const HEADERS: &str = "
 00000034 00000000 00000001 00200034 00280001 00000000
 00000001 00000054 00010000 00010000";
 
-// The machine with the code of a row.
+// The machine with the code of a row, as it starts or as after a reset.
 #[tactic(auto, unfolding(zc_machine::specs::Load::first_core))]
-fn load(alloc: Global, row: &str) -> Result<Machine, Fail>
+fn load(alloc: Global, row: &str, reset: bool) -> Result<Machine, Fail>
     ensures { IfOk result (λ machine. (machine.exit ≡ None) × (machine.commits ≡ 0)) }
 {
     let words = format!(in alloc; "{} {}", column(row, "words"), column(row, "then"))?;
@@ -33,7 +36,11 @@ fn load(alloc: Global, row: &str) -> Result<Machine, Fail>
     let mut file = bytes_of(alloc, headers.as_str())?;
     file.extend_from_slice(code.as_slice())?;
     let image = Image::read(file.as_slice(), map_of(row)?)?;
-    Ok(Machine::load(alloc, &image)?)
+    let mut machine = Machine::load(alloc, &image)?;
+    if reset {
+        machine.reset();
+    }
+    Ok(machine)
 }
 
 // Runs the image of a row, with its devices and its plan, and returns how the run ended and what it wrote.
@@ -45,7 +52,7 @@ fn ran(alloc: Global, row: &str) -> Result<String, Fail> {
     let entries = lines_of(alloc, "zcld plan 1", column(row, "plan"))?;
     let plan = read_plan(alloc, entries.as_slice())?;
     let mut console = MemConsole::new(alloc, b"", &fails)?;
-    let mut machine = load(alloc, row)?;
+    let mut machine = load(alloc, row, devices.starts_reset())?;
     let environment = Environment::new(&devices, steps, input.as_slice());
     let between = ScheduleCursor::new(&plan);
     let end = run_with(&mut machine, between, environment, steps, &mut console);
@@ -83,6 +90,8 @@ fn expect_runs<R: Abort + AllocGlobal>(
 fn devices_answer_images(rt: HostRuntime) -> Result<(), Fail> {
     expect_runs(&rt, BEFORE_LOAD, LOADS, AFTER_LOAD)?;
     expect_runs(&rt, BEFORE_STORE, STORES, EXIT)?;
+    expect_runs(&rt, BEFORE_SYSTEM, SYSTEM, AFTER_SYSTEM)?;
     expect_runs(&rt, "", PROGRAMS, "")?;
+    expect_runs(&rt, "", STARTS, "")?;
     expect_runs(&rt, "", IMAGES, "")
 }

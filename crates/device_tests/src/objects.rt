@@ -1,7 +1,10 @@
 // Objects with devices, run by the symbolic machine.
 
 use crate::row::{bytes_of, column, devices_of, map_of, number_of, object_end, shown};
-use crate::rows::{AFTER_LOAD, BEFORE_LOAD, BEFORE_STORE, EXIT, LOADS, OBJECTS, PROGRAMS, STORES};
+use crate::rows::{
+    AFTER_LOAD, AFTER_SYSTEM, BEFORE_LOAD, BEFORE_STORE, BEFORE_SYSTEM, EXIT, LOADS, OBJECTS,
+    PROGRAMS, STARTS, STORES, SYSTEM,
+};
 use block_cut::cut::Cut;
 use devices::environment::DeviceMap;
 use psabi_sym::objects::Objects;
@@ -77,7 +80,8 @@ fn ran(alloc: Global, row: &str) -> Result<String, Fail> {
     let devices = devices_of(alloc, row)?;
     let mut console = MemConsole::new(alloc, b"", &fails)?;
     let cut = cut_of(alloc, row)?;
-    let mut sym = Sym::start_with(alloc, &cut, devices.answers(steps, input.as_slice()))?;
+    let answers = devices.answers(steps, input.as_slice());
+    let mut sym = Sym::start_with(alloc, &cut, answers, !devices.starts_reset())?;
     let (end, _made) = run_with(
         &mut sym,
         &cut,
@@ -120,6 +124,8 @@ fn expect_runs<R: Abort + AllocGlobal>(
 fn devices_answer_objects(rt: HostRuntime) -> Result<(), Fail> {
     expect_runs(&rt, BEFORE_LOAD, LOADS, AFTER_LOAD)?;
     expect_runs(&rt, BEFORE_STORE, STORES, EXIT)?;
+    expect_runs(&rt, BEFORE_SYSTEM, SYSTEM, AFTER_SYSTEM)?;
     expect_runs(&rt, "", PROGRAMS, "")?;
+    expect_runs(&rt, "", STARTS, "")?;
     expect_runs(&rt, "", OBJECTS, "")
 }

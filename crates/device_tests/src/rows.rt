@@ -144,7 +144,11 @@ BA42 | devices + | in 01 02 03 04 | ends stopped BadAccess
 100002B7 00028503 00A2A423 05D00893 00000073 | devices * | in 83 01 | plan /cut 0/cut 1/cut 2 d0ffffffc:ee/cut 3 d0ffffffc:ee/cut 4/cut 5 | out 83 FF FF FF | ends exited 131
 100002B7 00028503 00A2A423 05D00893 00000073 | devices * | in 83 01 | plan /cut 1/cut 1/cut 1/cut 2/cut 2 | steps 2 | ends spent
 100002B7 00028503 00A2A423 05D00893 00000073 | devices * | in 83 01 | plan /cut 1/cut 2/cut 2 d10000008:ee/cut 3 | steps 3 | out 83 FF FF FF | ends spent
-100002B7 00028503 00A2A423 05D00893 00000073 | devices * | in 83 01 | plan /cut 2/cut 3/cut 3 | steps 3 | fails 0 | ends fault";
+100002B7 00028503 00A2A423 05D00893 00000073 | devices * | in 83 01 | plan /cut 2/cut 3/cut 3 | steps 3 | fails 0 | ends fault
+# interrupts before each commit of a start: auipc sp,0xfff0; addi sp,sp,0; auipc t0,0; addi t0,t0,28; csrrw x0,mtvec,t0; csrrci a0,mstatus,8; csrrs x0,mie,a0; wfi; addi a7,x0,93; ecall
+0FFF0117 00010113 00000297 01C28293 30529073 30047573 30452073 10500073 05D00893 00000073 | devices /registers/reset | in 07 00 00 00 | plan /cut 0 a0 d0ffffffc:ee/cut 1 d0ffffffc:ee/cut 2 a0 d0ffffffc:ee/cut 3 d0ffffff8:ee/cut 4 d0ffffff4:ee/cut 5 a0/cut 6 d0ffffff0:ee/cut 7 d0fffffec:ee/cut 8 d0fffffe8:ee/cut 9 a0 | ends exited 7
+# an address of code in a device: jal ra,4; lui t0,0x10000; sw ra,8(t0); addi a0,x0,6; addi a7,x0,93; ecall
+004000EF 100002B7 0012A423 00600513 05D00893 00000073 | devices * | out 04 00 01 00 | ends exited 6";
 
 /// Programs as in `PROGRAMS` that only objects have, with their relocations. Symbol 1 is the code's first byte, and 3,
 /// `w`, is weak, and not defined.
@@ -158,4 +162,155 @@ pub const OBJECTS: &str = "
 # auipc t0,%pcrel_hi(w+10000008); addi a0,x0,7; sw a0,%pcrel_lo(code)(t0); addi a7,x0,93; ecall
 00000297 00700513 00A2A023 05D00893 00000073 | devices * | relocs 00000000 00000317 10000008 00000008 00000119 00000000 | out 07 00 00 00 | ends exited 7
 # auipc t0,%pcrel_hi(w+10000010); lw a0,%pcrel_lo(code)(t0)
-00000297 0002A503 | devices + | in 05 00 00 00 | relocs 00000000 00000317 10000010 00000004 00000118 00000000 | stuck BadAddress";
+00000297 0002A503 | devices + | in 05 00 00 00 | relocs 00000000 00000317 10000010 00000004 00000118 00000000 | stuck BadAddress
+# la sp,w+10000000: auipc sp,%pcrel_hi(w+10000000); addi sp,sp,%pcrel_lo(code); addi a1,x0,3; addi sp,sp,-16; sw a1,12(sp); lw a0,12(sp); addi a7,x0,93; ecall
+00000117 00010113 00300593 FF010113 00B12623 00C12503 05D00893 00000073 | devices /reset | relocs 00000000 00000317 10000000 00000004 00000118 00000000 | ends exited 3
+00000117 00010113 00300593 FF010113 00B12623 00C12503 05D00893 00000073 | devices /registers | relocs 00000000 00000317 10000000 00000004 00000118 00000000 | stuck StackPointer
+# lui sp,%hi(w+00100080); addi sp,sp,%lo(w+00100080); addi a0,x0,7; addi a7,x0,93; ecall
+00000137 00010113 00700513 05D00893 00000073 | map 00100000 00100070 00100080 | devices /reset | relocs 00000000 0000031A 00100080 00000004 0000031B 00100080 | ends exited 7
+# the same outside the stack, and an access by sp: lui sp,%hi(w+20000000); addi sp,sp,%lo(w+20000000); lw a0,0(sp)
+00000137 00010113 00012503 | devices /reset | relocs 00000000 0000031A 20000000 00000004 0000031B 20000000 | stuck StackPointer
+# the handler's address: auipc t0,%pcrel_hi(code); addi t0,t0,%pcrel_lo(code); csrrw x0,mtvec,t0; addi a0,x0,7; addi a7,x0,93; ecall
+00000297 00028293 30529073 00700513 05D00893 00000073 | devices /registers | relocs 00000000 00000117 00000000 00000004 00000118 00000000 | ends exited 7
+# lui t0,%hi(code); addi t0,t0,%lo(code); csrrs a0,mtvec,t0; addi a7,x0,93; ecall
+000002B7 00028293 3052A573 05D00893 00000073 | devices /registers | in 05 00 00 00 | relocs 00000000 0000011A 00000000 00000004 0000011B 00000000 | ends exited 5
+# its upper part: auipc t0,%pcrel_hi(code); csrrw x0,mtvec,t0
+00000297 30529073 | devices /registers | relocs 00000000 00000117 00000000 | stuck ArgumentUnknown
+# lui t0,%hi(code); csrrw x0,mtvec,t0
+000002B7 30529073 | devices /registers | relocs 00000000 0000011A 00000000 | stuck ArgumentUnknown
+# an address of code in a device: jal ra,4; lui t0,0x10000; sw ra,8(t0); addi a0,x0,6; addi a7,x0,93; ecall
+004000EF 100002B7 0012A423 00600513 05D00893 00000073 | devices * | ends exited 6";
+
+// lui t0,0x10000; addi a0,x0,9
+pub const BEFORE_SYSTEM: &str = "100002B7 00900513";
+
+// sw a0,8(t0); addi a7,x0,93; ecall
+pub const AFTER_SYSTEM: &str = "| then 00A2A423 05D00893 00000073 | devices */registers";
+
+/// Each row: instructions of the system, what is answered, and how the program ends that then stores a0 where it
+/// appears.
+pub const SYSTEM: &str = "
+30029573 | in 81 02 03 04 05 | out 81 02 03 04 | ends exited 129 | csrrw a0,mstatus,t0
+3002A573 | in 81 02 03 04 05 | out 81 02 03 04 | ends exited 129 | csrrs a0,mstatus,t0
+3002B573 | in 81 02 03 04 05 | out 81 02 03 04 | ends exited 129 | csrrc a0,mstatus,t0
+30045573 | in 81 02 03 04 05 | out 81 02 03 04 | ends exited 129 | csrrwi a0,mstatus,8
+30046573 | in 81 02 03 04 05 | out 81 02 03 04 | ends exited 129 | csrrsi a0,mstatus,8
+30047573 | in 81 02 03 04 05 | out 81 02 03 04 | ends exited 129 | csrrci a0,mstatus,8
+30001573 | in 81 02 03 04 05 | out 81 02 03 04 | ends exited 129 | csrrw a0,mstatus,x0
+30002573 | in 81 02 03 04 05 | out 81 02 03 04 | ends exited 129 | csrrs a0,mstatus,x0
+30003573 | in 81 02 03 04 05 | out 81 02 03 04 | ends exited 129 | csrrc a0,mstatus,x0
+30005573 | in 81 02 03 04 05 | out 81 02 03 04 | ends exited 129 | csrrwi a0,mstatus,0
+30006573 | in 81 02 03 04 05 | out 81 02 03 04 | ends exited 129 | csrrsi a0,mstatus,0
+30007573 | in 81 02 03 04 05 | out 81 02 03 04 | ends exited 129 | csrrci a0,mstatus,0
+30029073 3002A073 3002B073 | in 81 | out 09 00 00 00 | ends exited 9 | csrrw x0,mstatus,t0; csrrs x0,mstatus,t0; csrrc x0,mstatus,t0
+30045073 30046073 30047073 | in 81 | out 09 00 00 00 | ends exited 9 | csrrwi x0,mstatus,8; csrrsi x0,mstatus,8; csrrci x0,mstatus,8
+30029073 0002C503 | in 81 02 | out 81 00 00 00 | ends exited 129 | csrrw x0,mstatus,t0; lbu a0,0(t0)
+3002A073 0002C503 | in 81 02 | out 81 00 00 00 | ends exited 129 | csrrs x0,mstatus,t0; lbu a0,0(t0)
+3002B073 0002C503 | in 81 02 | out 81 00 00 00 | ends exited 129 | csrrc x0,mstatus,t0; lbu a0,0(t0)
+30045073 0002C503 | in 81 02 | out 81 00 00 00 | ends exited 129 | csrrwi x0,mstatus,8; lbu a0,0(t0)
+30046073 0002C503 | in 81 02 | out 81 00 00 00 | ends exited 129 | csrrsi x0,mstatus,8; lbu a0,0(t0)
+30047073 0002C503 | in 81 02 | out 81 00 00 00 | ends exited 129 | csrrci x0,mstatus,8; lbu a0,0(t0)
+30001073 30002073 30003073 0002C503 | in 81 02 | out 81 00 00 00 | ends exited 129 | csrrw x0,mstatus,x0; csrrs x0,mstatus,x0; csrrc x0,mstatus,x0; lbu a0,0(t0)
+30005073 30006073 30007073 0002C503 | in 81 02 | out 81 00 00 00 | ends exited 129 | csrrwi x0,mstatus,0; csrrsi x0,mstatus,0; csrrci x0,mstatus,0; lbu a0,0(t0)
+10500073 0002C503 | in 81 02 | out 81 00 00 00 | ends exited 129 | wfi; lbu a0,0(t0)
+300025F3 0002C503 | in 01 02 03 04 85 | out 85 00 00 00 | ends exited 133 | csrrs a1,mstatus,x0; lbu a0,0(t0)
+30002573 | in 81 02 | out 81 02 00 00 | ends exited 129 | csrrs a0,mstatus,x0
+30002573 | out 00 00 00 00 | ends exited 0 | csrrs a0,mstatus,x0
+00002573 | in 81 02 03 04 | out 81 02 03 04 | ends exited 129 | csrrs a0,0x000,x0
+FFF02573 | in 81 02 03 04 | out 81 02 03 04 | ends exited 129 | csrrs a0,0xfff,x0
+01602573 | in 81 02 03 04 | out 81 02 03 04 | ends exited 129 | csrrs a0,0x016,x0
+01802573 | in 81 02 03 04 | out 81 02 03 04 | ends exited 129 | csrrs a0,0x018,x0
+01702573 | in 81 02 03 04 | ends stopped Illegal | stuck NoInstruction | csrrs a0,jvt,x0
+0172A073 | in 81 02 03 04 | ends stopped Illegal | stuck NoInstruction | csrrs x0,jvt,t0
+0172B573 | in 81 02 03 04 | ends stopped Illegal | stuck NoInstruction | csrrc a0,jvt,t0
+01745573 | in 81 02 03 04 | ends stopped Illegal | stuck NoInstruction | csrrwi a0,jvt,8
+01746573 | in 81 02 03 04 | ends stopped Illegal | stuck NoInstruction | csrrsi a0,jvt,8
+01747573 | in 81 02 03 04 | ends stopped Illegal | stuck NoInstruction | csrrci a0,jvt,8
+01729573 | in 81 02 03 04 | out 00 00 00 00 | ends exited 0 | stuck NoInstruction | csrrw a0,jvt,t0
+30044573 | in 81 02 03 04 | ends stopped Illegal | stuck NoInstruction | what would be a seventh
+30200073 | in 81 02 03 04 | ends stopped Illegal | stuck NoInstruction | mret
+10200073 | in 81 02 03 04 | ends stopped Illegal | stuck NoInstruction | sret
+10500573 | in 81 02 03 04 | ends stopped Illegal | stuck NoInstruction | wfi, with a0 as rd
+10501073 | in 81 02 03 04 | out 09 00 00 00 | ends exited 9 | csrrw x0,stvec,x0, which wfi would be with another funct3
+3005A073 | in 81 02 03 04 | out 09 00 00 00 | ends exited 9 | stuck ArgumentUnknown | csrrs x0,mstatus,a1
+30059573 | in 81 02 03 04 | out 81 02 03 04 | ends exited 129 | stuck ArgumentUnknown | csrrw a0,mstatus,a1
+3005E573 | in 81 02 03 04 | out 81 02 03 04 | ends exited 129 | csrrsi a0,mstatus,11
+008000EF 00000013 30509073 | out 09 00 00 00 | ends exited 9 | jal ra,8; addi x0,x0,0; csrrw x0,mtvec,ra
+008000EF 00000013 30509573 | in 81 02 03 04 | out 81 02 03 04 | ends exited 129 | jal ra,8; addi x0,x0,0; csrrw a0,mtvec,ra
+008000EF 00000013 00008093 3050A073 | out 09 00 00 00 | ends exited 9 | jal ra,8; addi x0,x0,0; addi ra,ra,0; csrrs x0,mtvec,ra
+008000EF 00000013 00408093 30509073 | out 09 00 00 00 | ends exited 9 | stuck ArgumentUnknown | jal ra,8; addi x0,x0,0; addi ra,ra,4; csrrw x0,mtvec,ra
+008000EF 00000013 FF010113 00112023 00014583 30559073 | out 09 00 00 00 | ends exited 9 | stuck ArgumentUnknown | jal ra,8; addi x0,x0,0; addi sp,sp,-16; sw ra,0(sp); lbu a1,0(sp); csrrw x0,mtvec,a1
+34002173 | in 00 00 00 10 | out 09 00 00 00 | ends exited 9 | csrrs sp,mscratch,x0
+34002173 | in 00 00 F0 0F | out 09 00 00 00 | ends exited 9 | csrrs sp,mscratch,x0
+34002173 | in 04 00 00 10 | out 09 00 00 00 | ends exited 9 | stuck StackPointer | csrrs sp,mscratch,x0
+34011073 | out 09 00 00 00 | ends exited 9 | csrrw x0,mscratch,sp";
+
+/// Programs as in `PROGRAMS`, that begin as after a reset, or access registers that are no devices.
+pub const STARTS: &str = "
+# without the registers: csrrs a0,mstatus,x0
+30002573 | devices * | in 01 02 03 04 | ends stopped Illegal | stuck NoInstruction
+# wfi
+10500073 | devices */reset/answer 01 | ends stopped Illegal | stuck NoInstruction
+# with them alone: csrrs a0,mstatus,x0; addi a7,x0,93; ecall
+30002573 05D00893 00000073 | devices /registers | in 05 00 00 00 | ends exited 5
+# what isn't used: addi a0,x0,5; addi a7,x0,93; ecall
+00500513 05D00893 00000073 | devices /reset | ends exited 5
+# addi a0,sp,0; addi a7,x0,93; ecall
+00010513 05D00893 00000073 | devices /reset | ends exited 0 | stuck ArgumentUnknown
+00010513 05D00893 00000073 | devices /registers | ends exited 0
+# sp is set: lui t0,0x10000; addi sp,t0,0; addi a1,x0,3; addi sp,sp,-16; sw a1,12(sp); lw a0,12(sp); addi a7,x0,93; ecall
+100002B7 00028113 00300593 FF010113 00B12623 00C12503 05D00893 00000073 | devices /reset | ends exited 3
+# by lui sp,0x10000
+10000137 00300593 FF010113 00B12623 00C12503 05D00893 00000073 | devices /reset | ends exited 3
+# by lui t0,0x10000; lw sp,0(t0)
+100002B7 0002A103 00300593 FF010113 00B12623 00C12503 05D00893 00000073 | devices +/reset | in 00 00 00 10 | ends exited 3
+# by csrrs sp,mscratch,x0
+34002173 00300593 FF010113 00B12623 00C12503 05D00893 00000073 | devices /reset/registers | in 00 00 00 10 | ends exited 3
+# by lui sp,0x100; addi sp,sp,128: its two instructions without relocations
+00100137 08010113 00700513 05D00893 00000073 | map 00100000 00100070 00100080 | devices /reset | ends exited 7 | stuck StackPointer
+00100137 08010113 00700513 05D00893 00000073 | map 00100000 00100000 00100080 | devices /reset | ends exited 7
+# lui t0,0x100; addi sp,t0,128; addi a0,x0,7; addi a7,x0,93; ecall
+001002B7 08028113 00700513 05D00893 00000073 | map 00100000 00100070 00100080 | devices /reset | ends exited 7
+# outside the stack, and in it: lui sp,0x20000; addi sp,x0,5; lui sp,0x10000; addi sp,sp,-16; addi a0,x0,7; addi a7,x0,93; ecall
+20000137 00500113 10000137 FF010113 00700513 05D00893 00000073 | devices /reset | ends exited 7
+20000137 00500113 10000137 FF010113 00700513 05D00893 00000073 | devices /registers | ends exited 7 | stuck StackPointer
+# outside it alone: lui sp,0x20000; addi a0,x0,7; addi a7,x0,93; ecall
+20000137 00700513 05D00893 00000073 | devices /reset | ends exited 7
+# lui sp,0xff00; addi a0,x0,7; addi a7,x0,93; ecall
+0FF00137 00700513 05D00893 00000073 | devices /registers | ends exited 7
+# an address of code: jal sp,4; lui sp,0x10000; addi a0,x0,7; addi a7,x0,93; ecall
+0040016F 10000137 00700513 05D00893 00000073 | devices /reset | ends exited 7
+0040016F 10000137 00700513 05D00893 00000073 | devices /registers | ends exited 7 | stuck StackPointer
+# in the stack, and then outside: lui sp,0x10000; lui sp,0x20000; addi a0,x0,7; addi a7,x0,93; ecall
+10000137 20000137 00700513 05D00893 00000073 | devices /reset | ends exited 7 | stuck StackPointer
+# before sp is set: addi sp,sp,-16; addi a0,x0,7; addi a7,x0,93; ecall
+FF010113 00700513 05D00893 00000073 | devices /reset | ends exited 7 | stuck StackPointer
+# lw a0,0(sp)
+00012503 | devices /reset | ends stopped BadAccess | stuck StackPointer
+# sb x0,0(sp)
+00010023 | devices /reset | ends stopped BadAccess | stuck StackPointer
+# compressed: c.addi sp,-16; addi a0,x0,7; addi a7,x0,93; ecall
+1141 00700513 05D00893 00000073 | devices /reset | flags 1 | ends exited 7 | stuck StackPointer
+# c.addi16sp sp,16; addi a0,x0,7; addi a7,x0,93; ecall
+6141 00700513 05D00893 00000073 | devices /reset | flags 1 | ends exited 7 | stuck StackPointer
+# c.lwsp a0,0(sp)
+4502 | devices /reset | flags 1 | ends stopped BadAccess | stuck StackPointer
+# cm.push {ra}, -16
+B842 | devices /reset | flags 1 | ends stopped BadAccess | stuck StackPointer
+# cm.pop {ra}, 16
+BA42 | devices /reset | flags 1 | ends stopped BadAccess | stuck StackPointer
+# cm.mvsa01 s0,s1, of registers that are set: addi a0,x0,7; addi a1,x0,8; cm.mvsa01 s0,s1; addi a0,s0,0; addi a7,x0,93; ecall
+00700513 00800593 AC26 00040513 05D00893 00000073 | devices /reset | flags 1 | ends exited 7
+# a push after sp is set: lui sp,0x10000; addi s0,x0,3; cm.push {ra, s0}, -16; lw a0,12(sp); addi a7,x0,93; ecall
+10000137 00300413 B852 00C12503 05D00893 00000073 | devices /reset | flags 1 | ends exited 3
+# the stack's bytes, by another register, before sp is set: lui t0,0x10000; addi a1,x0,3; sw a1,-4(t0); lw a0,-4(t0); addi a7,x0,93; ecall
+100002B7 00300593 FEB2AE23 FFC2A503 05D00893 00000073 | devices /reset | ends exited 3 | stuck ArgumentUnknown
+100002B7 00300593 FEB2AE23 FFC2A503 05D00893 00000073 | devices /registers | ends exited 3 | stuck ArgumentUnknown
+# and after: lui t0,0x10000; addi sp,t0,-16; addi a1,x0,3; sw a1,-4(t0); lw a0,-4(t0); addi a7,x0,93; ecall
+100002B7 FF028113 00300593 FEB2AE23 FFC2A503 05D00893 00000073 | devices /reset | ends exited 3
+# a word of code in a device: jal ra,4; lui t0,0x10000; sw ra,0(t0); addi a0,x0,6; addi a7,x0,93; ecall
+004000EF 100002B7 0012A023 00600513 05D00893 00000073 | devices * | ends exited 6
+# half of it: jal ra,4; lui t0,0x10000; sh ra,0(t0); addi a0,x0,6; addi a7,x0,93; ecall
+004000EF 100002B7 00129023 00600513 05D00893 00000073 | devices * | ends exited 6 | stuck BadAddress
+# a byte of it
+004000EF 100002B7 00128023 00600513 05D00893 00000073 | devices * | ends exited 6 | stuck BadAddress";

@@ -71,6 +71,27 @@ device 00000000 00000004/ = line 1 isn't one of devices
 +device 10000000 00000004/output 10000000 10000001/ = line 3 isn't one of devices
 +device 10000000 00000004/output 1000000/ = line 3 isn't one of devices
 +device 10000000 00000004/output/ = line 3 isn't one of devices
++registers/ = 1
++reset/ = 1
++reset/registers/ = 2
++registers/registers/ = line 3 isn't one of devices
++reset/reset/ = line 3 isn't one of devices
++registers/reset/answer 00/registers/ = line 5 isn't one of devices
++reset/registers/device 10000000 00000004/reset/ = line 5 isn't one of devices
++registers / = line 2 isn't one of devices
++registers 00/ = line 2 isn't one of devices
++registers registers/ = line 2 isn't one of devices
++ registers/ = line 2 isn't one of devices
++Registers/ = line 2 isn't one of devices
++register/ = line 2 isn't one of devices
++registers1/ = line 2 isn't one of devices
++reset / = line 2 isn't one of devices
++reset 00000000/ = line 2 isn't one of devices
++ reset/ = line 2 isn't one of devices
++Reset/ = line 2 isn't one of devices
++rese/ = line 2 isn't one of devices
++resets/ = line 2 isn't one of devices
++output 10000000/registers/ = line 2 isn't one of devices
 +answer/answer 00/answer ff 7f/ = 3
 +answer / = line 2 isn't one of devices
 +answer 0/ = line 2 isn't one of devices
@@ -85,17 +106,21 @@ device 00000000 00000004/ = line 1 isn't one of devices
 +then 00/then 00/ = line 3 isn't one of devices
 +then 00/answer 00/ = line 3 isn't one of devices
 +then 00/device 10000000 00000004/ = line 3 isn't one of devices
++then 00/registers/ = line 3 isn't one of devices
++then 00/reset/ = line 3 isn't one of devices
 +device 10000000 00000004/then 00/output 10000000/ = line 4 isn't one of devices
 +then 00// = line 3 isn't one of devices
-+answer 00/device 10000000 00000004/answer 01/output 10000000/then 02/ = 5";
++answer 00/device 10000000 00000004/answer 01/output 10000000/then 02/ = 5
++answer 00/registers/device 10000000 00000004/answer 01/reset/output 10000000/then 02/ = 7";
 
 // A text with a line of each kind.
 const DEVICES: &str =
     "+device 10000010 00000010/device fffffffc 00000004/output 10000013/output ffffffff\
-/answer 01 02/answer 83/then 04 85/";
+/registers/reset/answer 01 02/answer 83/then 04 85/";
 
 // What the devices of this text say: whether `n` bytes from an address on lie in one, and whether a byte that is stored
-// at an address appears; and what is taken from the answers of a run of one step (`take`) or of none (`once`), as bytes
+// at an address appears; whether they have registers, and runs start as after a reset (`says`; `silent` asks no devices);
+// and what is taken from the answers of a run of one step (`take`) or of none (`once`), as bytes
 // or as the numbers that loads get. `read` takes from the input 01 02 83, with devices that answer nothing.
 const QUESTIONS: &str = "has 1000000f 1 = false
 has 1000000f 2 = false
@@ -115,6 +140,10 @@ output 10000013 = true
 output 10000014 = false
 output fffffffe = false
 output ffffffff = true
+says registers = true
+says reset = true
+silent registers = false
+silent reset = false
 take 2 2 2 0 9 = [1, 2] [131, 4] [133, 4] [] [133, 4, 133, 4, 133, 4, 133, 4, 133]
 take lb lbu lh lhu = 1 2 1155 1157
 take lw 1 lw lw = 75694593 [133] 2231665924 2231665924
@@ -199,6 +228,14 @@ fn has(devices: &Devices, words: &str) -> Result<bool, Fail> {
     Ok(count > 0 && devices.has(at, count))
 }
 
+// Whether devices have registers, or runs start as after a reset.
+fn says(devices: &Devices, word: &str) -> bool {
+    match word {
+        "registers" => devices.has_registers(),
+        _ => devices.starts_reset(),
+    }
+}
+
 // The answer to a question.
 fn answer(
     alloc: Global,
@@ -213,6 +250,8 @@ fn answer(
             let at = u32::from_str_radix(words, 16)?;
             Ok(format!(in alloc; " {}", devices.is_output(at))?)
         }
+        "says" => Ok(format!(in alloc; " {}", says(devices, words))?),
+        "silent" => Ok(format!(in alloc; " {}", says(silent, words))?),
         "take" => taken(alloc, devices.answers(1, b"ab"), words),
         "once" => taken(alloc, devices.answers(0, b"ab"), words),
         _ => taken(alloc, silent.answers(1, b"\x01\x02\x83"), words),

@@ -273,6 +273,9 @@ fn access_text(alloc: Global, access: &DeviceAccess) -> Result<String, AllocErro
         DeviceAccess::Store { op, at, word, size } => {
             format!(in alloc; "asks {op:?} {at:x} {word:x} {size}")
         }
+        DeviceAccess::System { word, operand } => {
+            format!(in alloc; "asks system {word:x} {operand:x}")
+        }
     }
 }
 

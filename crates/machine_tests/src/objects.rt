@@ -231,6 +231,8 @@ fn step_text(alloc: Global, sym: &mut Sym<'_>, cut: &Cut) -> Result<String, Allo
         SymStep::Wrote { fd, bytes } => format!(in alloc; "wrote {fd} {bytes:?}"),
         SymStep::Loaded { at, .. } => format!(in alloc; "loaded {at:x}"),
         SymStep::Stored(sent) => format!(in alloc; "stored {:x} {:x}", sent.at, sent.word),
+        SymStep::StoredCode { at, .. } => format!(in alloc; "stored {at:x} code"),
+        SymStep::System { word, .. } => format!(in alloc; "system {word:x}"),
         SymStep::Exited(status) => format!(in alloc; "exited {status:x}"),
         SymStep::Stuck(place, why) => stuck_text(alloc, place, why),
     }

@@ -154,7 +154,19 @@ text 10013537 00A50223 | answers committed; asks Sb 10013004 10013000 4
 text 10013537 C148 | answers committed; asks Sw 10013004 10013000 2
 # lh a1,-1(sp), which isn't aligned, and lh a1,0(sp), which is outside the stack
 text FFF11583 | answers stopped 3 Misaligned
-text 00011583 | answers asks Lh 10000000 11 4";
+text 00011583 | answers asks Lh 10000000 11 4
+# lui a0,0x10013; csrrw a1,mstatus,a0
+text 10013537 300515F3 | answers committed; asks system 300515f3 10013000; asks system 300515f3 10013000
+# csrrwi a1,mstatus,8, and wfi, and c.nop; csrrs a1,mstatus,x0
+text 300455F3 | answers asks system 300455f3 8
+text 10500073 | answers asks system 10500073 0
+text 0001 300025F3 | answers committed; asks system 300025f3 0
+# csrrs a1,jvt,x0, and mret
+text 017025F3 | answers stopped 1 Illegal
+text 30200073 | answers stopped 1 Illegal
+# c.nop; half of csrrs a1,mstatus,x0, also where the other half is in the next region of code
+text 0001 25F3 | answers committed; stopped 2 BadAccess
+text 0001 25F3 | data code 00010004 00000002 0 3000; | answers committed; stopped 2 BadAccess";
 
 /// Programs as in `PAGES`, in maps of their own: where data lie, and where the stack begins and ends.
 pub const MAPS: &str = "
