@@ -43,7 +43,7 @@ from certificates import answer, made_text
 from checks import driven
 from checks.plans import BAD_LINES, BAD_TEXTS, PLANS
 from checks.words import COMMANDS, NO_COMMANDS
-from device_programs import Driver, made_lines
+from device_programs import Driver, Found, made_lines
 from devices import NO_DEVICES, devices_fault, devices_text, read_devices
 from far_lists import far_list
 from frame_plans import made_object as object_of_frames
@@ -223,18 +223,18 @@ def shared_plan(rng, memory):
 
 
 def devices(rng, memory):
-    """The text of devices, or of none, and where they lie."""
+    """The text of devices, or of none, and what a program finds of them."""
     which = rng.randrange(8)
     lines = made_lines(rng, memory)
-    ranges = [value for word, value in lines if word == 'device'] or [(memory.stack_high, memory.stack_high + 8)]
+    found = Found(lines, memory)
     if which == 0:
-        return driven.text_of(rng.choice(driven.TEXTS)), ranges
+        return driven.text_of(rng.choice(driven.TEXTS)), found
     if which == 1:
-        return driven.text_of(rng.choice(driven.BAD_LINES)), ranges
+        return driven.text_of(rng.choice(driven.BAD_LINES)), found
     if which == 2:
-        return rng.choice(driven.BAD_TEXTS)[0], ranges
+        return rng.choice(driven.BAD_TEXTS)[0], found
     text = devices_text(lines)
-    return text if rng.random() < 0.8 else with_slip(rng, text), ranges
+    return text if rng.random() < 0.8 else with_slip(rng, text), found
 
 
 def with_slip(rng, text):
@@ -303,17 +303,17 @@ class Case:
             return
         options = {'plain': ('--out', 'out'), 'zc': ('--out', 'out', '--cert', 'cert'), 'trace': ('--steps', self.steps)}
         if self.command == 'trace' and rng.random() < 0.3:
-            text, ranges = devices(rng, self.memory)
+            text, found = devices(rng, self.memory)
             if rng.random() < 0.7:
-                self.take_driver(rng, ranges)
+                self.take_driver(rng, found)
             options['trace'] += '--devices', 'devices'
         self.words = [self.command, *some_words_of_map(rng, self.memory), *fixing, *options[self.command], *self.files]
         if 'devices' in self.words:
             self.files['devices'] = text
 
-    def take_driver(self, rng, ranges):
+    def take_driver(self, rng, found):
         """Takes objects that access devices."""
-        made = made_program(rng, rng.random() < 0.1, functools.partial(Driver, ranges))
+        made = made_program(rng, rng.random() < 0.1, functools.partial(Driver, found))
         self.objects = [read.bytes() for read in made.objects]
         self.files = {f'{k}.o': data for k, data in enumerate(self.objects)}
 
@@ -325,15 +325,15 @@ class Case:
         if rng.random() < 0.5:
             self.files['plan'] = plan(rng, self.memory.stack_high)
         if rng.random() < 0.3:
-            self.files['devices'], ranges = devices(rng, self.memory)
+            self.files['devices'], found = devices(rng, self.memory)
             if rng.random() < 0.7 and self.is_whole:
-                self.take_image_of_driver(rng, ranges)
+                self.take_image_of_driver(rng, found)
         texts = [word for name in ('plan', 'devices') if name in self.files for word in (f'--{name}', name)]
         self.words = ['run', *some_words_of_map(rng, self.memory), *texts, '--steps', self.steps, 'image']
 
-    def take_image_of_driver(self, rng, ranges):
+    def take_image_of_driver(self, rng, found):
         """Takes the image of objects that access devices, if it can be linked."""
-        files = [read.bytes() for read in made_program(rng, False, functools.partial(Driver, ranges)).objects]
+        files = [read.bytes() for read in made_program(rng, False, functools.partial(Driver, found)).objects]
         if first_fault(files, self.memory) is None:
             is_plain = rng.random() < 0.5
             self.files['image'] = plain_of(files, self.memory)[0] if is_plain else left_by_zc(files, self.memory).image

@@ -5,9 +5,10 @@
 
 PROGRAM is build/zcld if none is given. Each call may take T seconds of the processor (2) and M million bytes of memory (300):
 the system ends it beyond the first, and refuses memory beyond the second. It prints what each call came to, and the processor's
-seconds and the KiB at most that it took, if GNU time is installed. The status is 1 if a call ended by a signal or for want of
-memory or time, or if its status isn't one of the program's. Limits of memory follow: N calls of `zc`, each with 10 KiB more than
-the one before, end with 0 or 124, but for those that are too small to start the program in.
+seconds and the KiB at most that it took, if GNU time is installed. Some inputs have limits of their own. The status is 1
+if a call ended by a signal or for want of memory or time, or if its status isn't one of the program's. Limits of memory follow:
+N calls of `zc`, each with 10 KiB more than the one before, end with 0 or 124, but for those that are too small to start the
+program in.
 """
 import argparse
 import collections
@@ -16,6 +17,7 @@ import os
 import random
 import resource
 import shutil
+import string
 import sys
 import tempfile
 import threading
@@ -25,7 +27,7 @@ sys.path[:0] = (os.path.join(os.path.dirname(os.path.abspath(__file__)), os.pard
 from costly_objects import WITHIN, write_list
 from zcld_tools import programs
 from zcld_tools.elf import (ABS, ALIGN, CALL, DATA_FLAGS, EXECUTABLE, EXECUTE, HEADER, LOCAL, NOBITS, PCREL_HI20, PCREL_LO12_I,
-                            PROGRAM_HEADER, READABLE, RELAX, RVC, RVC_BRANCH, RVC_JUMP, R_32, WRITABLE, Part, file_header)
+                            PROGRAM_HEADER, READABLE, RELAX, RVC, RVC_BRANCH, RVC_JUMP, R_32, WEAK, WRITABLE, Part, file_header)
 from zcld_tools.files import read, write
 from zcld_tools.images import DATA_AT, STACK_HIGH, TEXT_AT, image_bytes, load_header
 from zcld_tools.instructions import A0, CALL_WORDS, EXIT_WORDS, NOP, RET, SHORT_NOP, ZERO, addi, auipc, halves_of, jalr, words_of
@@ -34,6 +36,8 @@ from zcld_tools.programs import Failed
 
 WORDS = addi(A0, ZERO, 3), *EXIT_WORDS
 EXIT = words_of(*WORDS)
+# What FoldHasher begins with and multiplies by, and the letters of names that are chosen by its results.
+FOLD_START, FOLD_BY, LETTERS = 0x243F_6A88_85A3_08D3, 0x9E37_79B9_7F4A_7C15, string.ascii_letters.encode()
 PLACES, HEADERS, MEMORY_STEP, OBJECT_LIMIT = 698_000, 65_535, 10 << 10, 4 << 20
 # `c.beqz s0` and `c.j`, `c.slli zero,1`, which is a hint, and a word whose upper half would be a jump of 2 bytes.
 C_BEQZ, C_J, HINT, LONG = 0xC001, 0xA001, 0x0006, 0xA0010013
@@ -199,6 +203,38 @@ def many_sections_and_symbols():
     return [files[0].replace(b'000:go', b'_start'), *files[1:]]
 
 
+def folded(state, more):
+    """What the library's FoldHasher makes of its state and of one more number."""
+    product = state * more
+    return product & (1 << 64) - 1 ^ product >> 64
+
+
+def colliding_names(count, groups):
+    """Names of 6 letters that a hash table of this many groups looks up in the first 16th of them, if FoldHasher hashes the
+    name's length, its bytes and a 0: so for each name it goes through most of those before."""
+    start, byte, last = folded(FOLD_START ^ 6, FOLD_BY ^ 16), FOLD_BY ^ 2, FOLD_BY ^ 8
+    values = [(letter, letter * 0x10101) for letter in LETTERS]
+    for first in itertools.product(values, repeat=5):
+        state = start
+        for _, value in first:
+            state = folded(state ^ value, byte)
+        for letter, value in values:
+            hashed = folded(folded(state ^ value, byte), last)
+            if (hashed ^ hashed >> 32) % groups < groups // 16:
+                yield bytes([*(letter for letter, _ in first), letter])
+                count -= 1
+                if count == 0:
+                    return
+
+
+def names_that_collide():
+    """73,000 weak symbols with such names."""
+    made, _ = object_with(*WORDS)
+    for name in colliding_names(73_000, 8192):
+        made.symbol(name, ABS, 0, WEAK)
+    return [made.bytes()]
+
+
 def same_names(made, count, length):
     """An object to which this many local symbols are added, whose names are the same bytes."""
     at = made.symbol_names.add(b'x' * length)
@@ -304,7 +340,10 @@ OBJECTS = WITHIN | {
     '65,000 jumps of 2 bytes': short_jumps, 'a chain of branches of 2 bytes': short_chain,
     '32,000 relocations inside words': stray_relocations,
     'data words upwards': lambda: data_words(lambda relocs: None), 'data words downwards': lambda: data_words(list.reverse),
-    'data words in random order': lambda: data_words(random.Random(1).shuffle), '2.76 million hints': hints}
+    'data words in random order': lambda: data_words(random.Random(1).shuffle), '2.76 million hints': hints,
+    '73,000 names that collide': names_that_collide}
+# Seconds and millions of bytes for those that have limits of their own; millions of different names need looser ones.
+OWN_LIMITS = {'73,000 names that collide': (1, 250), 'ending names': (4, 360), 'words in random order': (4, 300)}
 
 
 # ---- images
@@ -349,12 +388,13 @@ class Calls:
     """Calls of the program in a folder, under limits, with how many went beyond them."""
 
     def __init__(self, program, given, folder):
-        self.program, self.given, self.folder, self.wrong, self.timer = program, given, folder, 0, shutil.which('time')
+        self.program, self.folder, self.wrong, self.timer = program, folder, 0, shutil.which('time')
+        self.seconds, self.memory = self.usual = given.seconds, given.memory
 
     def limited(self, closed=()):
         """What is done in the new process."""
-        resource.setrlimit(resource.RLIMIT_CPU, (self.given.seconds, self.given.seconds))
-        programs.limit(resource.RLIMIT_AS, self.given.memory * 1_000_000)
+        resource.setrlimit(resource.RLIMIT_CPU, (self.seconds, self.seconds))
+        programs.limit(resource.RLIMIT_AS, self.memory * 1_000_000)
         for stream in closed:
             os.close(stream)
 
@@ -383,11 +423,13 @@ class Calls:
         print(f'{"" if is_right else "WRONG: "}{what:42} {words[0]:6} {line:32} {ended.cost:>20}', flush=True)
 
     def links(self, what, names):
+        self.seconds, self.memory = OWN_LIMITS.get(what, self.usual)
         self.say(what, ['plain', '--out', 'plain', *names])
         self.say(what, ['zc', '--out', 'out', '--cert', 'cert', *names])
         self.say(what, ['trace', *names])
         if os.path.exists(os.path.join(self.folder, 'out')):
             self.say(what, ['run', 'out'])
+        self.seconds, self.memory = self.usual
 
 
 def odd_files(calls):

@@ -167,6 +167,9 @@ class Function:
             section.reloc(lower[1], label, 0, (last,))
             self.relax()
 
+    def start_up(self):
+        """What a program begins with, once registers have numbers."""
+
     # the ways to call
 
     def call(self):
@@ -493,6 +496,7 @@ def add_start(program):
     read.symbol(b'_start', home=section, value=len(section.content), bind=rng.choice((GLOBAL, GLOBAL, WEAK)))
     made = program.function_with(program, read, section, -1)
     section.words(*(addi(register, ZERO, rng.randrange(2048)) for register in (SUM, A0, *KEPT)))
+    made.start_up()
     made.body(rng.choice((2, 5)))
     made.call()
     section.words(addi(SP, SP, -16), sw(SUM, SP), addi(A0, ZERO, 1), addi(A1, SP), addi(A2, ZERO, 4),

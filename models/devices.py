@@ -11,6 +11,8 @@ LIMIT = 8 << 20
 TITLE = b'zcld devices 1'
 DEVICE = re.compile(rb'device ([0-9a-f]{8}) ([0-9a-f]{8})')
 OUTPUT = re.compile(rb'output ([0-9a-f]{8})')
+# Lines that are one word, and stand there once at most.
+ALONE = 'registers', 'reset'
 BYTES = re.compile(rb'(answer|then)((?: [0-9a-f]{2})*)')
 
 
@@ -39,12 +41,15 @@ class Answers:
 
 
 class Devices(NamedTuple):
-    """Where devices lie, as first addresses and ends; the addresses whose stored bytes appear on standard output; and, unless
-    standard input is read and answered, the bytes that are in its place, and those that follow them again and again."""
+    """Where devices lie, as first addresses and ends; the addresses whose stored bytes appear on standard output; unless
+    standard input is read and answered, the bytes that are in its place, and those that follow them again and again; whether
+    there are control and status registers; and whether runs start with sp not set."""
 
     ranges: list = ()
     outputs: frozenset = frozenset()
     own: tuple = None
+    registers: bool = False
+    reset: bool = False
 
     def have(self, at, size):
         """Whether an access lies in one of them as a whole."""
@@ -69,7 +74,9 @@ NO_DEVICES = Devices()
 
 
 def spelled(line):
-    """What a line spells: its word, and a range, an address or bytes; or none."""
+    """What a line spells: its word, and a range, an address, bytes, or none of these; or nothing."""
+    if line in (word.encode() for word in ALONE):
+        return line.decode(), None
     if found := DEVICE.fullmatch(line):
         return 'device', (int(found[1], 16), int(found[1], 16) + int(found[2], 16))
     if found := OUTPUT.fullmatch(line):
@@ -85,6 +92,8 @@ def may_follow(lines, word, value, memory):
         return False
     if word in ('answer', 'then'):
         return word == 'answer' or value != b''
+    if word in ALONE:
+        return (word, value) not in lines
     ranges = [other for kind, other in lines if kind == 'device']
     if word == 'output':
         return any(low <= value < end for low, end in ranges)
@@ -117,7 +126,7 @@ def read_devices(text, memory=STANDARD):
         return [value for kind, value in lines if kind == word]
 
     own = (b''.join(of('answer')), b''.join(of('then'))) if of('answer') or of('then') else None
-    return Devices(of('device'), frozenset(of('output')), own)
+    return Devices(of('device'), frozenset(of('output')), own, *(of(word) != [] for word in ALONE))
 
 
 def devices_fault(text, memory=STANDARD):
@@ -133,5 +142,5 @@ def devices_text(lines):
     """The text of lines."""
     words = {'device': lambda value: f' {value[0]:08x} {value[1] - value[0]:08x}', 'output': lambda value: f' {value:08x}',
              'answer': lambda value: ''.join(f' {byte:02x}' for byte in value)}
-    words['then'] = words['answer']
+    words |= {'then': words['answer'], **{word: lambda _: '' for word in ALONE}}
     return '\n'.join((TITLE.decode(), *(word + words[word](value) for word, value in lines), '')).encode()

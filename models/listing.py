@@ -18,13 +18,13 @@ sys.path.insert(0, os.path.join(os.path.dirname(os.path.abspath(__file__)), os.p
 
 from expansions import bits, expanded, joined
 from object_items import is_known
-from zc_machine import JVT, LIST_FORMS, OPCODE_SYSTEM, frame_of, moved_registers
+from zc_machine import LIST_FORMS, frame_of, moved_registers
 from zcld_tools.elf import EXECUTE
 from zcld_tools.files import read
 from zcld_tools.images import segments
-from zcld_tools.instructions import (EBREAK, ECALL, OPCODE_AUIPC, OPCODE_BRANCH, OPCODE_FENCE, OPCODE_IMMEDIATE, OPCODE_JAL,
-                                     OPCODE_JALR, OPCODE_LOAD, OPCODE_LUI, OPCODE_REGISTER, OPCODE_STORE, S0, branch_distance,
-                                     jal_distance, low_part, signed, words_of, halves_of)
+from zcld_tools.instructions import (EBREAK, ECALL, JVT, OPCODE_AUIPC, OPCODE_BRANCH, OPCODE_FENCE, OPCODE_IMMEDIATE,
+                                     OPCODE_JAL, OPCODE_JALR, OPCODE_LOAD, OPCODE_LUI, OPCODE_REGISTER, OPCODE_STORE,
+                                     OPCODE_SYSTEM, S0, branch_distance, jal_distance, low_part, signed, words_of, halves_of)
 
 TITLE, END, ROW = 'zcld list 1', 'end', 16
 MOST_BYTES = 1 << 28

@@ -4,7 +4,7 @@
 
 takes standard input, writes what the program writes, and ends like `trace`. It is independent of the program, so that both can
 be compared. A byte is a number, a part of an address of code, or undefined; a word is a number, an address of code (or an upper
-part of one), or four bytes.
+part of one), or four bytes. Where an event of the image has the address of a place of code, the event here has the place.
 """
 import argparse
 import os
@@ -20,8 +20,8 @@ from object_items import Code, Item, first_fault
 from zcld_tools.files import read, read_all
 from zcld_tools.images import STANDARD
 from zcld_tools.instructions import (A0, A1, A2, A7, EBREAK, ECALL, EXIT_CALL, OPCODE_AUIPC, OPCODE_FENCE, OPCODE_IMMEDIATE,
-                                     OPCODE_LOAD, OPCODE_LUI, OPCODE_STORE, READ_CALL, SP, WRITE_CALL, is_jalr, low_part,
-                                     signed)
+                                     OPCODE_LOAD, OPCODE_LUI, OPCODE_STORE, READ_CALL, SP, WRITE_CALL, is_jalr, is_system,
+                                     low_part, signed)
 
 MASK = 0xFFFFFFFF
 UNDEFINED = 'undefined'
@@ -105,8 +105,10 @@ class Machine:
         self.code, self.given, self.steps, self.memory = Code(objects, memory), devices.answers(given), 0, memory
         self.devices, self.events = devices, []
         self.place = self.code.entry()
-        self.registers = [NOTHING] * 32
-        self.registers[0], self.registers[SP] = 0, memory.stack_high
+        self.registers, self.is_sp_set = [NOTHING] * 32, not devices.reset
+        self.registers[0] = 0
+        if self.is_sp_set:
+            self.registers[SP] = memory.stack_high
         self.stack, self.data = {}, self.first_data()
         self.written = {1: b'', 2: b''}
         self.items = {}
@@ -164,6 +166,8 @@ class Machine:
         after = (i, k, offset + part.starts[offset])
         if item.kind == 'RawShort':
             return self.in_turn(expansion(item.half), after)
+        if item.kind == 'Raw' and is_system(item.words[0]) and self.devices.registers:
+            return self.system(item.words[0], after)
         if item.kind in ('Raw', 'Word'):
             raise Stuck(NO_INSTRUCTION)
         if item.kind == 'RawPair':
@@ -185,14 +189,17 @@ class Machine:
             raise
 
     def set(self, register, word, place):
-        """Ends a step: a register has a word, and the place is the next. All below sp is undefined then."""
+        """Ends a step: a register has a word, and the place is the next. All below sp is undefined then, and all of the stack as
+        long as sp isn't set: the first number in the stack sets it, and then it stays there."""
         pointer = word if register == SP else self.registers[SP]
-        if not isinstance(pointer, int) or not self.memory.stack_low <= pointer <= self.memory.stack_high:
+        is_inside = isinstance(pointer, int) and self.memory.stack_low <= pointer <= self.memory.stack_high
+        if self.is_sp_set and not is_inside:
             raise Stuck(STACK_POINTER)
+        self.is_sp_set = is_inside
         if register:
             self.registers[register] = word
         self.place = place
-        self.forget(pointer)
+        self.forget(pointer if is_inside else self.memory.stack_high)
 
     def forget(self, pointer):
         for at in [at for at in self.stack if at < pointer]:
@@ -209,7 +216,7 @@ class Machine:
         if temporary == 0:
             raise Stuck(TARGET)
         # sp as the temporary register stays undefined unless it is the other register too
-        if SP in (temporary, to):
+        if SP in (temporary, to) and self.is_sp_set:
             raise Stuck(STACK_POINTER)
         self.registers[temporary] = NOTHING
         self.set(to, (PLACE, after), item.target[1:])
@@ -278,6 +285,8 @@ class Machine:
             return self.environment(after)
         if word == EBREAK:
             raise Stuck(NO_INSTRUCTION)
+        if not self.is_sp_set and self.needs_stack(item):
+            raise Stuck(STACK_POINTER)
         if opcode == OPCODE_LOAD:
             self.fetch(item, f3, after)
         elif opcode == OPCODE_STORE:
@@ -288,6 +297,14 @@ class Machine:
             result = self.result(item, opcode, f3)
             self.set(0 if opcode == OPCODE_FENCE else to, result, after)
         return None
+
+    @staticmethod
+    def needs_stack(item):
+        """Whether what stands there takes sp for the stack's: it accesses memory by sp, or moves sp by a number of its own."""
+        word = item.words[0]
+        is_by_sp = word >> 15 & 31 == SP
+        moves = item.kind == 'Op' and word & 0x707F == OPCODE_IMMEDIATE and word >> 7 & 31 == SP
+        return is_by_sp and (moves or word & 0x7F in (OPCODE_LOAD, OPCODE_STORE))
 
     @staticmethod
     def loaded(parts, f3):
@@ -314,13 +331,22 @@ class Machine:
 
     def keep(self, item, size, after):
         at, parts = self.sum(item), bytes_of(self.registers[item.words[0] >> 20 & 31])[:size]
-        if self.is_device(item, at, size) and all(isinstance(part, int) for part in parts):
-            self.set(0, 0, after)
+        if self.is_device(item, at, size):
+            self.send(at, parts)
+        else:
+            self.store(self.address(at, size), parts)
+        self.set(0, 0, after)
+
+    def send(self, at, parts):
+        """Stores to a device: numbers, or a whole address of code."""
+        if all(isinstance(part, int) for part in parts):
             self.events.append(('Store', at, bytes(parts)))
             self.written[1] += self.devices.shown(at, parts)
             return
-        self.store(self.address(at, size), parts)
-        self.set(0, 0, after)
+        word = word_of(parts) if len(parts) == 4 else NOTHING
+        if word[0] != PLACE:
+            raise Stuck(BAD_ADDRESS)
+        self.events.append(('Store', at, word))
 
     def jump_by_register(self, item, to, after):
         target = self.sum(item)
@@ -354,6 +380,18 @@ class Machine:
         if f7 == 0 and f3 == 3 and one == 0 and second[0] == PLACE:
             return 1
         return NOTHING
+
+    # instructions of the system
+
+    def system(self, word, after):
+        """An instruction of Zicsr, or `wfi`. It is answered only if what it reads goes to a register."""
+        first, to = word >> 15 & 31, word >> 7 & 31
+        operand = first if word >> 12 & 4 else self.registers[first]
+        if not isinstance(operand, int) and operand[0] != PLACE:
+            raise Stuck(ARGUMENT)
+        taken = self.given.take(4 if to else 0)
+        self.set(to, int.from_bytes(taken, 'little'), after)
+        self.events.append(('System', word, operand, taken))
 
     # the environment's calls
 
@@ -392,6 +430,15 @@ class Machine:
         self.events.append(('Write', stream, bytes(parts)))
         self.written[stream] += bytes(parts)
         return size
+
+
+def event_in(event, addresses):
+    """The event that it is in an image with these addresses of places."""
+    if event[0] not in ('System', 'Store') or isinstance(event[2], (int, bytes)):
+        return event
+    what, first, (_, place), *answered = event
+    address = addresses[place]
+    return what, first, address if what == 'System' else address.to_bytes(4, 'little'), *answered
 
 
 def run(machine, steps):

@@ -8,8 +8,7 @@ code. All of this is said apart from the program, so that both can be compared.
 import struct
 
 from certificates import LOW_SLOTS, Saving
-from zc_machine import JVT, OPCODE_SYSTEM
-from zcld_tools.instructions import RA, T0, ZERO, jal, lui, of_format_i, with_high, words_of
+from zcld_tools.instructions import JVT, RA, T0, ZERO, csr, jal, lui, with_high, words_of
 
 STUB_SIZE = 12
 
@@ -21,7 +20,7 @@ def table_half(slot):
 
 def swap_jvt(to, source):
     """A register gets what jvt was, and jvt what another is."""
-    return of_format_i(OPCODE_SYSTEM, 1, to, source, JVT)
+    return csr(1, to, JVT, source)
 
 
 def link_register(item):

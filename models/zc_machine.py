@@ -3,8 +3,8 @@
     models/zc_machine.py [--devices DEVICES] [--plan PLAN] [--steps N] IMAGE
 
 takes standard input, writes what the program writes, and ends like `run`. It is independent of the program, so that both can be
-compared: it follows the RISC-V unprivileged manual ("RV32I", "M", "RVC Instruction Set Listings") and the RISC-V Zc specification
-1.0 ("Zcb", "Zcmp", "Zcmt"). It looks at an image, at devices and at a plan only as far as they have no fault.
+compared: it follows the RISC-V unprivileged manual ("RV32I", "M", "Zicsr", "RVC Instruction Set Listings"), the privileged manual
+("WFI") and the RISC-V Zc specification 1.0 ("Zcb", "Zcmp", "Zcmt"). It looks at an image, at devices and at a plan only as far as they have no fault.
 """
 import argparse
 import os
@@ -19,13 +19,13 @@ from symbolic_machine import MASK, computed, holds
 from zcld_tools.files import random_bytes, read
 from zcld_tools.images import STANDARD, segments
 from zcld_tools.elf import EXECUTE
-from zcld_tools.instructions import (A0, A1, A2, A7, EBREAK, ECALL, EXIT_CALL, OPCODE_AUIPC, OPCODE_FENCE, OPCODE_IMMEDIATE,
-                                     OPCODE_JAL, OPCODE_JALR, OPCODE_LOAD, OPCODE_LUI, OPCODE_REGISTER, RA, READ_CALL, S0, SP,
-                                     WRITE_CALL, branch_distance, is_branch, is_store, jal_distance, low_part, signed)
+from zcld_tools.instructions import (A0, A1, A2, A7, EBREAK, ECALL, EXIT_CALL, JVT, OPCODE_AUIPC, OPCODE_FENCE,
+                                     OPCODE_IMMEDIATE, OPCODE_JAL, OPCODE_JALR, OPCODE_LOAD, OPCODE_LUI, OPCODE_REGISTER,
+                                     OPCODE_SYSTEM, RA, READ_CALL, S0, SP, WRITE_CALL, branch_distance, is_branch, is_store,
+                                     is_system, jal_distance, low_part, signed)
 
 ILLEGAL, BAD_ACCESS, MISALIGNED, BREAK, UNKNOWN_CALL = range(1, 6)
 NAMES = (None, 'Illegal', 'BadAccess', 'Misaligned', 'Break', 'UnknownCall')
-OPCODE_SYSTEM, JVT = 0x73, 0x017
 # The registers that a list may have, from ra on, and the bytes of a frame by how many it has.
 SAVED = (RA, S0, S0 + 1, *range(18, 28))
 PUSH, POP, POPRETZ, POPRET = 'cm.push', 'cm.pop', 'cm.popretz', 'cm.popret'
@@ -82,12 +82,16 @@ class Machine:
                         for segment in segments(image)]
         self.regions.append([memory.stack_low, bytearray(memory.stack_high - memory.stack_low), False])
         self.registers, self.jvt, self.pc = [0] * 32, 0, int.from_bytes(image[24:28], 'little')
-        self.registers[SP] = memory.stack_high
+        self.registers[SP] = 0 if devices.reset else memory.stack_high
 
     def start_by_chance(self, seed):
-        """Gives the registers but x0 and sp, jvt and the stack any content, as they have it when a chip starts."""
+        """Gives the registers but x0, jvt and the stack any content, as they have it when a chip starts; and sp only if it isn't
+        set at the start."""
         rng = random.Random(seed)
-        self.registers = [word if k in (0, SP) else rng.getrandbits(32) for k, word in enumerate(self.registers)]
+        given = (0,) if self.devices.reset else (0, SP)
+        self.registers = [word if k in given else rng.getrandbits(32) for k, word in enumerate(self.registers)]
+        if self.devices.reset and rng.random() < 0.5:
+            self.registers[SP] = rng.randrange(self.memory.stack_low - 64, self.memory.stack_high + 64) & MASK
         self.jvt = rng.getrandbits(32)
         stack = self.regions[-1][1]
         stack[:] = random_bytes(rng, len(stack))
@@ -234,6 +238,10 @@ class Machine:
             return self.environment(after)
         if word == EBREAK:
             raise Stopped(BREAK)
+        if is_system(word):
+            self.set(to, self.answer_of_system(word, word >> 15 & 31 if f3 & 4 else first))
+            self.pc = after
+            return None
         result, target = self.result(word, opcode, f3, first, second, after)
         self.set(to if result is not None else 0, result or 0)
         self.pc = target
@@ -270,6 +278,14 @@ class Machine:
             old, self.jvt = self.jvt, first & ~63
             return old, after
         raise Stopped(ILLEGAL)
+
+    def answer_of_system(self, word, operand):
+        """What an instruction of the system reads: it is asked for only if it goes to a register."""
+        if not self.devices.registers:
+            raise Stopped(ILLEGAL)
+        taken = self.given.take(4 if word >> 7 & 31 else 0)
+        self.events.append(('System', word, operand, taken))
+        return int.from_bytes(taken, 'little')
 
     def environment(self, after):
         which, first, at, size = (self.registers[register] for register in (A7, A0, A1, A2))

@@ -76,6 +76,14 @@ def image_in_pages(text, zero, start):
     return executable([Part(content=text, address=TEXT_AT), Part(address=DATA_AT)], zero, start, step=PAGE)
 
 
+def listed_places(data):
+    """The address of each place that an image lists."""
+    start, (size, count) = struct.unpack_from('<I', data, 32)[0], struct.unpack_from('<2H', data, 46)
+    headers = [struct.unpack_from('<6I', data, start + size * k) for k in range(count)]
+    at, length = next((at, length) for name, _, _, _, at, length in headers if name == name_at(PLACES))
+    return {(i, k, offset): address for i, k, offset, address in struct.iter_unpack('<HHII', data[at:at + length])}
+
+
 class Segment(NamedTuple):
     """A segment that is loaded: its flags, its address, its bytes in the file, and its size in memory."""
 

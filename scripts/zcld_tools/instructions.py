@@ -1,12 +1,15 @@
-"""Instructions of RV32IM, put together and taken apart (RISC-V unprivileged manual, "RV32I" and "M"; RISC-V ELF psABI,
-"Relocations")."""
+"""Instructions of RV32IM and of the system, put together and taken apart (RISC-V unprivileged manual, "RV32I", "M" and "Zicsr";
+privileged manual, "WFI"; RISC-V ELF psABI, "Relocations")."""
 import struct
 
 ZERO, RA, SP, T0, T1, T2, S0, S1, A0, A1, A2, A3, A4, A5, A6, A7 = 0, 1, 2, *range(5, 18)
 T3 = 28
 OPCODE_LOAD, OPCODE_FENCE, OPCODE_IMMEDIATE, OPCODE_AUIPC, OPCODE_STORE = 0x03, 0x0F, 0x13, 0x17, 0x23
 OPCODE_REGISTER, OPCODE_LUI, OPCODE_BRANCH, OPCODE_JALR, OPCODE_JAL = 0x33, 0x37, 0x63, 0x67, 0x6F
-NOP, ECALL, EBREAK = 0x00000013, 0x00000073, 0x00100073
+OPCODE_SYSTEM = 0x73
+NOP, ECALL, EBREAK, WFI = 0x00000013, 0x00000073, 0x00100073, 0x10500073
+# The register of the jump table's address (RISC-V Zc specification 1.0, "Zcmt").
+JVT = 0x017
 SHORT_NOP = 0x0001
 # What a7 holds at a call of the environment.
 READ_CALL, WRITE_CALL, EXIT_CALL = 63, 64, 93
@@ -118,6 +121,11 @@ def branch(f3, first, second, distance=0):
     return with_branch(second << 20 | first << 15 | f3 << 12 | OPCODE_BRANCH, distance)
 
 
+def csr(f3, to, number, source):
+    """A read, a write or a change of bits of a control and status register, by a register or a number of five bits."""
+    return of_format_i(OPCODE_SYSTEM, f3, to, source, number)
+
+
 RET = jalr(ZERO, RA)
 # The exit, whose status is in a0; and a call, whose distance is left open.
 EXIT_WORDS, CALL_WORDS = (addi(A7, ZERO, EXIT_CALL), ECALL), (auipc(RA), jalr(RA, RA))
@@ -148,6 +156,11 @@ def is_auipc(word):
 
 def is_store(word):
     return word & 0x7F == OPCODE_STORE and word >> 12 & 7 <= 2
+
+
+def is_system(word):
+    """An instruction of Zicsr, but for those of the jump table's register; or `wfi`."""
+    return word == WFI or word & 0x7F == OPCODE_SYSTEM and word >> 12 & 3 != 0 and word >> 20 != JVT
 
 
 def low_part(word):
