@@ -28,5 +28,36 @@ void send(const char *text);
 u32 receive_line(char *line, u32 room);
 
 void start_timer(u32 match);
+void stop_timer(void);
 u32 now(void);
 void wait_for(u32 ticks);
+
+// ---- interrupts
+
+// The bit of mstatus with which the chip takes interrupts, and that of mie for the timer's.
+#define TAKES_INTERRUPTS 8
+#define FROM_TIMER 0x80
+
+// Begins a critical section, and gives what its end needs.
+static inline u32 begin_critical(void)
+{
+    u32 status;
+    __asm__ volatile("csrrci %0, mstatus, %1" : "=r"(status) : "i"(TAKES_INTERRUPTS) : "memory");
+    return status & TAKES_INTERRUPTS;
+}
+
+static inline void end_critical(u32 status)
+{
+    __asm__ volatile("csrs mstatus, %0" : : "r"(status) : "memory");
+}
+
+static inline void take_interrupts(void)
+{
+    __asm__ volatile("csrs mie, %0" : : "r"(FROM_TIMER) : "memory");
+    __asm__ volatile("csrsi mstatus, %0" : : "i"(TAKES_INTERRUPTS) : "memory");
+}
+
+static inline void wait_for_interrupt(void)
+{
+    __asm__ volatile("wfi" : : : "memory");
+}

@@ -16,6 +16,7 @@ int main(void)
     char line[16];
     u32 lines = 0;
     start_timer(0xFFFFFFFF);
+    take_interrupts();
     send("ready\n");
     for (;;) {
         u32 length = receive_line(line, sizeof line);
@@ -31,6 +32,7 @@ int main(void)
         put(" ticks)\n");
         lines++;
     }
+    stop_timer();
     send("bye\n");
     return lines;
 }

@@ -22,9 +22,11 @@ def read(*names):
 
 
 def objects_of(program, folder, firmware=None):
-    """The objects of a program in one of its folders, with the firmware of the same or of another one."""
-    return [read(*names, name) for names in (('firmware', firmware or folder), (program, folder))
-            for name in sorted(os.listdir(os.path.join(EXAMPLES, *names)))]
+    """The objects of a program in one of its folders, with the firmware of the same or of another one, but for what the program
+    has of its own under the same name."""
+    places = {name: names for names in (('firmware', firmware or folder), (program, folder))
+              for name in sorted(os.listdir(os.path.join(EXAMPLES, *names)))}
+    return [read(*names, name) for name, names in places.items()]
 
 
 def input_of(program):

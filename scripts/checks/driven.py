@@ -9,10 +9,14 @@ import symbolic_machine
 import zc_machine
 from devices import read_devices
 from object_faults import Object
+from table_examples import FAR
+from zcld_tools.elf import JAL
 from zcld_tools.images import TEXT_AT
-from zcld_tools.instructions import A0, T0, T1, ZERO, addi, immediate, load, lui, store, words_of
-from zcld_tools.objects import object_with
+from zcld_tools.instructions import A0, T0, T1, ZERO, addi, immediate, jal, load, lui, store, words_of
+from zcld_tools.linked import Image
+from zcld_tools.objects import Written, object_with
 
+from checks import symbols
 from checks.c_programs import FOLDERS, objects_of, read
 from checks.made_files import EXIT, MIB, THREE, THREE_IMAGE, image_of, object_of
 
@@ -21,6 +25,8 @@ MOST = 8 * MIB
 STEPS = 100_000
 # The first states of the driver: the one that `run` starts in, and others by chance.
 FIRST_STATES = None, 1, 2, 3, 4
+# The register that says where traps go (RISC-V privileged manual, "Machine Trap-Vector Base-Address Register").
+MTVEC = 0x305
 # The address of the devices here, in a register.
 UPPER = lui(T0, 0x10000)
 
@@ -31,7 +37,8 @@ TEXTS = (
     'device 10000000 00000004\noutput 10000000\noutput 10000003\noutput 10000000', 'answer', 'answer 00 7f ff',
     'answer\nanswer 09', 'then 00', 'then 00 ff', 'answer 01\nthen 02',
     'answer 01\ndevice 10000000 00000001\noutput 10000000\nanswer 02\nthen 03',
-    'device abcdef00 0000000a',
+    'device abcdef00 0000000a', 'registers', 'reset', 'reset\nregisters',
+    'answer 01\nregisters\ndevice 10000000 00000001\nreset\noutput 10000000\nanswer 02\nthen 03',
 )
 
 # Lines after the first one, of which the first isn't valid there: the word, the range, its place, the address, and the bytes.
@@ -76,8 +83,20 @@ then
 then 0
  answer 00
 device  10000000 00000004
+registers 00
+registers registers
+registers reset
+Registers
+register
+registers1
+ registers
+reset 00000000
+reset reset
+Reset
+resets
+ reset
 answer 00 '''.splitlines()[1:] + [
-    'answer ', 'then ', 'answer\t00', 'answer 00\r', 'answer 00\0', '\0', 'answer \xff', '\xefanswer']
+    'answer ', 'then ', 'registers ', 'reset ', 'reset\r', 'answer\t00', 'answer 00\r', 'answer 00\0', '\0', 'answer \xff', '\xefanswer']
 
 # Lines after the first one, and the number of the line that isn't valid.
 LATER_LINES = (
@@ -85,7 +104,8 @@ LATER_LINES = (
     ('device 10000000 00000004\ndevice 10000000 00000004', 3), ('device 10000000 00000004\noutput 10000004', 3),
     ('device 10000004 00000004\noutput 10000003', 3), ('output 10000000\ndevice 10000000 00000004', 2),
     ('then 00\nthen 00', 3), ('then 00\nanswer 00', 3), ('then 00\ndevice 10000000 00000004', 3), ('then 00\n', 3),
-    ('\nthen 00', 2), ('answer 00\nthen', 3), ('answer 00\nfrob\nfrob', 3), ('answer 00\n' * 70000 + 'answer 0', 70002),
+    ('registers\nregisters', 3), ('reset\nreset', 3), ('reset\nregisters\nanswer 00\nreset', 5), ('then 00\nregisters', 3),
+    ('then 00\nreset', 3), ('\nthen 00', 2), ('answer 00\nthen', 3), ('answer 00\nfrob\nfrob', 3), ('answer 00\n' * 70000 + 'answer 0', 70002),
 )
 
 # Whole texts, and the line that is named.
@@ -210,19 +230,62 @@ def driver_texts():
     return {name: read('driver', name) for name in ('devices', 'plan')}
 
 
+def many_jumps():
+    """An object of code that nothing reaches, which jumps to a function of the driver so often that a jump table pays."""
+    made = Written()
+    text = made.section(b'.text')
+    text.words(*FAR)
+    for _ in range(20):
+        text.reloc(JAL, made.symbol(b'send'), 0, (jal(ZERO),))
+    return made.bytes()
+
+
+def lists(compiler):
+    """The driver's objects, and the same with jumps for which `zc` makes a jump table."""
+    objects = objects_of('driver', compiler)
+    return (f'driver by {compiler}', objects), (f'driver by {compiler}, table', [*objects, many_jumps()])
+
+
+def images_of(group, what, objects):
+    """Each link, and a folder with its image of a list."""
+    small = group.linked_small(f'{what}, zc', objects)
+    group.same(f'{what}: has a jump table', b'\nslot ' in small.read('cert'), 'table' in what)
+    small.write_list(objects)
+    return ('plain', group.linked_plainly(what, objects)[0]), ('zc', small)
+
+
+def events_in(folder, events):
+    """The events of the objects' program as those of the folder's image: each place has the address that is listed for it."""
+    places = Image(folder.path('out')).places
+    return [tuple(places[it[1]] if isinstance(it, tuple) else it for it in event) for event in events]
+
+
+def trap_vectors(events):
+    """What is written to mtvec."""
+    return [event[2] for event in events if event[0] == 'System' and event[1] >> 20 == MTVEC]
+
+
+def check_trap_vector(group, what, folder, names, events):
+    """The image writes the address to mtvec that is listed for the handler, which is a multiple of 4."""
+    handler, _ = symbols.listed(symbols.run(folder, 'out', *names))['on_trap']
+    group.same(f'{what}: mtvec', (trap_vectors(events), handler % 4), ([handler], 0))
+
+
 def drivers(group):
-    """a driver of two devices that C compilers made: as objects and as images of both links, under a plan too, the same output
-    with one text of devices, and in the models the same events, from first states with other registers too"""
+    """a driver of two devices that C compilers made, from a chip's reset on: as objects and as images of both links, with and
+    without a jump table, under a plan too, the same output with one text of devices, and in the models the same events, from
+    first states with other registers too; and mtvec has the handler's address in each image"""
     texts, out, given = driver_texts(), read('driver', 'output'), b'given'
     devices, interrupts = read_devices(texts['devices']), zc_machine.plan_in(texts['plan'])
-    for compiler in FOLDERS:
-        what, objects = f'driver by {compiler}', objects_of('driver', compiler)
-        plainly, names = group.linked_plainly(what, objects)
+    for what, objects in (it for compiler in FOLDERS for it in lists(compiler)):
         program = symbolic_machine.Machine([Object(data) for data in objects], b'', devices=devices)
         group.same(f'{what}, model', symbolic_machine.run(program, STEPS), 'exited 2')
-        plainly.write('devices', texts['devices'])
-        group.exits(f'{what}, trace', plainly.run(('trace', '--devices', 'devices', *names), given), 2, out)
-        for link, folder in (('plain', plainly), ('zc', group.linked_small(f'{what}, zc', objects))):
+        folder = group.folder(devices=texts['devices'])
+        names = folder.write_list(objects)
+        group.exits(f'{what}, trace', folder.run(('trace', '--devices', 'devices', *names), given), 2, out)
+        for link, folder in images_of(group, what, objects):
+            events = events_in(folder, program.events)
+            check_trap_vector(group, f'{what}, {link}', folder, names, events)
             for name, text in texts.items():
                 folder.write(name, text)
             for cuts, options in (([], ()), (interrupts, ('--plan', 'plan'))):
@@ -231,7 +294,7 @@ def drivers(group):
                     if first is not None:
                         machine.start_by_chance(first)
                     told = zc_machine.run(machine, cuts, STEPS), machine.events
-                    group.same(f'{what}, {link}, events {options}, first state {first}', told, ('exited 2', program.events))
+                    group.same(f'{what}, {link}, events {options}, first state {first}', told, ('exited 2', events))
                 ended = folder.run(('run', *options, '--devices', 'devices', 'out'), given)
                 group.exits(f'{what}, {link} {options}', ended, 2, out)
 
